@@ -1,9 +1,9 @@
 -- The characters of a blob are the base64 of its bytes, with white space anywhere.
 use Rattle.std.proofs.Common.{◌≡◌, ℕ, zero, suc, ◌+◌, ◌-◌, ◌*◌, ◌/◌, ◌%◌, ◌<◌, ◌≤◌, Bool, true, false, not, ◌&&◌, ◌==◌, nat_lt, if◌then◌else◌, List, [], ◌∷◌, ◌++◌, All, length, drop, replicate, Option, Some, None, Result, Ok, Err, refl, sym, ap, subst, ◌∙◌, inl, inr, append_assoc, append-nil, arith, slice_index, codes}
-use Rattle.std.proofs.lemmas.Bool.{cases_Bool, ltb-false, and_parts, eqb-true, false≢true, le-ltb}
-use Rattle.std.proofs.lemmas.List.{length-append, length-replicate}
+use Rattle.std.proofs.lemmas.Bool.{cases_Bool, cases_lt, ltb-false, and_parts, not-true, not-false, eqb-true, false≢true, le-ltb}
+use Rattle.std.proofs.lemmas.List.{length-append, length-replicate, get_or_past}
 use Rattle.std.proofs.lemmas.Bool.Decides.{nat_tests}
-use Rattle.std.proofs.lemmas.List.Elements.{filter-append, All-filter, All-nil, All-cons, All-head, All-tail}
+use Rattle.std.proofs.lemmas.List.Elements.{filter-append, All-filter, All-nil, All-cons, All-head, All-tail, All-get_or}
 use Rattle.std.specs.Result.{result_ok}
 use Rattle.base64.specs.Engines.{standard}
 use Rattle.base64.specs.GeneralPurpose.{IsBytes, decode_of, decoded_of, encode_of}
@@ -28,10 +28,6 @@ use Rattle.ion_text_in.proofs.Meaning.{all-append, allowed, allows-fewer, skip-p
 use Rattle.ion_value.specs.Digits.{first_is, all_are}
 use Rattle.ion_value.specs.Name.{begins_with}
 use Rattle.ion_value.specs.Value.{SymbolAt, Scalar, blob, clob}
-
-not-true : (b : Bool) → not b ≡ true → b ≡ false
-not-true true e = absurd (false≢true e)
-not-true false e = refl
 
 -- ---- groups of characters
 
@@ -89,10 +85,11 @@ grouped (suc n) (b ∷ bytes) = elim (cases_Bool (is_white b)) [
 abbrev pub Octets : List ℕ → Type 0
 Octets bytes = All (λ octet. octet < 256) bytes
 
-pub octets-IsBytes : (bytes : List ℕ) → Octets bytes → IsBytes bytes
-octets-IsBytes [] all i = omega arith
-octets-IsBytes (b ∷ bytes) all zero = all 0 0 (omega arith)
-octets-IsBytes (b ∷ bytes) all (suc i) = octets-IsBytes bytes (λ k d lt. all (suc k) d (omega arith)) i
+octets-IsBytes : (bytes : List ℕ) → Octets bytes → IsBytes bytes
+octets-IsBytes bytes all i = elim (cases_lt i (length bytes)) [
+  | inl there ↦ All-get_or (λ octet. octet < 256) bytes i 0 there all
+  | inr past ↦ rw (get_or_past bytes i 0 past) (omega arith)
+]
 
 decoded : (s bytes : List ℕ) → decoded_of standard s ≡ Some bytes → decode_of standard s ≡ Ok bytes
 unfolding decoded_of
@@ -149,10 +146,6 @@ record Closed (c d : Cursor) : Type 0 where
   text : c.rest ≡ 125 ∷ 125 ∷ d.rest
   place : d.place ≡ c.place + 2
 
-from-not : (b : Bool) → not b ≡ false → b ≡ true
-from-not true e = refl
-from-not false e = absurd (false≢true (sym e))
-
 abbrev skipped : Cursor → Result Cursor Reason
 skipped c = Ok (skip 2 c)
 
@@ -164,7 +157,7 @@ closed p (b ∷ []) d e = elim (cases_Bool (b == 125)) [
 ]
 closed p (b ∷ a ∷ rest) d e =
     let ok = passed (not (b == 125 && a == 125)) BadLob (skipped (at p (b ∷ a ∷ rest))) d e in
-    let both = and_parts (b == 125) (a == 125) (from-not (b == 125 && a == 125) ok.0) in
+    let both = and_parts (b == 125) (a == 125) (not-false (b == 125 && a == 125) ok.0) in
     let same : at (p + 2) rest ≡ d = cc ok.1 in
     record {
       text = rw (eqb-true b 125 both.0, eqb-true a 125 both.1) (ap (λ (d : Cursor). 125 ∷ 125 ∷ d.rest) same);
@@ -375,9 +368,12 @@ blobs_are_base64 limit sexp place rest bytes d octets e =
 
 -- ---- base64 is a blob
 
--- no brace that closes, and no quote
-abbrev is_char : ℕ → Bool
-is_char b = not (b == 125) && (not (b == 34) && not (b == 39))
+-- no quote, and neither white space nor a closing brace either
+abbrev is_open : ℕ → Bool
+is_open b = not (b == 34) && not (b == 39)
+
+abbrev pub is_char : ℕ → Bool
+is_char b = not (is_white b) && (not (b == 125) && is_open b)
 
 char-at : (t : List ℕ) (i : ℕ) → all_are is_char t ≡ true → is_char (slice_index t i) ≡ true
 char-at [] i all = refl
@@ -399,7 +395,7 @@ padding-chars : (n : ℕ) → all_are is_char (replicate n 61) ≡ true
 padding-chars zero = refl
 padding-chars (suc n) = padding-chars n
 
-base64-chars : (m : List ℕ) → all_are is_char (encode_of standard m) ≡ true
+pub base64-chars : (m : List ℕ) → all_are is_char (encode_of standard m) ≡ true
 base64-chars m =
     all-append is_char (encode_symbols standard.encode_table m) (replicate (padding_len (length m)) 61)
     (symbols-chars standard.encode_table refl m) (padding-chars (padding_len (length m)))
@@ -429,7 +425,7 @@ taken (suc n) (b ∷ chars) (g ∷ group) tail behind e len all = elim (cases_Bo
       let parts = and_parts (is_char g) (all_are is_char group) all in
       let t = taken n chars group tail behind later (omega (arith, len)) parts.1 in
       let fewer = t.fewer in
-      let no_brace : (b == 125) ≡ false = rw same (not-true (g == 125) (and_parts (not (g == 125)) _ parts.0).0) in
+      let no_brace : (b == 125) ≡ false = rw same (not-true (g == 125) (and_parts (not (g == 125)) (is_open g) (and_parts (not (is_white g)) (not (g == 125) && is_open g) parts.0).1).0) in
       record {
         more = t.more;
         cut = group-char n b (chars ++ behind) dark no_brace ∙ ap (λ (z : List ℕ × List ℕ). (b ∷ z.0, z.1)) t.cut ∙ ap (λ (g : ℕ). (g ∷ group, t.more ++ behind)) same;
@@ -537,9 +533,6 @@ groups-given (suc most) limit count false p q (b ∷ bytes) chars behind octets 
 
 -- ---- and so is its token
 
-abbrev is_open : ℕ → Bool
-is_open b = not (b == 34) && not (b == 39)
-
 -- the white space in front of the characters, and what stands behind it, which does not begin with a quote
 record Led (chars tail : List ℕ) : Type 0 where
   white : List ℕ
@@ -570,7 +563,7 @@ led (b ∷ chars) tail all = elim (cases_Bool (is_white b)) [
         is = refl;
         run = run-none (first_is is_white) (b ∷ (chars ++ 125 ∷ tail)) dark;
         same = refl;
-        first = (and_parts (not (b == 125)) (is_open b) (and_parts (is_char b) (all_are is_char (solid chars)) chars_are).0).1;
+        first = (and_parts (not (b == 125)) (is_open b) (and_parts (not (is_white b)) (not (b == 125) && is_open b) (and_parts (is_char b) (all_are is_char (solid chars)) chars_are).0).1).1;
       }
 ]
 

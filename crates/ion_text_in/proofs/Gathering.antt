@@ -1,24 +1,38 @@
--- A text that is gathered: the pieces behind what was read.
-use Rattle.std.proofs.Common.{◌≡◌, ℕ, ◌+◌, ◌≤◌, Bool, true, false, List, [], ◌∷◌, ◌++◌, length, take, drop, Some, Result, Ok, Err, refl, sym, ap, ◌∙◌, append_assoc}
+-- A text that is gathered: the pieces behind what was read, and the calls that read them.
+use Rattle.std.proofs.Common.{◌≡◌, ℕ, ◌+◌, ◌<◌, ◌≤◌, Bool, true, false, List, ◌++◌, length, take, drop, None, Some, Result, Ok, Err, OnOk, OnErr, refl, sym, ap, subst, ◌∙◌, inl, inr, append_assoc, append-nil, arith}
 use Rattle.std.proofs.lemmas.List.{length-append, length-take-le, take-append-drop}
-use Rattle.std.proofs.lemmas.Bool.{le-ltb}
+use Rattle.std.proofs.lemmas.Bool.{cases_Bool, le-ltb}
+use Rattle.std.proofs.lemmas.Str.{length-encode, len_utf8_bounds}
+use Rattle.ion_meter.specs.Counts.{Counts}
+use Rattle.ion_meter.specs.declared.device.Input.{Ghosts as InputOf}
 use Rattle.ion_meter.specs.declared.fault.Fault.{Fault}
 use Rattle.ion_meter.specs.declared.fault.Fault.TheVariants.{Refused, Memory, ReadFault, WriteFault, InputLimit}
 use Rattle.ion_meter.specs.declared.fault.Reason.{Reason}
-use Rattle.ion_meter.specs.declared.fault.Reason.TheVariants.{Truncated, ScalarLimit}
+use Rattle.ion_meter.specs.declared.fault.Reason.TheVariants.{ScalarLimit}
+use Rattle.ion_meter.specs.declared.limits.Limits.{Limits}
 use Rattle.ion_meter.specs.Sources.{Cursor, skip}
-use Rattle.ion_value.specs.Answers.{Answers}
+use Rattle.ion_meter.specs.Windows.{Incoming, left, lent}
+use Rattle.ion_meter.proofs.Lent.{lent-take}
+use Rattle.ion_value.proofs.Passing.{lent-there}
+use Rattle.ion_value.specs.Calls.{Reads}
+use Rattle.ion_value.specs.Shares.{GrowsWithin, fault_of}
+use Rattle.ion_value.proofs.GrowsWithin.{grows-over, grows-on, grows-behind, grows-more}
 use Rattle.ion_value.specs.Digits.{all_are}
 use Rattle.ion_value.specs.Parts.{refuse, ◌>>◌}
 use Rattle.ion_text_in.specs.declared.piece.Piece.{Piece as CodePiece}
 use Rattle.ion_text_in.specs.declared.piece.Piece.TheVariants as code
 use Rattle.ion_text_in.specs.Limit.{passes}
 use Rattle.ion_text_in.specs.Meaning.{at}
-use Rattle.ion_text_in.specs.Quoted as quoted
 use Rattle.ion_text_in.specs.Quoted.{Quote, Piece, piece_at, with_piece}
 use Rattle.ion_text_in.specs.Scanning.{Spelled, IsQuote, pieces, is_plain_byte, with_front}
-use Rattle.ion_text_in.specs.Pieces.{piece_of, bytes_of_piece, taken_of}
-use Rattle.ion_text_in.specs.Gathered.{PutsOn, Goes, Overruns, onward}
+use Rattle.ion_text_in.specs.declared.quoted.Quote.{Quote as CodeQuote}
+use Rattle.ion_text_in.specs.Quotes.{quote_of}
+use Rattle.ion_text_in.proofs.Quotes.{quote_of-is}
+use Rattle.ion_text_in.specs.declared.piece.Meant.{Meant}
+use Rattle.ion_text_in.specs.declared.piece.Meant.TheVariants as meant
+use Rattle.ion_text_in.specs.Pieces.{piece_of, bytes_of, behind_piece, taken_of}
+use Rattle.ion_text_in.specs.Gathered.{Continues, Gathers, Puts, PutsOn, onward}
+use Rattle.ion_text_in.proofs.Holding.{Held, held-into, held-then, into-held, reads-held, reads-refused, grown-held}
 use Rattle.ion_text_in.proofs.Fuel.{pieces-first}
 use Rattle.ion_text_in.proofs.Plain.{plain-spelled}
 
@@ -35,125 +49,162 @@ onward-more q limit text xs c =
 
 -- ---- runs
 
-onward-run : (q : Quote) (limit place : ℕ) (text xs rest : List ℕ) → IsQuote q → all_are (is_plain_byte q) xs ≡ true → passes (Some limit) (length text + length xs) ≡ false
-    → onward q limit text (at place (xs ++ rest)) ≡ onward q limit (text ++ xs) (at (place + length xs) rest)
-onward-run q limit place text xs rest is plain free =
-    ap (λ (o : Spelled). with_front text o) ((plain-spelled q (Some limit) (length text) place xs rest is plain).within free)
-    ∙ onward-more q limit text xs (at (place + length xs) rest)
-
 split : (c : Cursor) (n : ℕ) → c ≡ at c.place (take n c.rest ++ drop n c.rest)
 split c n = ap (λ (l : List ℕ). at c.place l) (sym (take-append-drop n c.rest))
 
 -- so many plain bytes
-pub onward-plain : (q : Quote) (limit : ℕ) (text : List ℕ) (c : Cursor) (n : ℕ) → IsQuote q → n ≤ length c.rest → all_are (is_plain_byte q) (take n c.rest) ≡ true
-    → passes (Some limit) (length text + length (take n c.rest)) ≡ false → onward q limit text c ≡ onward q limit (text ++ take n c.rest) (skip n c)
-onward-plain q limit text c n is there plain free =
+pub onward-plain : (q : Quote) (limit : ℕ) (text : List ℕ) (c : Cursor) (n : ℕ) → IsQuote q → n ≤ length c.rest → all_are (is_plain_byte q) (take n c.rest) ≡ true → length text ≤ limit
+    → onward q limit text c ≡ (refuse (passes (Some limit) (length text + length (take n c.rest))) ScalarLimit >> onward q limit (text ++ take n c.rest) (skip n c))
+onward-plain q limit text c n is there plain within =
+    let spelled = plain-spelled q (Some limit) (length text) c.place (take n c.rest) (drop n c.rest) is plain in
     ap (λ (d : Cursor). onward q limit text d) (split c n)
-    ∙ onward-run q limit c.place text (take n c.rest) (drop n c.rest) is plain free
-    ∙ ap (λ (k : ℕ). onward q limit (text ++ take n c.rest) (at (c.place + k) (drop n c.rest))) (length-take-le n c.rest there)
+    ∙ elim (cases_Bool (passes (Some limit) (length text + length (take n c.rest)))) [
+      | inl over ↦ rw over (ap (λ (o : Spelled). with_front text o) (spelled.over (le-ltb limit (length text) within) over))
+      | inr free ↦ rw free (ap (λ (o : Spelled). with_front text o) (spelled.within free)
+          ∙ onward-more q limit text (take n c.rest) (at (c.place + length (take n c.rest)) (drop n c.rest))
+          ∙ ap (λ (k : ℕ). onward q limit (text ++ take n c.rest) (at (c.place + k) (drop n c.rest))) (length-take-le n c.rest there))
+    ]
 
-pub onward-over : (q : Quote) (limit : ℕ) (text : List ℕ) (c : Cursor) (n : ℕ) → IsQuote q → all_are (is_plain_byte q) (take n c.rest) ≡ true → length text ≤ limit
-    → passes (Some limit) (length text + length (take n c.rest)) ≡ true → onward q limit text c ≡ Err ScalarLimit
-onward-over q limit text c n is plain within over =
-    ap (λ (d : Cursor). onward q limit text d) (split c n)
-    ∙ ap (λ (o : Spelled). with_front text o)
-    ((plain-spelled q (Some limit) (length text) c.place (take n c.rest) (drop n c.rest) is plain).over (le-ltb limit (length text) within) over)
+-- that a window lends
+pub plain-lent : {I : Type 0} (rest : I → List ℕ) (q : CodeQuote) (limit : ℕ) (text : List ℕ) (s : Incoming I) (bytes : List ℕ) (n : ℕ) → length text ≤ limit → bytes ≡ lent s → n ≤ length bytes
+    → all_are (is_plain_byte (quote_of q)) (take n bytes) ≡ true
+    → onward (quote_of q) limit text (at s.place (left rest s))
+    ≡ (refuse (passes (Some limit) (length text + length (take n bytes))) ScalarLimit >> onward (quote_of q) limit (text ++ take n bytes) (skip n (at s.place (left rest s))))
+plain-lent rest q limit text s bytes n within is there plain =
+    let lies : n ≤ length (lent s) = subst (λ (l : List ℕ). n ≤ length l) is there in
+    let same : take n (left rest s) ≡ take n bytes = lent-take rest s n lies ∙ ap (λ (l : List ℕ). take n l) (sym is) in
+    subst (λ (l : List ℕ). onward (quote_of q) limit text (at s.place (left rest s))
+    ≡ (refuse (passes (Some limit) (length text + length l)) ScalarLimit >> onward (quote_of q) limit (text ++ l) (skip n (at s.place (left rest s))))) same
+    (onward-plain (quote_of q) limit text (at s.place (left rest s)) n (quote_of-is q) (lent-there rest s n lies) (subst (λ (l : List ℕ). all_are (is_plain_byte (quote_of q)) l ≡ true) (sym same) plain) within)
 
 -- ---- pieces
 
-first-piece : (q : Quote) (limit : ℕ) (text : List ℕ) (c : Cursor) (piece : CodePiece) → IsQuote q → piece_of piece ≡ piece_at q c.rest
-    → onward q limit text c ≡ with_front text (with_piece (λ n d. pieces q (Some limit) n d) q (Some limit) (length text) c (piece_of piece))
-first-piece q limit text c piece is e =
+-- what is read from a piece on, by the piece
+pub onward-piece : (q : Quote) (limit : ℕ) (text : List ℕ) (c : Cursor) (piece : CodePiece) → IsQuote q → piece_of piece ≡ piece_at q c.rest
+    → onward q limit text c ≡ behind_piece q limit text (skip (taken_of piece) c) piece
+onward-piece q limit text c piece is e =
     ap (λ (o : Spelled). with_front text o)
     (pieces-first q (Some limit) (length text) c is
-    ∙ ap (λ (p : Piece). with_piece (λ n d. pieces q (Some limit) n d) q (Some limit) (length text) c p) (sym e))
+    ∙ ap (λ (p : Piece). with_piece (λ n d. pieces q (Some limit) n d) q (Some limit) (length text) c p) (sym e)) ∙ by piece
+  where
+    over : (more : Bool) (xs : List ℕ) (d : Cursor)
+        → with_front text (refuse more ScalarLimit >> with_front xs (pieces q (Some limit) (length text + length xs) d)) ≡ (refuse more ScalarLimit >> onward q limit (text ++ xs) d)
+    over true xs d = refl
+    over false xs d = onward-more q limit text xs d
 
-append-none : (xs : List ℕ) → xs ++ [] ≡ xs
-append-none [] = refl
-append-none (x ∷ xs) = ap (λ (l : List ℕ). x ∷ l) (append-none xs)
+    by : (piece : CodePiece) → with_front text (with_piece (λ n d. pieces q (Some limit) n d) q (Some limit) (length text) c (piece_of piece)) ≡ behind_piece q limit text (skip (taken_of piece) c) piece
+    by (code.Text m taken) = over (passes (Some limit) (length text + length (bytes_of m))) (bytes_of m) (skip taken c)
+    by (code.Close taken) = ap (λ (l : List ℕ). Ok (l, skip taken c)) (append-nil text)
+    by code.Illegal = refl
+    by code.Cut = refl
 
-pub onward-close : (q : Quote) (limit : ℕ) (text : List ℕ) (c : Cursor) (n : ℕ) → IsQuote q → piece_of (code.Close n) ≡ piece_at q c.rest → onward q limit text c ≡ Ok (text, skip n c)
-onward-close q limit text c n is e = first-piece q limit text c (code.Close n) is e ∙ ap (λ (l : List ℕ). Ok (l, skip n c)) (append-none text)
+pub meant-few : (m : Meant) → length (bytes_of m) ≤ 4
+meant-few (meant.Char c) = let bounds = len_utf8_bounds c in omega (arith, length-encode c, bounds.1)
+meant-few (meant.Byte b) = omega arith
+meant-few meant.Nothing = omega arith
 
-pub onward-illegal : (q : Quote) (limit : ℕ) (text : List ℕ) (c : Cursor) → IsQuote q → piece_of code.Illegal ≡ piece_at q c.rest → onward q limit text c ≡ Err (quoted.bad_text q)
-onward-illegal q limit text c is e = first-piece q limit text c code.Illegal is e
+-- ---- what is answered
 
-pub onward-cut : (q : Quote) (limit : ℕ) (text : List ℕ) (c : Cursor) → IsQuote q → piece_of code.Cut ≡ piece_at q c.rest → onward q limit text c ≡ Err Truncated
-onward-cut q limit text c is e = first-piece q limit text c code.Cut is e
+-- the fault of a part is the whole's
+pub continues-err : {T U A B : Type 0} {one : Result A Reason} {all : Result B Reason} (after : T → Result A Reason) (behind : U → Result B Reason) (f : Fault) (place : ℕ) → ((e : Reason) → one ≡ Err e → all ≡ Err e)
+    → Continues (Err f) place one after → Continues (Err f) place all behind
+continues-err after behind (Refused reason p) place refused h = (refused reason h.0, h.1)
+continues-err after behind Memory place refused h = tt
+continues-err after behind ReadFault place refused h = tt
+continues-err after behind WriteFault place refused h = tt
+continues-err after behind InputLimit place refused h = tt
 
--- a piece that spells some bytes
-abbrev pub IsChar : CodePiece → Type 0
-IsChar (code.Char c n) = Unit {0}
-IsChar (code.Byte b n) = Unit {0}
-IsChar (code.Nothing n) = Unit {0}
-IsChar (code.Close n) = ⊥
-IsChar code.Illegal = ⊥
-IsChar code.Cut = ⊥
+-- bytes are put behind a text, or the limit is passed
+pub continues-puts : {T A : Type 0} (r : Result T Fault) (old new bytes : List ℕ) (limit place : ℕ) (on : List ℕ → Result A Reason) → PutsOn old new bytes limit place r
+    → Continues r place (refuse (passes (Some limit) (length old + length bytes)) ScalarLimit >> on (old ++ bytes)) (λ _. on new)
+continues-puts (Ok x) old new bytes limit place on h = rw (h.1, h.0) refl
+continues-puts (Err (Refused reason at)) old new bytes limit place on h = (rw (h.0, h.1) refl, h.2)
+continues-puts (Err Memory) old new bytes limit place on h = tt
+continues-puts (Err ReadFault) old new bytes limit place on h = tt
+continues-puts (Err WriteFault) old new bytes limit place on h = tt
+continues-puts (Err InputLimit) old new bytes limit place on h = tt
 
-is-char : (piece : CodePiece) → IsChar piece → piece_of piece ≡ quoted.char (bytes_of_piece piece) (taken_of piece)
-is-char (code.Char c n) is = refl
-is-char (code.Byte b n) is = refl
-is-char (code.Nothing n) is = refl
-is-char (code.Close n) is = absurd is
-is-char code.Illegal is = absurd is
-is-char code.Cut is = absurd is
+-- ---- calls one after the other
 
-char-first : (q : Quote) (limit : ℕ) (text : List ℕ) (c : Cursor) (piece : CodePiece) → IsQuote q → IsChar piece → piece_of piece ≡ piece_at q c.rest
-    → onward q limit text c
-    ≡ with_front text (refuse (passes (Some limit) (length text + length (bytes_of_piece piece))) ScalarLimit
-    >> with_front (bytes_of_piece piece) (pieces q (Some limit) (length text + length (bytes_of_piece piece)) (skip (taken_of piece) c)))
-char-first q limit text c piece is char e =
-    first-piece q limit text c piece is e
-    ∙ ap (λ (p : Piece). with_front text (with_piece (λ n d. pieces q (Some limit) n d) q (Some limit) (length text) c p)) (is-char piece char)
+-- calls that went well so far: what reading gives from before them is what it gives from behind them
+pub record Goes {I A : Type 0} (device : InputOf I) (limits : Limits) (old new : Incoming I) (earlier later : Counts) (before after : List ℕ) (given left : Result A Reason) : Type 0 where
+  pub holds : length before ≤ earlier.held
+  pub gathers : Gathers {T = Unit {0}} device limits old new earlier later before after (Ok tt)
+  pub same : device.observable old.device → given ≡ left
 
-pub onward-char : (q : Quote) (limit : ℕ) (text : List ℕ) (c : Cursor) (piece : CodePiece) → IsQuote q → IsChar piece → piece_of piece ≡ piece_at q c.rest
-    → passes (Some limit) (length text + length (bytes_of_piece piece)) ≡ false → onward q limit text c ≡ onward q limit (text ++ bytes_of_piece piece) (skip (taken_of piece) c)
-onward-char q limit text c piece is char e free =
-    char-first q limit text c piece is char e
-    ∙ ap (λ (over : Bool). with_front text (refuse over ScalarLimit
-    >> with_front (bytes_of_piece piece) (pieces q (Some limit) (length text + length (bytes_of_piece piece)) (skip (taken_of piece) c)))) free
-    ∙ onward-more q limit text (bytes_of_piece piece) (skip (taken_of piece) c)
+pub goes-seen : {I A : Type 0} {device : InputOf I} {limits : Limits} {s t : Incoming I} {a b : Counts} {k l : List ℕ} {given mid : Result A Reason} → Goes device limits s t a b k l given mid
+    → device.observable s.device → device.observable t.device
+goes-seen x h = x.gathers.reads.moves.still_observable.1 h
 
-pub onward-char_over : (q : Quote) (limit : ℕ) (text : List ℕ) (c : Cursor) (piece : CodePiece) → IsQuote q → IsChar piece → piece_of piece ≡ piece_at q c.rest
-    → passes (Some limit) (length text + length (bytes_of_piece piece)) ≡ true → onward q limit text c ≡ Err ScalarLimit
-onward-char_over q limit text c piece is char e over =
-    char-first q limit text c piece is char e
-    ∙ ap (λ (over : Bool). with_front text (refuse over ScalarLimit
-    >> with_front (bytes_of_piece piece) (pieces q (Some limit) (length text + length (bytes_of_piece piece)) (skip (taken_of piece) c)))) over
+-- what the next call answers
+pub goes-gives : {I T A : Type 0} {device : InputOf I} {limits : Limits} {s t : Incoming I} {a b : Counts} {k l : List ℕ} {given mid : Result A Reason} (r : Result T Fault) (place : ℕ) (after : T → Result A Reason)
+    → Goes device limits s t a b k l given mid → (device.observable t.device → Continues r place mid after) → device.observable s.device → Continues r place given after
+goes-gives r place after x gives h = subst (λ o. Continues r place o after) (sym (x.same h)) (gives (goes-seen x h))
 
--- ---- faults
+held-so : {I A : Type 0} (device : InputOf I) (limits : Limits) (s t : Incoming I) (a b : Counts) (k l : List ℕ) (given mid : Result A Reason) → Goes device limits s t a b k l given mid
+    → Held device s t a b (length k) (length l) limits.scalar None
+held-so device limits s t a b k l given mid x = into-held device s t a b (length k) (length l) limits.scalar (Ok tt) x.gathers.reads
 
--- a limit that is passed
-pub goes-over : (T : Type 0) (fault : Fault) (old new bytes : List ℕ) (limit place : ℕ) (before after : Spelled) → PutsOn {T = T} old new bytes limit place (Err fault)
-    → (passes (Some limit) (length old + length bytes) ≡ true → before ≡ Err ScalarLimit) → Goes {T = T} (Err fault) place before after
-goes-over T (Refused reason place) old new bytes limit p before after h over = (over h.0 ∙ ap (λ (r : Reason). Err r) (sym h.1), h.2)
-goes-over T Memory old new bytes limit p before after h over = tt
-goes-over T ReadFault old new bytes limit p before after h over = tt
-goes-over T WriteFault old new bytes limit p before after h over = tt
-goes-over T InputLimit old new bytes limit p before after h over = tt
+-- a refusal behind them
+pub goes-refused : {I T A : Type 0} {device : InputOf I} {limits : Limits} {s t : Incoming I} {a b : Counts} {k l : List ℕ} {given mid : Result A Reason} {reason : Reason} {place : ℕ} → Goes device limits s t a b k l given mid
+    → Gathers {T = T} device limits s t a b k l (Err (Refused reason place))
+goes-refused {device = device} {limits} {s} {t} {a} {b} {k} {l} {given} {mid} {reason} {place} x =
+    record { reads = reads-refused device s t a b (length k) (length l) limits.scalar reason place (held-so device limits s t a b k l given mid x); goes = x.gathers.goes }
 
--- the same of an answer
-pub answers-over : (T A : Type 0) (view : T → A) (behind : Cursor) (fault : Fault) (old new bytes : List ℕ) (limit place : ℕ) (given : Result (A × Cursor) Reason)
-    → PutsOn {T = T} old new bytes limit place (Err fault) → (passes (Some limit) (length old + length bytes) ≡ true → given ≡ Err ScalarLimit) → Answers view (Err fault) behind place given
-answers-over T A view behind (Refused reason place) old new bytes limit p given h over = (over h.0 ∙ ap (λ (r : Reason). Err r) (sym h.1), h.2)
-answers-over T A view behind Memory old new bytes limit p given h over = tt
-answers-over T A view behind ReadFault old new bytes limit p given h over = tt
-answers-over T A view behind WriteFault old new bytes limit p given h over = tt
-answers-over T A view behind InputLimit old new bytes limit p given h over = tt
+-- a call that reads into the text
+pub goes-gathers : {I T A : Type 0} {device : InputOf I} {limits : Limits} {s t u : Incoming I} {a b c : Counts} {k l n : List ℕ} {given mid : Result A Reason} {r : Result T Fault}
+    → Goes device limits s t a b k l given mid → Gathers device limits t u b c l n r → Gathers device limits s u a c k n r
+goes-gathers {device = device} {limits} {s} {t} {u} {a} {b} {c} {k} {l} {n} {given} {mid} {r} x y = record {
+  reads = held-into device s u a c (length k) (length n) limits.scalar r
+      (held-then device s t u a b c (length k) (length l) (length n) limits.scalar (fault_of r) x.holds (held-so device limits s t a b k l given mid x)
+      (into-held device t u b c (length l) (length n) limits.scalar r y.reads));
+  goes = grows-over device s t u a b c (length k) (length l) (length n) x.gathers.reads.charges.held x.gathers.reads.moves y.reads.moves x.gathers.goes y.goes;
+}
 
-pub is-char_else : (piece : CodePiece) → ((n : ℕ) → piece ≡ code.Close n → ⊥) → (piece ≡ code.Illegal → ⊥) → (piece ≡ code.Cut → ⊥) → IsChar piece
-is-char_else (code.Char c n) close illegal cut = tt
-is-char_else (code.Byte b n) close illegal cut = tt
-is-char_else (code.Nothing n) close illegal cut = tt
-is-char_else (code.Close n) close illegal cut = close n refl
-is-char_else code.Illegal close illegal cut = illegal refl
-is-char_else code.Cut close illegal cut = cut refl
+-- one that takes no memory
+pub goes-reads : {I T A : Type 0} {device : InputOf I} {limits : Limits} {s t u : Incoming I} {a b : Counts} {k l : List ℕ} {given mid : Result A Reason} {r : Result T Fault}
+    → Goes device limits s t a b k l given mid → Reads device t u r → Gathers device limits s u a b k l r
+goes-reads {device = device} {limits} {s} {t} {u} {a} {b} {k} {l} {given} {mid} {r} x y =
+    let held = x.gathers.reads.charges.held in let holds = x.holds in
+    record {
+      reads = held-into device s u a b (length k) (length l) limits.scalar r
+          (held-then device s t u a b b (length k) (length l) (length l) limits.scalar (fault_of r) x.holds (held-so device limits s t a b k l given mid x)
+          (reads-held device t u b (length l) limits.scalar r x.gathers.reads.charges.share (omega (arith, held, holds)) y));
+      goes = grows-on device s t u a b (length k) (length l) x.gathers.reads.moves y.moves x.gathers.goes;
+    }
 
--- the fault of a part is that of the whole
-pub overruns-refused : (T A B : Type 0) (view : T → A) (text : B) (in_clob : Bool) (fault : Fault) (behind after : Cursor) (place : ℕ) (one : Result (A × Cursor) Reason) (all : Result (B × Cursor) Reason)
-    → Answers view (Err fault) behind place one → ((e : Reason) → one ≡ Err e → all ≡ Err e) → Overruns in_clob text (Err fault) after place all
-overruns-refused T A B view text in_clob (Refused reason at) behind after place one all h k = (k reason h.0, h.1)
-overruns-refused T A B view text in_clob Memory behind after place one all h k = tt
-overruns-refused T A B view text in_clob ReadFault behind after place one all h k = tt
-overruns-refused T A B view text in_clob WriteFault behind after place one all h k = tt
-overruns-refused T A B view text in_clob InputLimit behind after place one all h k = tt
+-- and one that puts a few bytes behind it, where one was passed over
+pub goes-puts : {I T U A : Type 0} {device : InputOf I} {limits : Limits} {s t u : Incoming I} {a b c : Counts} {k l n bytes : List ℕ} {place : ℕ} {given mid : Result A Reason} {v : T} (r : Result U Fault)
+    → Goes device limits s t a b k l given mid → Reads device t u (Ok v) → t.place < u.place → length bytes ≤ 8 → Puts limits b c l n bytes place r → Gathers device limits s u a c k n r
+goes-puts {U = U} {device = device} {limits} {s} {t} {u} {a} {b} {c} {k} {l} {n} {bytes} {given = given} {mid} r x y some few z = record {
+  reads = held-into device s u a c (length k) (length n) limits.scalar r
+      (held-then device s u u a b c (length k) (length l) (length n) limits.scalar (fault_of r) x.holds
+      (into-held device s u a b (length k) (length l) limits.scalar (Ok _) (goes-reads x y).reads)
+      (grown-held device u b c (length l) (length n) limits.scalar (fault_of r) y.stands z.grown));
+  goes =
+      let limit = y.moves.limit in let within = y.stands.within in
+      grows-behind device s t u a b c (length k) (length l) (length n) 8 x.gathers.reads.charges.held x.gathers.reads.moves y.moves (omega (arith, some, limit, within)) (omega arith) x.gathers.goes (by r z.goes z.still);
+}
+  where
+    by : (r : Result U Fault) → OnOk r (GrowsWithin b c (length l) (length n) (length bytes)) → OnErr r (GrowsWithin b c (length l) (length n) 0) → GrowsWithin b c (length l) (length n) 8
+    by (Ok x) goes still = grows-more b c (length l) (length n) (length bytes) 8 few goes
+    by (Err f) goes still = grows-more b c (length l) (length n) 0 8 (omega arith) still
+
+-- what is held by how a call ended
+pub gathers-ok : {I T U : Type 0} {device : InputOf I} {limits : Limits} {s t : Incoming I} {a b : Counts} {k l : List ℕ} {v : T} {w : U} → Gathers device limits s t a b k l (Ok v) → Gathers device limits s t a b k l (Ok w)
+gathers-ok x = record { reads = record { stands = x.reads.stands; moves = x.reads.moves; causes = x.reads.causes; charges = x.reads.charges }; goes = x.goes }
+
+pub gathers-err : {I T U : Type 0} {device : InputOf I} {limits : Limits} {s t : Incoming I} {a b : Counts} {k l : List ℕ} {f : Fault} → Gathers {T = T} device limits s t a b k l (Err f) → Gathers {T = U} device limits s t a b k l (Err f)
+gathers-err x = record { reads = record { stands = x.reads.stands; moves = x.reads.moves; causes = x.reads.causes; charges = x.reads.charges }; goes = x.goes }
+
+pub goes-then : {I T A : Type 0} {device : InputOf I} {limits : Limits} {s t : Incoming I} {a b : Counts} {k l : List ℕ} {given left : Result A Reason} {v : T} → length k ≤ a.held
+    → Gathers device limits s t a b k l (Ok v) → (device.observable s.device → given ≡ left) → Goes device limits s t a b k l given left
+goes-then holds x same = record { holds = holds; gathers = gathers-ok x; same = same }
+
+pub goes-over : {I T A : Type 0} {device : InputOf I} {limits : Limits} {s t u : Incoming I} {a b c : Counts} {k l n : List ℕ} {given mid left : Result A Reason} {v : T} → Goes device limits s t a b k l given mid
+    → Gathers device limits t u b c l n (Ok v) → (device.observable t.device → mid ≡ left) → Goes device limits s u a c k n given left
+goes-over x y same = goes-then x.holds (goes-gathers x y) (λ h. x.same h ∙ same (goes-seen x h))
+
+pub goes-on : {I T A : Type 0} {device : InputOf I} {limits : Limits} {s t u : Incoming I} {a b : Counts} {k l : List ℕ} {given mid left : Result A Reason} {v : T} → Goes device limits s t a b k l given mid
+    → Reads device t u (Ok v) → (device.observable t.device → mid ≡ left) → Goes device limits s u a b k l given left
+goes-on x y same = goes-then x.holds (goes-reads x y) (λ h. x.same h ∙ same (goes-seen x h))

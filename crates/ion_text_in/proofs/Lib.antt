@@ -60,7 +60,6 @@ pub mod Gathered
 pub mod WordTokens
 pub mod FirstTokens
 pub mod TypedWords
-pub mod Held
 pub mod ReaderSteps
 pub mod ReaderAnnotations
 pub mod ReaderCalls

@@ -1,36 +1,35 @@
 -- Groups of a blob that are read in parts: characters one by one, a group, and groups that stand in the window.
-use Rattle.std.proofs.Common.{◌≡◌, ℕ, zero, suc, ◌+◌, ◌-◌, ◌*◌, ◌/◌, ◌%◌, ◌<◌, ◌≤◌, Bool, true, false, not, ◌&&◌, ◌==◌, nat_lt, if◌then◌else◌, List, [], ◌∷◌, ◌++◌, All, length, take, drop, replicate, slice_index, slice_get, slice_set, Option, Some, None, Result, Ok, Err, IfOk, IfErr, IfSome, IfNone, refl, sym, ap, subst, ◌∙◌, inl, inr, append_assoc, append-nil, arith}
-use Rattle.std.proofs.lemmas.Bool.{cases_Bool, and_parts, not-true, ltb-false, le-ltb, lt-ltb, eqb-true}
-use Rattle.std.proofs.lemmas.List.{length-append, take-append-drop, take_all}
+use Rattle.std.proofs.Common.{◌≡◌, ℕ, suc, ◌+◌, ◌-◌, ◌%◌, ◌<◌, ◌≤◌, Bool, true, false, not, ◌==◌, nat_lt, if◌then◌else◌, List, [], ◌∷◌, ◌++◌, All, length, take, drop, slice_get, slice_set, Option, Some, None, Result, Ok, Err, IfOk, IfErr, IfSome, IfNone, refl, sym, ap, subst, ◌∙◌, inl, inr, append_assoc, append-nil, arith}
+use Rattle.std.proofs.lemmas.Bool.{cases_Bool, and_parts, not-true, le-ltb, lt-ltb, eqb-true}
+use Rattle.std.proofs.lemmas.List.{length-append, length-take-le, take_all}
+use Rattle.std.proofs.lemmas.List.Elements.{All-take, All-from_get_or}
 use Rattle.std.proofs.Math.Seq.{take-suc-set}
 use Rattle.std.specs.Result.{result_ok}
 use Rattle.base64.specs.Engines.{standard}
 use Rattle.base64.specs.GeneralPurpose.{IsBytes, IsDecodedInto, decode_of, decoded_of, encode_of}
-use Rattle.base64.specs.Rfc4648.{encode_symbols, encode_group, padding_len}
 use Rattle.base64.specs.declared.decode.DecodeError.{DecodeError}
 use Rattle.base64.proofs.EngineFacts.{decode_of_strict, encode_of-append}
-use Rattle.ion_meter.specs.declared.fault.Fault.{Fault}
-use Rattle.ion_meter.specs.declared.fault.Fault.TheVariants.{Refused, Memory, ReadFault, WriteFault, InputLimit}
+use Rattle.ion_meter.specs.declared.device.Input.{Ghosts as InputOf}
 use Rattle.ion_meter.specs.declared.fault.Reason.{Reason}
 use Rattle.ion_meter.specs.declared.fault.Reason.TheVariants.{BadLob, ScalarLimit}
-use Rattle.ion_meter.specs.Sources.{Cursor, skip}
-use Rattle.ion_value.specs.Answers.{Answers}
+use Rattle.ion_meter.specs.Sources.{Cursor, cursor, skip, Moves}
+use Rattle.ion_meter.specs.Windows.{Incoming, left}
 use Rattle.ion_value.specs.Value.{SymbolAt, Scalar}
 use Rattle.ion_value.specs.Digits.{first_is, all_are}
 use Rattle.ion_value.specs.Parts.{refuse, ◌>>=◌, ◌>>◌}
 use Rattle.ion_text_in.specs.Blanks.{is_white}
 use Rattle.ion_text_in.specs.Limit.{passes}
 use Rattle.ion_text_in.specs.Lob.{closed_at, group_of, behind_to, last_group, group_bytes, lob_in, lob_at}
-use Rattle.ion_text_in.specs.Lobs.{lob_of, opened, Closes, Continues, blob_from, with_groups_behind, is_padded, closed_behind}
+use Rattle.ion_text_in.specs.Lobs.{opened, with_groups_behind, is_padded, closed_behind}
 use Rattle.ion_text_in.specs.Meaning.{at}
-use Rattle.ion_text_in.specs.Token.{Token, plain, a_lob, token_of}
-use Rattle.ion_text_in.specs.declared.lob.Lob.{Lob}
+use Rattle.ion_text_in.specs.Token.{plain, a_lob, token_of}
 use Rattle.ion_text_in.specs.declared.lob.Opening.{Opening}
 use Rattle.ion_text_in.specs.Scanning.{Spelled, groups, with_front}
-use Rattle.ion_text_in.proofs.Blobs.{Octets, octets-prefix, octets-behind, by_decoded, by-decoded, encode-nil, group-white, group-brace, group-char, group-decoded, length-encode_of}
+use Rattle.ion_text_in.proofs.Blobs.{Octets, octets-prefix, octets-behind, by_decoded, by-decoded, encode-nil, group-white, group-brace, group-char, group-decoded, length-encode_of, is_char, base64-chars}
 use Rattle.ion_text_in.proofs.BlankTurns.{behind_white, white-first, white-none}
 use Rattle.ion_text_in.proofs.Fuel.{groups-first}
-use Rattle.ion_text_in.proofs.Meaning.{all-append}
+use Rattle.ion_text_in.proofs.Gathering.{front-front}
+use Rattle.ion_text_in.proofs.Plain.{passes-fewer}
 
 -- ---- characters one by one
 
@@ -94,18 +93,13 @@ characters-all i group bytes e = rw e (ap (λ (l : List ℕ). (l, bytes)) (appen
 
 -- ---- what a call decoded
 
-pub bytes-octets : (xs : List ℕ) → IsBytes xs → Octets xs
-bytes-octets [] f k d lt = absurd (omega (arith, lt))
-bytes-octets (x ∷ xs) f zero d lt = f 0
-bytes-octets (x ∷ xs) f (suc k) d lt = bytes-octets xs (λ i. f (suc i)) k d (omega (arith, lt))
-
 pub decoded-encodes : (r : Result ℕ DecodeError) (chars old new : List ℕ) → IsBytes chars → IfOk r (λ n. IsDecodedInto standard chars n old new)
     → IfSome (result_ok r) (λ n. chars ≡ encode_of standard (take n new))
 decoded-encodes (Ok n) chars old new bytes into = decode_of_strict standard chars (take n new) (refl, refl) bytes into.0
 decoded-encodes (Err e) chars old new bytes into = tt
 
 pub decoded-octets : (r : Result ℕ DecodeError) (new : List ℕ) → IsBytes new → IfSome (result_ok r) (λ n. All (λ octet. octet < 256) (take n new))
-decoded-octets (Ok n) new bytes = octets-prefix (take n new) (drop n new) (subst Octets (sym (take-append-drop n new)) (bytes-octets new bytes))
+decoded-octets (Ok n) new bytes = All-take (λ octet. octet < 256) n new (All-from_get_or (λ octet. octet < 256) new 0 (λ i _. bytes i))
 decoded-octets (Err e) new bytes = tt
 
 pub decoded-none : (r : Result ℕ DecodeError) (chars : List ℕ) → IfErr r (λ e. decode_of standard chars ≡ Err e) → IfNone (result_ok r) (decoded_of standard chars ≡ None)
@@ -115,170 +109,111 @@ decoded-none (Err e) chars err = ap (λ (r : Result (List ℕ) DecodeError). res
 
 -- ---- a group
 
-pub front-front : (text xs : List ℕ) (o : Spelled) → with_front text (with_front xs o) ≡ with_front (text ++ xs) o
-front-front text xs (Ok x) = ap (λ (l : List ℕ). Ok (l, x.1)) (sym (append_assoc text xs x.0))
-front-front text xs (Err reason) = refl
+-- the group that some bytes begin with, and where it ends
+pub record IsCut (c d : Cursor) (group : List ℕ) : Type 0 where
+  pub cut : group_of 4 c.rest ≡ (group, d.rest)
+  pub behind : behind_to c d.rest ≡ d
 
--- what a group of characters comes to
-abbrev grouped : ℕ → List ℕ → Bool → Cursor → Spelled
-grouped limit text padded c =
-    let g = group_of 4 c.rest in
-    with_front text (if nat_lt (length g.0) 4 then last_group g.0 (behind_to c g.1)
-    else (group_bytes padded g.0 >>= (λ bytes. refuse (passes (Some limit) (length text + length bytes)) ScalarLimit
-    >> with_front bytes (groups (Some limit) (length text + length bytes) (nat_lt (length bytes) 3) (behind_to c g.1)))))
+behind-cursor : (c d : Cursor) → d.place + length d.rest ≡ c.place + length c.rest → c.place ≤ d.place → behind_to c d.rest ≡ d
+behind-cursor c d total further = let same : c.place + (length c.rest - length d.rest) ≡ d.place = omega (arith, total, further) in ap (λ (p : ℕ). at p d.rest) same
 
-first-group : (limit : ℕ) (text : List ℕ) (padded : Bool) (c : Cursor) → with_groups_behind limit text padded c ≡ grouped limit text padded c
-first-group limit text padded c = ap (λ (o : Spelled). with_front text o) (groups-first (Some limit) (length text) padded c)
-
--- by its characters, and what stands behind them
-abbrev group_as : ℕ → List ℕ → Bool → Cursor → List ℕ → Spelled
-group_as limit text padded d group =
-    with_front text (group_bytes padded group >>= (λ bytes. refuse (passes (Some limit) (length text + length bytes)) ScalarLimit
-    >> with_front bytes (groups (Some limit) (length text + length bytes) (nat_lt (length bytes) 3) d)))
-
-four-grouped : (limit : ℕ) (text : List ℕ) (padded : Bool) (c d : Cursor) (group : List ℕ) → group_of 4 c.rest ≡ (group, d.rest) → behind_to c d.rest ≡ d → length group ≡ 4
-    → with_groups_behind limit text padded c ≡ group_as limit text padded d group
-four-grouped limit text padded c d group is behind four =
-    first-group limit text padded c
-    ∙ ap (λ (g : List ℕ × List ℕ). with_front text (if nat_lt (length g.0) 4 then last_group g.0 (behind_to c g.1)
-    else (group_bytes padded g.0 >>= (λ bytes. refuse (passes (Some limit) (length text + length bytes)) ScalarLimit
-    >> with_front bytes (groups (Some limit) (length text + length bytes) (nat_lt (length bytes) 3) (behind_to c g.1)))))) is
-    ∙ ap (λ (few : Bool). with_front text (if few then last_group group (behind_to c d.rest)
-    else (group_bytes padded group >>= (λ bytes. refuse (passes (Some limit) (length text + length bytes)) ScalarLimit
-    >> with_front bytes (groups (Some limit) (length text + length bytes) (nat_lt (length bytes) 3) (behind_to c d.rest)))))) (le-ltb (length group) 4 (omega (arith, four)))
-    ∙ ap (λ (e : Cursor). group_as limit text padded e group) behind
-
-pub group-bad : (limit : ℕ) (text : List ℕ) (padded : Bool) (c d : Cursor) (group : List ℕ) → group_of 4 c.rest ≡ (group, d.rest) → behind_to c d.rest ≡ d → length group ≡ 4
-    → decoded_of standard group ≡ None → with_groups_behind limit text padded c ≡ Err BadLob
-group-bad limit text padded c d group is behind four none =
-    four-grouped limit text padded c d group is behind four
-    ∙ ap (λ (o : Result (List ℕ) Reason). with_front text (o >>= (λ bytes. refuse (passes (Some limit) (length text + length bytes)) ScalarLimit
-    >> with_front bytes (groups (Some limit) (length text + length bytes) (nat_lt (length bytes) 3) d)))) (by-decoded padded group ∙ ap (by_decoded padded) none)
-
--- behind padding
-pub group-late : (limit : ℕ) (text : List ℕ) (c d : Cursor) (group : List ℕ) → group_of 4 c.rest ≡ (group, d.rest) → behind_to c d.rest ≡ d → length group ≡ 4
-    → with_groups_behind limit text true c ≡ Err BadLob
-group-late limit text c d group is behind four =
-    four-grouped limit text true c d group is behind four
-    ∙ ap (λ (o : Result (List ℕ) Reason). with_front text (o >>= (λ bytes. refuse (passes (Some limit) (length text + length bytes)) ScalarLimit
-    >> with_front bytes (groups (Some limit) (length text + length bytes) (nat_lt (length bytes) 3) d)))) (by-decoded true group ∙ late (decoded_of standard group))
-  where
-    late : (o : Option (List ℕ)) → by_decoded true o ≡ Err BadLob
-    late (Some bytes) = refl
-    late None = refl
-
-given-group : (limit : ℕ) (text : List ℕ) (c d : Cursor) (group bytes : List ℕ) → group_of 4 c.rest ≡ (group, d.rest) → behind_to c d.rest ≡ d → length group ≡ 4
-    → Octets bytes → group ≡ encode_of standard bytes
-    → with_groups_behind limit text false c
-    ≡ with_front text (refuse (passes (Some limit) (length text + length bytes)) ScalarLimit >> with_front bytes (groups (Some limit) (length text + length bytes) (nat_lt (length bytes) 3) d))
-given-group limit text c d group bytes is behind four octets base64 =
-    four-grouped limit text false c d group is behind four
-    ∙ ap (λ (o : Result (List ℕ) Reason). with_front text (o >>= (λ bytes. refuse (passes (Some limit) (length text + length bytes)) ScalarLimit
-    >> with_front bytes (groups (Some limit) (length text + length bytes) (nat_lt (length bytes) 3) d)))) (ap (group_bytes false) base64 ∙ group-decoded bytes octets)
-
-pub group-over : (limit : ℕ) (text : List ℕ) (c d : Cursor) (group bytes : List ℕ) → group_of 4 c.rest ≡ (group, d.rest) → behind_to c d.rest ≡ d → length group ≡ 4
-    → Octets bytes → group ≡ encode_of standard bytes → passes (Some limit) (length text + length bytes) ≡ true → with_groups_behind limit text false c ≡ Err ScalarLimit
-group-over limit text c d group bytes is behind four octets base64 over =
-    given-group limit text c d group bytes is behind four octets base64
-    ∙ ap (λ (b : Bool). with_front text (refuse b ScalarLimit >> with_front bytes (groups (Some limit) (length text + length bytes) (nat_lt (length bytes) 3) d))) over
-
-pub group-given : (limit : ℕ) (text : List ℕ) (c d : Cursor) (group bytes : List ℕ) → group_of 4 c.rest ≡ (group, d.rest) → behind_to c d.rest ≡ d → length group ≡ 4
-    → Octets bytes → group ≡ encode_of standard bytes → passes (Some limit) (length text + length bytes) ≡ false
-    → with_groups_behind limit text false c ≡ with_groups_behind limit (text ++ bytes) (nat_lt (length bytes) 3) d
-group-given limit text c d group bytes is behind four octets base64 free =
-    given-group limit text c d group bytes is behind four octets base64
-    ∙ ap (λ (b : Bool). with_front text (refuse b ScalarLimit >> with_front bytes (groups (Some limit) (length text + length bytes) (nat_lt (length bytes) 3) d))) free
-    ∙ front-front text bytes (groups (Some limit) (length text + length bytes) (nat_lt (length bytes) 3) d)
-    ∙ ap (λ (n : ℕ). with_front (text ++ bytes) (groups (Some limit) n (nat_lt (length bytes) 3) d)) (sym (length-append text bytes))
-
--- fewer than four
-pub group-last : (limit : ℕ) (text : List ℕ) (padded : Bool) (c d : Cursor) (group : List ℕ) → group_of 4 c.rest ≡ (group, d.rest) → behind_to c d.rest ≡ d → length group < 4
-    → with_groups_behind limit text padded c ≡ (closed_behind (length group) d >>= (λ e. Ok (text, e)))
-group-last limit text padded c d group is behind few =
-    first-group limit text padded c
-    ∙ ap (λ (g : List ℕ × List ℕ). with_front text (if nat_lt (length g.0) 4 then last_group g.0 (behind_to c g.1)
-    else (group_bytes padded g.0 >>= (λ bytes. refuse (passes (Some limit) (length text + length bytes)) ScalarLimit
-    >> with_front bytes (groups (Some limit) (length text + length bytes) (nat_lt (length bytes) 3) (behind_to c g.1)))))) is
-    ∙ ap (λ (b : Bool). with_front text (if b then last_group group (behind_to c d.rest)
-    else (group_bytes padded group >>= (λ bytes. refuse (passes (Some limit) (length text + length bytes)) ScalarLimit
-    >> with_front bytes (groups (Some limit) (length text + length bytes) (nat_lt (length bytes) 3) (behind_to c d.rest)))))) (lt-ltb (length group) 4 few)
-    ∙ ap (λ (e : Cursor). with_front text (last_group group e)) behind
-    ∙ last group
-  where
-    by : (o : Result Cursor Reason) → with_front text (o >>= (λ e. Ok ([], e))) ≡ ((o >>= (λ e. Ok e)) >>= (λ e. Ok (text, e)))
-    by (Ok e) = ap (λ (l : List ℕ). Ok (l, e)) (append-nil text)
-    by (Err reason) = refl
-
-    bad : (o : Result Cursor Reason) → with_front text (o >> Err BadLob) ≡ ((o >>= (λ (e : Cursor). refuse true BadLob >> Ok e)) >>= (λ e. Ok (text, e)))
-    bad (Ok e) = refl
-    bad (Err reason) = refl
-
-    last : (group : List ℕ) → with_front text (last_group group d) ≡ (closed_behind (length group) d >>= (λ e. Ok (text, e)))
-    last [] = by (closed_at d)
-    last (b ∷ group) =
-        bad (closed_at d)
-        ∙ sym (ap (λ (some : Bool). (closed_at d >>= (λ (e : Cursor). refuse some BadLob >> Ok e)) >>= (λ e. Ok (text, e))) (lt-ltb 0 (suc (length group)) (omega arith)))
-
--- behind the braces
-pub closes-continues : (limit : ℕ) (text : List ℕ) (r : Result (Option Bool) Fault) (behind : Cursor) (place : ℕ) (given : Result Cursor Reason) (before : Spelled)
-    → IfOk r (λ found. found ≡ None) → Closes r behind place given → before ≡ (given >>= (λ e. Ok (text, e))) → Continues r place before (blob_from limit text behind)
-closes-continues limit text (Ok None) behind place given before none closes e = e ∙ ap (λ (o : Result Cursor Reason). o >>= (λ e. Ok (text, e))) closes
-closes-continues limit text (Ok (Some padded)) behind place given before none closes e = absurd (cc none)
-closes-continues limit text (Err (Refused reason at)) behind place given before none closes e = (e ∙ ap (λ (o : Result Cursor Reason). o >>= (λ e. Ok (text, e))) closes.0, closes.1)
-closes-continues limit text (Err Memory) behind place given before none closes e = tt
-closes-continues limit text (Err ReadFault) behind place given before none closes e = tt
-closes-continues limit text (Err WriteFault) behind place given before none closes e = tt
-closes-continues limit text (Err InputLimit) behind place given before none closes e = tt
-
--- where the source stands behind what a group was cut from
-pub behind-cursor : (c d : Cursor) → d.place + length d.rest ≡ c.place + length c.rest → c.place ≤ d.place → behind_to c d.rest ≡ d
-behind-cursor c d total further =
-    let same : c.place + (length c.rest - length d.rest) ≡ d.place = omega (arith, total, further) in
-    ap (λ (p : ℕ). at p d.rest) same
+cut-at : {I : Type 0} (device : InputOf I) (s t : Incoming I) (group : List ℕ) → Moves device s t → device.observable s.device → group_of 4 (left device.rest s) ≡ (group, left device.rest t)
+    → IsCut (cursor device s) (cursor device t) group
+cut-at device s t group moves h is = record { cut = is; behind = behind-cursor (cursor device s) (cursor device t) (moves.total h) moves.further }
 
 -- four characters
-pub taken-four : (group : List ℕ) (n : ℕ) → length group ≡ 4 → 4 ≤ n → take n group ≡ group
-taken-four group n four le = take_all n group (omega (arith, four, le))
+pub cut-four : {I : Type 0} (device : InputOf I) (s t : Incoming I) (group : List ℕ) (n : ℕ) → Moves device s t → device.observable s.device → group_of 4 (left device.rest s) ≡ (take n group, left device.rest t)
+    → length group ≡ 4 → 4 ≤ n → IsCut (cursor device s) (cursor device t) group
+cut-four device s t group n moves h is four le = cut-at device s t group moves h (is ∙ ap (λ (l : List ℕ). (l, left device.rest t)) (take_all n group (omega (arith, four, le))))
+
+-- what a group comes to, by its bytes
+abbrev pub group_then : ℕ → List ℕ → Cursor → Result (List ℕ) Reason → Spelled
+group_then limit text d (Ok bytes) = refuse (passes (Some limit) (length text + length bytes)) ScalarLimit >> with_groups_behind limit (text ++ bytes) (nat_lt (length bytes) 3) d
+group_then limit text d (Err reason) = Err reason
+
+module _ (limit : ℕ) (text : List ℕ) where
+  abbrev then_groups : Cursor → Result (List ℕ) Reason → Spelled
+  then_groups d o =
+      o >>= (λ bytes. refuse (passes (Some limit) (length text + length bytes)) ScalarLimit
+      >> with_front bytes (groups (Some limit) (length text + length bytes) (nat_lt (length bytes) 3) d))
+
+  -- what the characters of a group and what stands behind it come to
+  abbrev cut_then : Bool → Cursor → List ℕ × List ℕ → Spelled
+  cut_then padded c g = with_front text (if nat_lt (length g.0) 4 then last_group g.0 (behind_to c g.1) else then_groups (behind_to c g.1) (group_bytes padded g.0))
+
+  cut-first : (padded : Bool) (c d : Cursor) (group : List ℕ) (few : Bool) → IsCut c d group → nat_lt (length group) 4 ≡ few
+      → with_groups_behind limit text padded c ≡ with_front text (if few then last_group group d else then_groups d (group_bytes padded group))
+  cut-first padded c d group few is e =
+      ap (λ (o : Spelled). with_front text o) (groups-first (Some limit) (length text) padded c)
+      ∙ ap (cut_then padded c) is.cut
+      ∙ ap (λ (b : Bool). with_front text (if b then last_group group (behind_to c d.rest) else then_groups (behind_to c d.rest) (group_bytes padded group))) e
+      ∙ ap (λ (k : Cursor). with_front text (if few then last_group group k else then_groups k (group_bytes padded group))) is.behind
+
+  pub group-read : (padded : Bool) (c d : Cursor) (group : List ℕ) → IsCut c d group → length group ≡ 4
+      → with_groups_behind limit text padded c ≡ group_then limit text d (group_bytes padded group)
+  group-read padded c d group is four = cut-first padded c d group false is (le-ltb (length group) 4 (omega (arith, four))) ∙ by (group_bytes padded group)
+    where
+      over : (b : Bool) (bytes : List ℕ)
+          → with_front text (refuse b ScalarLimit >> with_front bytes (groups (Some limit) (length text + length bytes) (nat_lt (length bytes) 3) d))
+          ≡ (refuse b ScalarLimit >> with_groups_behind limit (text ++ bytes) (nat_lt (length bytes) 3) d)
+      over true bytes = refl
+      over false bytes =
+          front-front text bytes (groups (Some limit) (length text + length bytes) (nat_lt (length bytes) 3) d)
+          ∙ ap (λ (n : ℕ). with_front (text ++ bytes) (groups (Some limit) n (nat_lt (length bytes) 3) d)) (sym (length-append text bytes))
+
+      by : (o : Result (List ℕ) Reason) → with_front text (then_groups d o) ≡ group_then limit text d o
+      by (Ok bytes) = over (passes (Some limit) (length text + length bytes)) bytes
+      by (Err reason) = refl
+
+  -- fewer than four
+  group-last : (padded : Bool) (c d : Cursor) (group : List ℕ) (n : ℕ) → IsCut c d group → length group ≡ n → n < 4
+      → with_groups_behind limit text padded c ≡ (closed_behind n d >>= (λ e. Ok (text, e)))
+  group-last padded c d group n is long few =
+      cut-first padded c d group true is (lt-ltb (length group) 4 (omega (arith, long, few)))
+      ∙ last group ∙ ap (λ (k : ℕ). closed_behind k d >>= (λ e. Ok (text, e))) long
+    where
+      by : (o : Result Cursor Reason) → with_front text (o >>= (λ e. Ok ([], e))) ≡ ((o >>= (λ e. Ok e)) >>= (λ e. Ok (text, e)))
+      by (Ok e) = ap (λ (l : List ℕ). Ok (l, e)) (append-nil text)
+      by (Err reason) = refl
+
+      bad : (o : Result Cursor Reason) → with_front text (o >> Err BadLob) ≡ ((o >>= (λ (e : Cursor). refuse true BadLob >> Ok e)) >>= (λ e. Ok (text, e)))
+      bad (Ok e) = refl
+      bad (Err reason) = refl
+
+      last : (group : List ℕ) → with_front text (last_group group d) ≡ (closed_behind (length group) d >>= (λ e. Ok (text, e)))
+      last [] = by (closed_at d)
+      last (b ∷ group) = rw (lt-ltb 0 (suc (length group)) (omega arith)) (bad (closed_at d))
+
+pub cut-last : {I : Type 0} (device : InputOf I) (s t : Incoming I) (limit : ℕ) (text : List ℕ) (padded : Bool) (group : List ℕ) (n : ℕ) → Moves device s t → device.observable s.device
+    → group_of 4 (left device.rest s) ≡ (take n group, left device.rest t) → length group ≡ 4 → n < 4
+    → with_groups_behind limit text padded (cursor device s) ≡ (closed_behind n (cursor device t) >>= (λ e. Ok (text, e)))
+cut-last device s t limit text padded group n moves h is four few =
+    group-last limit text padded (cursor device s) (cursor device t) (take n group) n (cut-at device s t (take n group) moves h is) (length-take-le n group (omega (arith, four, few))) few
+
+-- a group that is not well formed, and one behind padding
+pub group-bad : (padded : Bool) (group : List ℕ) → decoded_of standard group ≡ None → group_bytes padded group ≡ Err BadLob
+group-bad padded group none = by-decoded padded group ∙ ap (by_decoded padded) none
+
+pub group-late : (group : List ℕ) → group_bytes true group ≡ Err BadLob
+group-late group = by-decoded true group ∙ by (decoded_of standard group)
+  where
+    by : (o : Option (List ℕ)) → by_decoded true o ≡ Err BadLob
+    by (Some bytes) = refl
+    by None = refl
+
+pub group-given : (group bytes : List ℕ) → Octets bytes → group ≡ encode_of standard bytes → group_bytes false group ≡ Ok bytes
+group-given group bytes octets base64 = ap (group_bytes false) base64 ∙ group-decoded bytes octets
 
 -- ---- groups that stand in the window
 
-abbrev solid-char : ℕ → Bool
-solid-char b = not (is_white b) && not (b == 125)
-
-group-taken : (xs rest : List ℕ) → all_are solid-char xs ≡ true → group_of (length xs) (xs ++ rest) ≡ (xs, rest)
+group-taken : (xs rest : List ℕ) → all_are is_char xs ≡ true → group_of (length xs) (xs ++ rest) ≡ (xs, rest)
 unfolding group_of
 group-taken [] rest all = refl
 group-taken (b ∷ xs) rest all =
-    let parts = and_parts (solid-char b) (all_are solid-char xs) all in
-    let both = and_parts (not (is_white b)) (not (b == 125)) parts.0 in
-    group-char (length xs) b (xs ++ rest) (not-true (is_white b) both.0) (not-true (b == 125) both.1)
+    let parts = and_parts (is_char b) (all_are is_char xs) all in
+    let both = and_parts (not (is_white b)) _ parts.0 in
+    group-char (length xs) b (xs ++ rest) (not-true (is_white b) both.0) (not-true (b == 125) (and_parts (not (b == 125)) _ both.1).0)
     ∙ ap (λ (z : List ℕ × List ℕ). (b ∷ z.0, z.1)) (group-taken xs rest parts.1)
-
-char-at : (t : List ℕ) (i : ℕ) → all_are solid-char t ≡ true → solid-char (slice_index t i) ≡ true
-char-at [] i all = refl
-char-at (b ∷ t) zero all = (and_parts (solid-char b) (all_are solid-char t) all).0
-char-at (b ∷ t) (suc i) all = char-at t i (and_parts (solid-char b) (all_are solid-char t) all).1
-
--- up to three bytes are a group
-module _ (t : List ℕ) (all : all_are solid-char t ≡ true) where
-  symbols-solid : (m : List ℕ) → all_are solid-char (encode_symbols t m) ≡ true
-  unfolding encode_symbols
-  symbols-solid [] = refl
-  symbols-solid (a ∷ []) = rw (char-at t (a / 4) all, char-at t (a % 4 * 16) all) refl
-  symbols-solid (a ∷ b ∷ []) = rw (char-at t (a / 4) all, char-at t (a % 4 * 16 + b / 16) all, char-at t (b % 16 * 4) all) refl
-  symbols-solid (a ∷ b ∷ c ∷ m) =
-      all-append solid-char (encode_group t a b c) (encode_symbols t m)
-      (rw (char-at t (a / 4) all, char-at t (a % 4 * 16 + b / 16) all, char-at t (b % 16 * 4 + c / 64) all, char-at t (c % 64) all) refl)
-      (symbols-solid m)
-
-padding-solid : (n : ℕ) → all_are solid-char (replicate n 61) ≡ true
-padding-solid zero = refl
-padding-solid (suc n) = padding-solid n
-
-base64-solid : (m : List ℕ) → all_are solid-char (encode_of standard m) ≡ true
-base64-solid m =
-    all-append solid-char (encode_symbols standard.encode_table m) (replicate (padding_len (length m)) 61)
-    (symbols-solid standard.encode_table refl m) (padding-solid (padding_len (length m)))
 
 -- one group in front of others
 one-block : (limit : ℕ) (text : List ℕ) (p : ℕ) (bytes rest : List ℕ) → Octets bytes → length (encode_of standard bytes) ≡ 4
@@ -286,12 +221,12 @@ one-block : (limit : ℕ) (text : List ℕ) (p : ℕ) (bytes rest : List ℕ) �
     → with_groups_behind limit text false (at p (encode_of standard bytes ++ rest)) ≡ with_groups_behind limit (text ++ bytes) (nat_lt (length bytes) 3) (at (p + 4) rest)
 one-block limit text p bytes rest octets four free =
     let chars : List ℕ = encode_of standard bytes in
-    let cut : group_of 4 (chars ++ rest) ≡ (chars, rest) = subst (λ (n : ℕ). group_of n (chars ++ rest) ≡ (chars, rest)) four (group-taken chars rest (base64-solid bytes)) in
-    group-given limit text (at p (chars ++ rest)) (at (p + 4) rest) chars bytes cut
-    (behind-cursor (at p (chars ++ rest)) (at (p + 4) rest) (omega (arith, length-append chars rest, four)) (omega arith)) four octets refl free
-
-fewer-free : (limit n m k : ℕ) → n + k ≡ m → passes (Some limit) m ≡ false → passes (Some limit) n ≡ false
-fewer-free limit n m k e free = let most = ltb-false limit m free in le-ltb limit n (omega (arith, most, e))
+    let is : group_of 4 (chars ++ rest) ≡ (chars, rest) = subst (λ (n : ℕ). group_of n (chars ++ rest) ≡ (chars, rest)) four (group-taken chars rest (base64-chars bytes)) in
+    let cut : IsCut (at p (chars ++ rest)) (at (p + 4) rest) chars =
+    record { cut = is; behind = behind-cursor (at p (chars ++ rest)) (at (p + 4) rest) (omega (arith, length-append chars rest, four)) (omega arith) } in
+    group-read limit text false (at p (chars ++ rest)) (at (p + 4) rest) chars cut four
+    ∙ ap (group_then limit text (at (p + 4) rest)) (group-decoded bytes octets)
+    ∙ ap (λ (over : Bool). refuse over ScalarLimit >> with_groups_behind limit (text ++ bytes) (nat_lt (length bytes) 3) (at (p + 4) rest)) free
 
 pub block : (limit : ℕ) (text : List ℕ) (p : ℕ) (bytes rest : List ℕ) → Octets bytes → passes (Some limit) (length text + length bytes) ≡ false
     → with_groups_behind limit text false (at p (encode_of standard bytes ++ rest))
@@ -320,7 +255,7 @@ block limit text p (a ∷ b ∷ c ∷ others) rest octets free =
     let place : p + 4 + length (encode_of standard others) ≡ p + length (encode_of standard (first ++ others)) = omega (arith, four, long, all) in
     ap (λ (l : List ℕ). with_groups_behind limit text false (at p (l ++ rest))) split
     ∙ ap (λ (l : List ℕ). with_groups_behind limit text false (at p l)) (append_assoc (encode_of standard first) (encode_of standard others) rest)
-    ∙ one-block limit text p first (encode_of standard others ++ rest) (octets-prefix first others octets) four (fewer-free limit (length text + 3) (length text + length (first ++ others)) (length others) (omega arith) free)
+    ∙ one-block limit text p first (encode_of standard others ++ rest) (octets-prefix first others octets) four (passes-fewer (Some limit) (length text + 3) (length text + length (first ++ others)) (omega arith) free)
     ∙ block limit (text ++ first) (p + 4) others rest (octets-behind first others octets) (ap (passes (Some limit)) counted ∙ free)
     ∙ ap (λ (l : List ℕ). with_groups_behind limit l (is_padded (length others)) (at (p + 4 + length (encode_of standard others)) rest)) (append_assoc text first others)
     ∙ ap (λ (b : Bool). with_groups_behind limit (text ++ (first ++ others)) b (at (p + 4 + length (encode_of standard others)) rest)) (padded-more (length others))
@@ -337,16 +272,6 @@ block-of limit text p chars bytes rest is octets free =
     (block limit text p bytes rest octets free)
 
 -- ---- lobs
-
--- a lob is a token, and each fault of it the token's
-pub answers-lob : (text : List ℕ) (r : Result Lob Fault) (behind : Cursor) (place : ℕ) (given : Result (Scalar SymbolAt × Cursor) Reason) (all : Result (Token × Cursor) Reason)
-    → Answers (λ l. lob_of l text) r behind place given → all ≡ (given >>= (λ l. Ok (plain l.0, l.1))) → Answers (λ l. plain (lob_of l text)) r behind place all
-answers-lob text (Ok l) behind place given all answers e = e ∙ ap (λ (o : Result (Scalar SymbolAt × Cursor) Reason). o >>= (λ l. Ok (plain l.0, l.1))) answers
-answers-lob text (Err (Refused reason at)) behind place given all answers e = (e ∙ ap (λ (o : Result (Scalar SymbolAt × Cursor) Reason). o >>= (λ l. Ok (plain l.0, l.1))) answers.0, answers.1)
-answers-lob text (Err Memory) behind place given all answers e = tt
-answers-lob text (Err ReadFault) behind place given all answers e = tt
-answers-lob text (Err WriteFault) behind place given all answers e = tt
-answers-lob text (Err InputLimit) behind place given all answers e = tt
 
 -- from behind its braces, white space and opening quotes
 pub lob-token : (limit : Option ℕ) (c t w q : Cursor) (o : Opening) → t ≡ skip 2 c → w ≡ behind_white t → lob_in limit w ≡ opened o limit q

@@ -11,9 +11,7 @@ use Rattle.ion_text_in.specs.Pieces.{piece_of, ShowsPiece}
 use Rattle.ion_text_in.proofs.Shown.{behind_lent, lent-left}
 
 shows-piece : (q : Quote) (bytes : List ℕ) (piece : CodePiece) → (piece ≡ code.Cut → ⊥) → ShowsPiece q bytes piece → (more : List ℕ) → piece_at q (bytes ++ more) ≡ piece_of piece
-shows-piece q bytes (code.Char c n) whole shows more = shows more
-shows-piece q bytes (code.Byte b n) whole shows more = shows more
-shows-piece q bytes (code.Nothing n) whole shows more = shows more
+shows-piece q bytes (code.Text m n) whole shows more = shows more
 shows-piece q bytes (code.Close n) whole shows more = shows more
 shows-piece q bytes code.Illegal whole shows more = shows more
 shows-piece q bytes code.Cut whole shows more = absurd (whole refl)

@@ -1,5 +1,5 @@
 -- A text without escapes that a slice shows.
-use Rattle.std.proofs.Common.{◌≡◌, ℕ, zero, suc, ◌+◌, ◌<◌, ◌≤◌, true, false, ◌||◌, List, [], ◌∷◌, ◌++◌, length, take, drop, ◌==◌, slice_index, Some, Ok, Err, refl, sym, ap, ◌∙◌, arith}
+use Rattle.std.proofs.Common.{◌≡◌, ℕ, zero, suc, ◌+◌, ◌<◌, ◌≤◌, Bool, true, false, ◌||◌, List, [], ◌∷◌, ◌++◌, length, take, drop, ◌==◌, slice_index, Some, Ok, Err, refl, sym, ap, ◌∙◌, arith}
 use Rattle.std.proofs.lemmas.List.{take-append-le, drop-append-le, drop-drop, length-append, length-take-le}
 use Rattle.std.proofs.lemmas.Bool.{lt-ltb, le-ltb, or_right}
 use Rattle.std.proofs.lemmas.Bool.Decides.{nat_tests}
@@ -9,29 +9,21 @@ use Rattle.std.specs.Str.{is_utf8}
 use Rattle.ion_meter.specs.declared.fault.Reason.TheVariants.{BadText, ScalarLimit}
 use Rattle.ion_meter.specs.Sources.{Cursor, skip}
 use Rattle.ion_value.specs.Digits.{first_is, all_are}
+use Rattle.ion_value.specs.Parts.{refuse, ◌>>◌}
 use Rattle.ion_text_in.specs.declared.quoted.Quote.{Quote as CodeQuote}
-use Rattle.ion_text_in.specs.declared.quoted.Quote.TheVariants as code
 use Rattle.ion_text_in.specs.declared.piece.Piece.TheVariants as code_piece
 use Rattle.ion_text_in.specs.Meaning.{at}
-use Rattle.ion_text_in.specs.Quoted as quoted
-use Rattle.ion_text_in.specs.Quoted.{Quote, piece_at, text_at}
+use Rattle.ion_text_in.specs.Quoted.{piece_at, text_at}
 use Rattle.ion_text_in.specs.Scanning.{is_plain_byte}
 use Rattle.ion_text_in.specs.Quotes.{quote_of, mark_of, IsAsciiText}
 use Rattle.ion_text_in.specs.Pieces.{piece_of}
 use Rattle.ion_text_in.specs.Gathered.{onward}
 use Rattle.ion_text_in.proofs.AsciiTexts.{front-text}
 use Rattle.ion_text_in.proofs.Quotes.{quote_of-is}
-use Rattle.ion_text_in.proofs.Gathering.{onward-plain, onward-over, onward-close}
+use Rattle.ion_text_in.proofs.Gathering.{onward-plain, onward-piece}
+use Rattle.ion_text_in.proofs.Still.{mark-closes}
 use Rattle.ion_text_in.proofs.Segments.{segment-err, segment-bad, segment-good}
 use Rattle.ion_text_in.proofs.SegmentTexts.{short-text}
-
-mark-closes : (q : CodeQuote) (rest : List ℕ) → (quote_of q).is_long ≡ false → quoted.close 1 ≡ piece_at (quote_of q) (mark_of q ∷ rest)
-unfolding piece_at
-mark-closes code.Symbol rest e = refl
-mark-closes code.Short rest e = refl
-mark-closes code.ShortClob rest e = refl
-mark-closes code.Long rest e = absurd (cc e)
-mark-closes code.LongClob rest e = absurd (cc e)
 
 -- where a mark stands
 closes-there : (q : CodeQuote) (bytes more : List ℕ) (n : ℕ) → (quote_of q).is_long ≡ false → n < length bytes → slice_index bytes n ≡ mark_of q
@@ -61,9 +53,9 @@ pieces-shown q limit place n bytes more short plain there mark within =
     let long = length-append bytes more in
     let le_all : n ≤ length (bytes ++ more) = omega (arith, le, long) in
     let count : length (take n (bytes ++ more)) ≡ n = length-take-le n (bytes ++ more) le_all in
-    onward-plain (quote_of q) limit [] c n (quote_of-is q) le_all (ap (λ (l : List ℕ). all_are (is_plain_byte (quote_of q)) l) (sym same) ∙ plain)
-    (le-ltb limit (0 + length (take n (bytes ++ more))) (omega (arith, within, count)))
-    ∙ onward-close (quote_of q) limit (take n (bytes ++ more)) (skip n c) 1 (quote_of-is q) (closes-there q bytes more n short there mark)
+    onward-plain (quote_of q) limit [] c n (quote_of-is q) le_all (ap (λ (l : List ℕ). all_are (is_plain_byte (quote_of q)) l) (sym same) ∙ plain) (omega arith)
+    ∙ ap (λ (over : Bool). refuse over ScalarLimit >> onward (quote_of q) limit (take n (bytes ++ more)) (skip n c)) (le-ltb limit (0 + length (take n (bytes ++ more))) (omega (arith, within, count)))
+    ∙ onward-piece (quote_of q) limit (take n (bytes ++ more)) (skip n c) (code_piece.Close 1) (quote_of-is q) (closes-there q bytes more n short there mark)
     ∙ ap (λ (l : List ℕ). Ok (l, skip 1 (skip n c))) (sym same)
     ∙ ap (λ (d : Cursor). Ok (take n bytes, d)) (behind-both place n bytes more there)
 
@@ -99,8 +91,8 @@ text-over q limit place n bytes more short plain le over =
     let count : length (take n (bytes ++ more)) ≡ n = length-take-le n (bytes ++ more) (omega (arith, le, long)) in
     sym (short-text (quote_of q) limit [] c short refl)
     ∙ segment-err (quote_of q) limit [] c ScalarLimit
-    (onward-over (quote_of q) limit [] c n (quote_of-is q) (ap (λ (l : List ℕ). all_are (is_plain_byte (quote_of q)) l) (sym same) ∙ plain) (omega arith)
-    (lt-ltb limit (0 + length (take n (bytes ++ more))) (omega (arith, over, count))))
+    (onward-plain (quote_of q) limit [] c n (quote_of-is q) (omega (arith, le, long)) (ap (λ (l : List ℕ). all_are (is_plain_byte (quote_of q)) l) (sym same) ∙ plain) (omega arith)
+    ∙ ap (λ (over : Bool). refuse over ScalarLimit >> onward (quote_of q) limit (take n (bytes ++ more)) (skip n c)) (lt-ltb limit (0 + length (take n (bytes ++ more))) (omega (arith, over, count))))
 
 -- ---- no mark stands behind plain bytes
 

@@ -6,8 +6,8 @@ use Rattle.ion_value.specs.Name.{begins_with}
 use Rattle.ion_text_in.specs.declared.quoted.Quote.{Quote as CodeQuote}
 use Rattle.ion_text_in.specs.declared.quoted.Quote.TheVariants as code
 use Rattle.ion_text_in.specs.Quoted as quoted
-use Rattle.ion_text_in.specs.Quoted.{Quote, Piece, char, close, illegal, cut, hex_behind, piece_at}
-use Rattle.ion_text_in.specs.Quotes.{quote_of}
+use Rattle.ion_text_in.specs.Quoted.{Quote, Piece, char, close, illegal, hex_behind, piece_at}
+use Rattle.ion_text_in.specs.Quotes.{quote_of, mark_of}
 use Rattle.ion_text_in.specs.declared.piece.Piece.{Piece as CodePiece}
 use Rattle.ion_text_in.specs.declared.piece.Piece.TheVariants as code_piece
 use Rattle.ion_text_in.specs.Pieces.{piece_of, ShowsPiece, may_go_on}
@@ -111,9 +111,16 @@ piece-still q (a ∷ b ∷ c ∷ bytes) more e w = piece-shown (quote_of q) (a �
 -- a slice that no more bytes change shows the piece at its front
 pub shown : (q : CodeQuote) (bytes : List ℕ) (piece : CodePiece) → may_go_on (quote_of q) bytes ≡ false → piece_of piece ≡ piece_at (quote_of q) bytes
     → ShowsPiece (quote_of q) bytes piece
-shown q bytes (code_piece.Char c n) still e = λ more. piece-still q bytes more still (subst IsWhole e tt) ∙ sym e
-shown q bytes (code_piece.Byte b n) still e = λ more. piece-still q bytes more still (subst IsWhole e tt) ∙ sym e
-shown q bytes (code_piece.Nothing n) still e = λ more. piece-still q bytes more still (subst IsWhole e tt) ∙ sym e
+shown q bytes (code_piece.Text m n) still e = λ more. piece-still q bytes more still (subst IsWhole e tt) ∙ sym e
 shown q bytes (code_piece.Close n) still e = λ more. piece-still q bytes more still (subst IsWhole e tt) ∙ sym e
 shown q bytes code_piece.Illegal still e = λ more. piece-still q bytes more still (subst IsWhole e tt) ∙ sym e
 shown q bytes code_piece.Cut still e = tt
+
+-- a quote closes a text that is not long
+pub mark-closes : (q : CodeQuote) (rest : List ℕ) → (quote_of q).is_long ≡ false → close 1 ≡ piece_at (quote_of q) (mark_of q ∷ rest)
+unfolding piece_at
+mark-closes code.Symbol rest e = refl
+mark-closes code.Short rest e = refl
+mark-closes code.ShortClob rest e = refl
+mark-closes code.Long rest e = absurd (cc e)
+mark-closes code.LongClob rest e = absurd (cc e)

@@ -1,6 +1,7 @@
 -- What the calls that gather a text answer and hold.
-use Rattle.std.specs.Prelude.{◌≡◌, ℕ, ◌+◌, ◌-◌, ◌^◌, ◌<◌, ◌≤◌, Bool, true, false, List, ◌++◌, length, Option, Some, Result, Ok, Err}
+use Rattle.std.specs.Prelude.{◌≡◌, ℕ, ◌+◌, ◌-◌, ◌*◌, ◌^◌, ◌<◌, ◌≤◌, Bool, true, false, List, ◌++◌, length, Option, Some, Result, Ok, Err, OnOk, OnErr}
 use Rattle.ion_meter.specs.Counts.{Counts}
+use Rattle.ion_meter.specs.declared.device.Input.{Ghosts as InputOf}
 use Rattle.ion_meter.specs.declared.fault.Fault.{Fault}
 use Rattle.ion_meter.specs.declared.fault.Fault.TheVariants.{Refused, Memory, ReadFault, WriteFault, InputLimit}
 use Rattle.ion_meter.specs.declared.fault.Reason.{Reason}
@@ -8,9 +9,10 @@ use Rattle.ion_meter.specs.declared.fault.Reason.TheVariants.{ScalarLimit}
 use Rattle.ion_meter.specs.declared.limits.Limits.{Limits}
 use Rattle.ion_meter.specs.Windows.{Incoming}
 use Rattle.ion_meter.specs.Sources.{Cursor, Stands}
+use Rattle.ion_value.specs.Calls.{ReadsInto, passed_over}
 use Rattle.ion_value.specs.Digits.{first_is}
 use Rattle.ion_value.specs.Parts.{Placed}
-use Rattle.ion_value.specs.Shares.{Charges}
+use Rattle.ion_value.specs.Shares.{Charges, GrowsWithin, fault_of}
 use Rattle.ion_text_in.specs.Blanks.{is_white, blanks}
 use Rattle.ion_text_in.specs.Limit.{passes}
 use Rattle.ion_text_in.specs.Overrun.{overrun}
@@ -42,6 +44,11 @@ pub record Grown (earlier later : Counts) (before after most : ℕ) (fault : Opt
   pub no_writes : fault ≡ Some WriteFault → ⊥
   pub no_limit : fault ≡ Some InputLimit → ⊥
 
+-- what a call that reads into a text keeps and moves whatever it answers; its memory goes with what it passes over
+pub record Gathers {I T : Type 0} (device : InputOf I) (limits : Limits) (old new : Incoming I) (earlier later : Counts) (before after : List ℕ) (result : Result T Fault) : Type 0 where
+  pub reads : ReadsInto device old new earlier later (length before) (length after) limits.scalar result
+  pub goes : GrowsWithin earlier later (length before) (length after) (8 * passed_over old new)
+
 -- ---- what is answered
 
 -- bytes are put behind a text, unless it then passes the limit
@@ -53,14 +60,21 @@ PutsOn old new bytes limit place (Err ReadFault) = Unit {0}
 PutsOn old new bytes limit place (Err WriteFault) = Unit {0}
 PutsOn old new bytes limit place (Err InputLimit) = Unit {0}
 
--- what is read on from one place is what is read on from another, or a fault
-abbrev pub Goes : {T : Type 0} → Result T Fault → ℕ → Spelled → Spelled → Type 0
-Goes (Ok x) place before after = before ≡ after
-Goes (Err (Refused reason at)) place before after = (before ≡ Err reason) × (at ≡ place)
-Goes (Err Memory) place before after = Unit {0}
-Goes (Err ReadFault) place before after = Unit {0}
-Goes (Err WriteFault) place before after = Unit {0}
-Goes (Err InputLimit) place before after = Unit {0}
+-- what putting bytes behind a text does and costs
+pub record Puts {T : Type 0} (limits : Limits) (earlier later : Counts) (old new bytes : List ℕ) (place : ℕ) (result : Result T Fault) : Type 0 where
+  pub puts : PutsOn old new bytes limits.scalar place result
+  pub grown : Grown earlier later (length old) (length new) limits.scalar (fault_of result)
+  pub goes : OnOk result (GrowsWithin earlier later (length old) (length new) (length bytes))
+  pub still : OnErr result (GrowsWithin earlier later (length old) (length new) 0)
+
+-- what is read from one place on is what a call leaves to be read, or a fault of a part at a place
+abbrev pub Continues : {T A : Type 0} → Result T Fault → ℕ → Result A Reason → (T → Result A Reason) → Type 0
+Continues (Ok x) place before after = before ≡ after x
+Continues (Err (Refused reason at)) place before after = (before ≡ Err reason) × (at ≡ place)
+Continues (Err Memory) place before after = Unit {0}
+Continues (Err ReadFault) place before after = Unit {0}
+Continues (Err WriteFault) place before after = Unit {0}
+Continues (Err InputLimit) place before after = Unit {0}
 
 -- bytes that were read, and the pieces behind them
 abbrev pub onward : Quote → ℕ → List ℕ → Cursor → Spelled

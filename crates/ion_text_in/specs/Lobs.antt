@@ -1,12 +1,7 @@
 -- What the calls that read a lob ask for and answer.
-use Rattle.std.specs.Prelude.{◌≡◌, ℕ, ◌+◌, ◌-◌, ◌%◌, ◌^◌, ◌<◌, ◌≤◌, Bool, true, false, not, ◌==◌, nat_lt, List, length, Option, Some, None, Result, Ok, Err}
-use Rattle.ion_meter.specs.Counts.{Counts}
-use Rattle.ion_meter.specs.declared.fault.Fault.{Fault}
-use Rattle.ion_meter.specs.declared.fault.Fault.TheVariants.{Refused, Memory, ReadFault, WriteFault, InputLimit}
+use Rattle.std.specs.Prelude.{ℕ, ◌%◌, Bool, true, false, not, ◌==◌, nat_lt, List, length, Option, Some, None, Result, Ok}
 use Rattle.ion_meter.specs.declared.fault.Reason.{Reason}
-use Rattle.ion_meter.specs.declared.limits.Limits.{Limits}
-use Rattle.ion_meter.specs.Windows.{Incoming}
-use Rattle.ion_meter.specs.Sources.{Cursor, Stands}
+use Rattle.ion_meter.specs.Sources.{Cursor}
 use Rattle.ion_meter.specs.declared.fault.Reason.TheVariants.{BadLob}
 use Rattle.ion_value.specs.Parts.{refuse, ◌>>=◌, ◌>>◌}
 use Rattle.ion_value.specs.Value.{SymbolAt, Scalar, clob, blob}
@@ -16,33 +11,6 @@ use Rattle.ion_text_in.specs.declared.lob.Opening.{Opening}
 use Rattle.ion_text_in.specs.declared.lob.Opening.TheVariants as opening
 use Rattle.ion_text_in.specs.Lob.{closed_at, clob_at, blob_at}
 use Rattle.ion_text_in.specs.Scanning.{Spelled, groups, with_front}
-
--- a text may grow up to the limit on scalars while a source is read
-pub record CanTake {I : Type 0} (limits : Limits) (source : Incoming I) (text : List ℕ) (meter : Counts) : Type 0 where
-  pub stands : Stands source
-  pub holds : length text ≤ meter.held
-  pub room : meter.held + limits.scalar < 2 ^ 63 + length text
-  pub countable : meter.refused < 2 ^ 64 - 1
-  pub checked : limits.scalar ≤ 2 ^ 30
-  pub share : length text ≤ limits.scalar
-
--- a place behind which nothing more is read, or a fault of a part at a place
-abbrev pub Closes : {T : Type 0} → Result T Fault → Cursor → ℕ → Result Cursor Reason → Type 0
-Closes (Ok x) behind place given = given ≡ Ok behind
-Closes (Err (Refused reason at)) behind place given = (given ≡ Err reason) × (at ≡ place)
-Closes (Err Memory) behind place given = Unit {0}
-Closes (Err ReadFault) behind place given = Unit {0}
-Closes (Err WriteFault) behind place given = Unit {0}
-Closes (Err InputLimit) behind place given = Unit {0}
-
--- what is spelled from one place on is what a call leaves to be spelled, or a fault of a part at a place
-abbrev pub Continues : {T : Type 0} → Result T Fault → ℕ → Spelled → (T → Spelled) → Type 0
-Continues (Ok x) place before after = before ≡ after x
-Continues (Err (Refused reason at)) place before after = (before ≡ Err reason) × (at ≡ place)
-Continues (Err Memory) place before after = Unit {0}
-Continues (Err ReadFault) place before after = Unit {0}
-Continues (Err WriteFault) place before after = Unit {0}
-Continues (Err InputLimit) place before after = Unit {0}
 
 -- bytes of a blob that were read, and the groups behind them
 abbrev pub with_groups_behind : ℕ → List ℕ → Bool → Cursor → Spelled

@@ -1,17 +1,29 @@
 -- Pieces of a text as the code has them.
-use Rattle.std.specs.Prelude.{◌≡◌, ℕ, ◌*◌, ◌^◌, ◌<◌, ◌≤◌, Bool, false, ◌&&◌, ◌||◌, ◌==◌, List, [], ◌∷◌, ◌++◌, length, drop, encode_utf8}
+use Rattle.std.specs.Prelude.{◌≡◌, ℕ, ◌+◌, ◌*◌, ◌^◌, ◌<◌, ◌≤◌, Bool, false, ◌&&◌, ◌||◌, ◌==◌, List, [], ◌∷◌, ◌++◌, length, drop, encode_utf8, Some, Ok, Err}
+use Rattle.ion_meter.specs.Sources.{Cursor}
+use Rattle.ion_meter.specs.declared.fault.Reason.TheVariants.{Truncated, ScalarLimit}
+use Rattle.ion_value.specs.Parts.{refuse, ◌>>◌}
 use Rattle.ion_text_in.specs.declared.piece.Piece.{Piece as CodePiece}
 use Rattle.ion_text_in.specs.declared.piece.Piece.TheVariants as code
+use Rattle.ion_text_in.specs.declared.piece.Meant.{Meant}
+use Rattle.ion_text_in.specs.declared.piece.Meant.TheVariants as meant
 use Rattle.ion_text_in.specs.declared.piece.HexDigits.{HexDigits}
 use Rattle.ion_text_in.specs.declared.piece.HexDigits.TheVariants as code_hex
 use Rattle.ion_text_in.specs.Quoted as quoted
-use Rattle.ion_text_in.specs.Quoted.{Quote, Piece, Hex, piece_at, hex_behind}
+use Rattle.ion_text_in.specs.Gathered.{onward}
+use Rattle.ion_text_in.specs.Limit.{passes}
+use Rattle.ion_text_in.specs.Quoted.{Quote, Piece, piece_at, hex_behind, bad_text}
+use Rattle.ion_text_in.specs.Scanning.{Spelled}
+
+-- the bytes that a piece means
+abbrev pub bytes_of : Meant → List ℕ
+bytes_of (meant.Char c) = encode_utf8 c
+bytes_of (meant.Byte b) = b ∷ []
+bytes_of meant.Nothing = []
 
 -- what a piece is
 abbrev pub piece_of : CodePiece → Piece
-piece_of (code.Char c taken) = quoted.char (encode_utf8 c) taken
-piece_of (code.Byte b taken) = quoted.char (b ∷ []) taken
-piece_of (code.Nothing taken) = quoted.char [] taken
+piece_of (code.Text m taken) = quoted.char (bytes_of m) taken
 piece_of (code.Close taken) = quoted.close taken
 piece_of code.Illegal = quoted.illegal
 piece_of code.Cut = quoted.cut
@@ -34,29 +46,23 @@ may_go_on q (b ∷ []) = q.is_long && (b == 39 || b == 13)
 may_go_on q (b ∷ c ∷ []) = (q.is_long && (b == 39 && c == 39)) || (b == 92 && c == 13)
 may_go_on q (b ∷ c ∷ d ∷ bytes) = false
 
--- the bytes that a piece spells
-abbrev pub bytes_of_piece : CodePiece → List ℕ
-bytes_of_piece (code.Char c taken) = encode_utf8 c
-bytes_of_piece (code.Byte b taken) = b ∷ []
-bytes_of_piece (code.Nothing taken) = []
-bytes_of_piece (code.Close taken) = []
-bytes_of_piece code.Illegal = []
-bytes_of_piece code.Cut = []
-
 -- how many bytes a piece takes
 abbrev pub taken_of : CodePiece → ℕ
-taken_of (code.Char c taken) = taken
-taken_of (code.Byte b taken) = taken
-taken_of (code.Nothing taken) = taken
+taken_of (code.Text m taken) = taken
 taken_of (code.Close taken) = taken
 taken_of code.Illegal = 0
 taken_of code.Cut = 0
 
+-- what is read on behind a piece, where so many bytes were read before it
+abbrev pub behind_piece : Quote → ℕ → List ℕ → Cursor → CodePiece → Spelled
+behind_piece q limit text c (code.Text m taken) = refuse (passes (Some limit) (length text + length (bytes_of m))) ScalarLimit >> onward q limit (text ++ bytes_of m) c
+behind_piece q limit text c (code.Close taken) = Ok (text, c)
+behind_piece q limit text c code.Illegal = Err (bad_text q)
+behind_piece q limit text c code.Cut = Err Truncated
+
 -- a piece that is passed over takes a byte
-abbrev pub TakesSome : CodePiece → Type 0
-TakesSome (code.Char c taken) = 1 ≤ taken
-TakesSome (code.Byte b taken) = 1 ≤ taken
-TakesSome (code.Nothing taken) = 1 ≤ taken
-TakesSome (code.Close taken) = 1 ≤ taken
-TakesSome code.Illegal = Unit {0}
-TakesSome code.Cut = Unit {0}
+abbrev pub Advances : ℕ → ℕ → CodePiece → Type 0
+Advances p q (code.Text m taken) = p < q
+Advances p q (code.Close taken) = p < q
+Advances p q code.Illegal = Unit {0}
+Advances p q code.Cut = Unit {0}

@@ -1,19 +1,21 @@
 //! Blobs and clobs (Ion specification, "Blobs" and "Clobs").
-ghost use Rattle.std.specs.Prelude.{◌≡◌, ◌≢◌, ◌+◌, ◌<◌, ◌≤◌, ◌*◌, ℕ, Option, All, None, Some, Ok, Err, true, false, length, take, OnOk, IfOk, IfSome, IfNone};
+ghost use Rattle.std.specs.Prelude.{◌≡◌, ◌≢◌, ◌+◌, ◌<◌, ◌≤◌, ◌*◌, ℕ, Option, All, None, Some, Ok, Err, false, length, take, OnOk, IfOk, IfSome, IfNone};
 ghost use Rattle.base64.specs.Decode.{decoded_estimate};
 ghost use Rattle.base64.specs.Engines.{standard};
 ghost use Rattle.base64.specs.GeneralPurpose.{decoded_of, encode_of};
 ghost use Rattle.ion_meter.specs.Sources.{cursor, Stands};
 ghost use Rattle.ion_meter.specs.Windows.{left, lent, IsGiven};
-ghost use Rattle.ion_value.specs.Answers.{Answers};
 ghost use Rattle.ion_value.specs.Calls.{AnswersBy, CanRead, Reads, ReadsInto, passed_over};
 ghost use Rattle.ion_value.specs.Shares.{GrowsWithin};
 ghost use Rattle.ion_text_in.specs.Lob.{are_cut_quotes, closed_at, group_of, lob_in};
-ghost use Rattle.ion_text_in.specs.Lobs.{CanTake, Closes, Continues, with_groups_behind, blob_from, closed_behind, lob_of, opened};
+ghost use Rattle.ion_text_in.specs.Gathered.{CanGather, Continues, Gathers};
+ghost use Rattle.ion_text_in.specs.Lobs.{with_groups_behind, blob_from, closed_behind, lob_of, opened};
+ghost use Rattle.ion_text_in.specs.Scanning.{groups};
 ghost use Rattle.ion_text_in.specs.Token.{a_lob, plain, token_of};
 
 use crate::blank::pass_white;
 use crate::quoted::Quote;
+use crate::segment::put;
 use crate::text::{next_long_text, next_short_text, pass_quotes};
 use base64::engine::general_purpose::STANDARD;
 use ion_meter::buf::Buf;
@@ -69,11 +71,8 @@ pub(crate) fn next_lob<I: Input, A: Allocator + Copy>(
     let place = source.place();
     source.consume(2);
     pass_white(source)?;
-    match pass_opening(source)? {
-        Opening::Short => next_short_clob(source, text, place, limits, meter),
-        Opening::Long => next_long_clob(source, text, place, limits, meter),
-        Opening::None => next_blob(source, text, place, limits, meter),
-    }
+    let opening = pass_opening(source)?;
+    next_opened(source, text, opening, place, limits, meter)
 }
 
 // Passes over the quotes that open the text of a clob.
@@ -99,52 +98,42 @@ fn pass_opening<I: Input, A: Allocator + Copy>(source: &mut Source<I, A>) -> Res
     Ok(Opening::None)
 }
 
-// The text of a clob behind a double quote, and what closes the clob, which begins at a place.
-fn next_short_clob<I: Input, A: Allocator + Copy>(
+// The text of a lob that begins at a place, behind what opens it, and what closes the lob.
+fn next_opened<I: Input, A: Allocator + Copy>(
     source: &mut Source<I, A>,
     text: &mut Buf<A>,
+    opening: Opening,
     place: u64,
     limits: Limits,
     meter: &mut Meter<A>,
 ) -> Result<Lob, Fault>
     requires can_read { CanRead limits limits.scalar source.old text.old meter.old }
-    ensures gives { I.observable source.old.device → Answers (λ lob. lob_of lob text.new) result
-        (cursor I.Input source.new) place
-        (opened Opening.Short (Some limits.scalar) (cursor I.Input source.old)) }
-    ensures reads { ReadsInto I.Input source.old source.new meter.old meter.new
-        (length text.old) (length text.new) limits.scalar result }
-    ensures goes { GrowsWithin meter.old meter.new (length text.old) (length text.new)
-        (8 * passed_over source.old source.new) }
+    ensures gives { I.observable source.old.device → Continues result place
+        (opened opening (Some limits.scalar) (cursor I.Input source.old))
+        (λ lob. Ok (lob_of lob text.new, cursor I.Input source.new)) }
+    ensures gathers { Gathers I.Input limits source.old source.new meter.old meter.new
+        text.old text.new result }
 {
-    next_short_text(source, text, Quote::ShortClob, place, limits, meter)?;
-    pass_white(source)?;
-    pass_braces(source, place)?;
-    Ok(Lob::Clob)
-}
-
-// The text of a clob after three single quotes, and what closes the clob, which begins at a place.
-fn next_long_clob<I: Input, A: Allocator + Copy>(
-    source: &mut Source<I, A>,
-    text: &mut Buf<A>,
-    place: u64,
-    limits: Limits,
-    meter: &mut Meter<A>,
-) -> Result<Lob, Fault>
-    requires can_read { CanRead limits limits.scalar source.old text.old meter.old }
-    ensures gives { I.observable source.old.device → Answers (λ lob. lob_of lob text.new) result
-        (cursor I.Input source.new) place
-        (opened Opening.Long (Some limits.scalar) (cursor I.Input source.old)) }
-    ensures reads { ReadsInto I.Input source.old source.new meter.old meter.new
-        (length text.old) (length text.new) limits.scalar result }
-    ensures goes { GrowsWithin meter.old meter.new (length text.old) (length text.new)
-        (8 * passed_over source.old source.new) }
-{
-    next_long_text(source, text, Quote::LongClob, place, limits, meter)?;
-    if are_cut_quotes(source)? {
-        return Err(Fault::Refused(Reason::Truncated, place));
+    match opening {
+        Opening::Short => {
+            next_short_text(source, text, Quote::ShortClob, place, limits, meter)?;
+            pass_white(source)?;
+            pass_braces(source, place)?;
+            Ok(Lob::Clob)
+        }
+        Opening::Long => {
+            next_long_text(source, text, Quote::LongClob, place, limits, meter)?;
+            if are_cut_quotes(source)? {
+                return Err(Fault::Refused(Reason::Truncated, place));
+            }
+            pass_braces(source, place)?;
+            Ok(Lob::Clob)
+        }
+        Opening::None => {
+            next_blob(source, text, place, limits, meter)?;
+            Ok(Lob::Blob)
+        }
     }
-    pass_braces(source, place)?;
-    Ok(Lob::Clob)
 }
 
 // Whether one quote or two are all that is left of the input: a further segment may begin there.
@@ -183,47 +172,45 @@ fn next_blob<I: Input, A: Allocator + Copy>(
     place: u64,
     limits: Limits,
     meter: &mut Meter<A>,
-) -> Result<Lob, Fault>
+) -> Result<(), Fault>
     requires can_read { CanRead limits limits.scalar source.old text.old meter.old }
-    ensures gives { I.observable source.old.device → Answers (λ lob. lob_of lob text.new) result
-        (cursor I.Input source.new) place
-        (opened Opening.None (Some limits.scalar) (cursor I.Input source.old)) }
-    ensures reads { ReadsInto I.Input source.old source.new meter.old meter.new
-        (length text.old) (length text.new) limits.scalar result }
-    ensures goes { GrowsWithin meter.old meter.new (length text.old) (length text.new)
-        (8 * passed_over source.old source.new) }
+    ensures gives { I.observable source.old.device → Continues result place
+        (groups (Some limits.scalar) 0 false (cursor I.Input source.old))
+        (λ _. Ok (text.new, cursor I.Input source.new)) }
+    ensures gathers { Gathers I.Input limits source.old source.new meter.old meter.new
+        text.old text.new result }
 {
     text.clear(meter);
     let mut padded = false;
     'groups: loop {
-        if !padded {
-            padded = take_blocks(source, text, limits, meter)?;
-        }
+        padded = take_blocks(source, text, padded, limits, meter)?;
         match take_group(source, text, padded, place, limits, meter)? {
-            None => return Ok(Lob::Blob),
+            None => return Ok(()),
             Some(last) => padded = last,
         }
     }
 }
 
 // Takes groups of the window in blocks, as far as they stand without white space between them and
-// are well formed; true where the last of them is padded.
+// are well formed, and none behind a padded one; true where the last of them is padded.
 fn take_blocks<I: Input, A: Allocator + Copy>(
     source: &mut Source<I, A>,
     text: &mut Buf<A>,
+    padded: bool,
     limits: Limits,
     meter: &mut Meter<A>,
 ) -> Result<bool, Fault>
-    requires can_take { CanTake limits source.old text.old meter.old }
-    ensures gives { I.observable source.old.device → IfOk result (λ padded.
-        with_groups_behind limits.scalar text.old false (cursor I.Input source.old)
-        ≡ with_groups_behind limits.scalar text.new padded (cursor I.Input source.new)) }
+    requires can_gather { CanGather limits source.old text.old meter.old }
+    ensures gives { I.observable source.old.device → IfOk result (λ last.
+        with_groups_behind limits.scalar text.old padded (cursor I.Input source.old)
+        ≡ with_groups_behind limits.scalar text.new last (cursor I.Input source.new)) }
     ensures plain { (r : Reason) (p : ℕ) → result ≢ Err (Fault.Refused r p) }
-    ensures reads { ReadsInto I.Input source.old source.new meter.old meter.new
-        (length text.old) (length text.new) limits.scalar result }
-    ensures goes { GrowsWithin meter.old meter.new (length text.old) (length text.new)
-        (8 * passed_over source.old source.new) }
+    ensures gathers { Gathers I.Input limits source.old source.new meter.old meter.new
+        text.old text.new result }
 {
+    if padded {
+        return Ok(true);
+    }
     let mut run = solid_run(source.buffer());
     'pieces: while run >= 4 {
         let count = run.min(BLOCK).min(source.buffer().len()) / 4 * 4;
@@ -249,7 +236,7 @@ fn take_block<I: Input, A: Allocator + Copy>(
     limits: Limits,
     meter: &mut Meter<A>,
 ) -> Result<Option<bool>, Fault>
-    requires can_take { CanTake limits source.old text.old meter.old }
+    requires can_gather { CanGather limits source.old text.old meter.old }
     requires few { count ≤ BLOCK }
     requires some { 0 < count }
     requires there { count ≤ length (lent source.old) }
@@ -259,10 +246,8 @@ fn take_block<I: Input, A: Allocator + Copy>(
     ensures none { result ≡ Ok None → (source.new ≡ source.old) × (text.new ≡ text.old)
         × (meter.new ≡ meter.old) }
     ensures plain { (r : Reason) (p : ℕ) → result ≢ Err (Fault.Refused r p) }
-    ensures reads { ReadsInto I.Input source.old source.new meter.old meter.new
-        (length text.old) (length text.new) limits.scalar result }
-    ensures goes { GrowsWithin meter.old meter.new (length text.old) (length text.new)
-        (8 * passed_over source.old source.new) }
+    ensures gathers { Gathers I.Input limits source.old source.new meter.old meter.new
+        text.old text.new result }
 {
     if count <= LINE {
         return take_groups(source, text, count, &mut [0; LINE / 4 * 3], limits, meter);
@@ -279,7 +264,7 @@ fn take_groups<I: Input, A: Allocator + Copy>(
     limits: Limits,
     meter: &mut Meter<A>,
 ) -> Result<Option<bool>, Fault>
-    requires can_take { CanTake limits source.old text.old meter.old }
+    requires can_gather { CanGather limits source.old text.old meter.old }
     requires room { decoded_estimate count ≤ length room.old }
     requires some { 0 < count }
     requires there { count ≤ length (lent source.old) }
@@ -289,10 +274,8 @@ fn take_groups<I: Input, A: Allocator + Copy>(
     ensures none { result ≡ Ok None → (source.new ≡ source.old) × (text.new ≡ text.old)
         × (meter.new ≡ meter.old) }
     ensures plain { (r : Reason) (p : ℕ) → result ≢ Err (Fault.Refused r p) }
-    ensures reads { ReadsInto I.Input source.old source.new meter.old meter.new
-        (length text.old) (length text.new) limits.scalar result }
-    ensures goes { GrowsWithin meter.old meter.new (length text.old) (length text.new)
-        (8 * passed_over source.old source.new) }
+    ensures gathers { Gathers I.Input limits source.old source.new meter.old meter.new
+        text.old text.new result }
 {
     let Some(n) = decode(&source.buffer()[..count], room) else {
         return Ok(None);
@@ -316,21 +299,20 @@ fn take_group<I: Input, A: Allocator + Copy>(
     limits: Limits,
     meter: &mut Meter<A>,
 ) -> Result<Option<bool>, Fault>
-    requires can_take { CanTake limits source.old text.old meter.old }
+    requires can_gather { CanGather limits source.old text.old meter.old }
     ensures gives { I.observable source.old.device → Continues result place
         (with_groups_behind limits.scalar text.old padded (cursor I.Input source.old))
         (blob_from limits.scalar text.new (cursor I.Input source.new)) }
     ensures taken { IfOk result (λ found. IfSome found (λ _.
         source.old.place < source.new.place)) }
-    ensures reads { ReadsInto I.Input source.old source.new meter.old meter.new
-        (length text.old) (length text.new) limits.scalar result }
-    ensures goes { GrowsWithin meter.old meter.new (length text.old) (length text.new)
-        (8 * passed_over source.old source.new) }
+    ensures gathers { Gathers I.Input limits source.old source.new meter.old meter.new
+        text.old text.new result }
 {
     let mut group = [0; 4];
     let count = next_characters(source, &mut group)?;
     if count < 4 {
-        return end_groups(source, count, place);
+        end_groups(source, count, place)?;
+        return Ok(None);
     }
     let mut bytes = [0; 3];
     let Some(n) = decode(&group, &mut bytes) else {
@@ -339,10 +321,7 @@ fn take_group<I: Input, A: Allocator + Copy>(
     if padded {
         return Err(Fault::Refused(Reason::BadLob, place));
     }
-    if limits.scalar - (text.as_slice().len() as u64) < n as u64 {
-        return Err(Fault::Refused(Reason::ScalarLimit, place));
-    }
-    text.extend(meter, &bytes[..n])?;
+    put(text, &bytes[..n], place, limits, meter)?;
     Ok(Some(n < 3))
 }
 
@@ -351,18 +330,17 @@ fn end_groups<I: Input, A: Allocator + Copy>(
     source: &mut Source<I, A>,
     count: usize,
     place: u64,
-) -> Result<Option<bool>, Fault>
+) -> Result<(), Fault>
     requires stands { Stands source.old }
-    ensures none { IfOk result (λ found. found ≡ None) }
-    ensures gives { I.observable source.old.device → Closes result (cursor I.Input source.new)
-        place (closed_behind count (cursor I.Input source.old)) }
+    ensures gives { I.observable source.old.device → Continues result place
+        (closed_behind count (cursor I.Input source.old)) (λ _. Ok (cursor I.Input source.new)) }
     ensures reads { Reads I.Input source.old source.new result }
 {
     pass_braces(source, place)?;
     if count > 0 {
         return Err(Fault::Refused(Reason::BadLob, place));
     }
-    Ok(None)
+    Ok(())
 }
 
 // Passes over the braces that close a lob which begins at a place.
@@ -371,8 +349,8 @@ fn pass_braces<I: Input, A: Allocator + Copy>(
     place: u64,
 ) -> Result<(), Fault>
     requires stands { Stands source.old }
-    ensures gives { I.observable source.old.device → Closes result (cursor I.Input source.new)
-        place (closed_at (cursor I.Input source.old)) }
+    ensures gives { I.observable source.old.device → Continues result place
+        (closed_at (cursor I.Input source.old)) (λ _. Ok (cursor I.Input source.new)) }
     ensures reads { Reads I.Input source.old source.new result }
 {
     match source.peek(0)? {

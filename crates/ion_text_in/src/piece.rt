@@ -1,24 +1,32 @@
 //! The pieces of a text between quotes that are no plain bytes: closing quotes, escapes and ends of
 //! lines (Ion specification, "Strings", "Clobs" and "Escape Characters").
-ghost use Rattle.std.specs.Prelude.{◌≡◌, ◌<◌, ◌≤◌, ◌||◌, ◌==◌, nat_lt, List, ℕ, length};
+ghost use Rattle.std.specs.Prelude.{◌≡◌, ◌<◌, ◌≤◌, ◌||◌, ◌==◌, nat_lt, length};
 ghost use Rattle.ion_value.specs.Digits.{is_hex_digit, digit_value};
 ghost use Rattle.ion_value.specs.Name.{begins_with};
 ghost use Rattle.ion_text_in.specs.Quoted as quoted;
 ghost use Rattle.ion_text_in.specs.Quoted.{hex_behind, piece_at};
 ghost use Rattle.ion_text_in.specs.Quotes.{quote_of};
-ghost use Rattle.ion_text_in.specs.Pieces.{piece_of, HexIs, ShowsPiece, may_go_on, taken_of, TakesSome};
+ghost use Rattle.ion_text_in.specs.Pieces.{piece_of, HexIs, ShowsPiece, may_go_on};
+ghost use Rattle.ion_text_in.specs.Scanning.{PieceTakes};
 
 use crate::quoted::Quote;
+
+/// What a piece of a text means.
+#[derive(Clone, Copy)]
+pub(crate) enum Meant {
+    /// A character, by its code.
+    Char(char),
+    /// A byte.
+    Byte(u8),
+    /// Nothing, as an end of a line behind a backslash does.
+    Nothing,
+}
 
 /// What stands at a place between quotes, with how many bytes it has.
 #[derive(Clone, Copy)]
 pub(crate) enum Piece {
-    /// A character, by its code.
-    Char(char, usize),
-    /// A byte.
-    Byte(u8, usize),
-    /// An end of a line behind a backslash, which means nothing.
-    Nothing(usize),
+    /// A piece of the text.
+    Text(Meant, usize),
     /// The closing quotes.
     Close(usize),
     /// Nothing that may stand in a text.
@@ -38,32 +46,18 @@ enum HexDigits {
     Cut,
 }
 
-/// The closing quote of a text that is not long, or an escape by a letter or by two or four digits,
-/// which stand most often behind plain bytes. `Cut` for any other piece, and where the bytes end
-/// before.
+/// The closing quote of a text that is not long, or an escape that no CR ends, which stand most often
+/// behind plain bytes. `Cut` for any other piece, and where the bytes end before.
 #[inline(always)]
 pub(crate) fn quick_piece(quote: Quote, bytes: &[u8]) -> Piece
     ensures shows { ShowsPiece (quote_of quote) bytes.now result }
-    ensures there { taken_of result ≤ length bytes.now }
-    ensures some { TakesSome result }
+    ensures takes { PieceTakes bytes.now (piece_of result) }
 {
     match bytes {
-        [b'\\', byte, digits @ ..] => match letter(*byte) {
-            Some(meant) => Piece::Byte(meant, 2),
-            None if is_short_code(*byte) => coded(quote.in_clob(), *byte, digits),
-            None => Piece::Cut,
-        },
+        [b'\\', byte, ..] if *byte != b'\r' => escape(quote.in_clob(), &bytes[1..]),
         [byte, ..] if *byte == quote.mark() && !quote.is_long() => Piece::Close(1),
         _ => Piece::Cut,
     }
-}
-
-// Whether a letter behind a backslash has two or four hex digits behind it.
-#[inline(always)]
-fn is_short_code(byte: u8) -> bool
-    ensures { result ≡ (byte == 120 || byte == 117) }
-{
-    byte == b'x' || byte == b'u'
 }
 
 /// The piece at the front of some bytes that more may follow, or `Cut` where what follows may
@@ -71,8 +65,7 @@ fn is_short_code(byte: u8) -> bool
 #[inline]
 pub(crate) fn scan_piece(quote: Quote, bytes: &[u8]) -> Piece
     ensures shows { ShowsPiece (quote_of quote) bytes.now result }
-    ensures there { taken_of result ≤ length bytes.now }
-    ensures some { TakesSome result }
+    ensures takes { PieceTakes bytes.now (piece_of result) }
     ensures few { result ≡ Piece.Cut → length bytes.now < 12 }
 {
     if may_go_on(quote, bytes) {
@@ -128,10 +121,10 @@ fn raw(quote: Quote, byte: u8, behind: &[u8]) -> Piece
     ensures { piece_of result ≡ quoted.raw (quote_of quote) byte behind.now }
 {
     if quote.is_long() && (byte == 10 || byte == 13) {
-        return Piece::Byte(10, line_end_length(byte, behind));
+        return Piece::Text(Meant::Byte(10), line_end_length(byte, behind));
     }
     if is_raw(quote.in_clob(), byte) {
-        Piece::Byte(byte, 1)
+        Piece::Text(Meant::Byte(byte), 1)
     } else {
         Piece::Illegal
     }
@@ -167,10 +160,10 @@ fn escape(in_clob: bool, bytes: &[u8]) -> Piece
         [] => Piece::Cut,
         [byte, behind @ ..] => {
             if *byte == 10 || *byte == 13 {
-                return Piece::Nothing(1 + line_end_length(*byte, behind));
+                return Piece::Text(Meant::Nothing, 1 + line_end_length(*byte, behind));
             }
             match letter(*byte) {
-                Some(meant) => Piece::Byte(meant, 2),
+                Some(meant) => Piece::Text(Meant::Byte(meant), 2),
                 None => coded(in_clob, *byte, behind),
             }
         }
@@ -235,7 +228,7 @@ fn byte_code(in_clob: bool, digits: &[u8]) -> Piece
     match hex_digits(2, digits) {
         HexDigits::Number(number) => {
             if in_clob {
-                return Piece::Byte(number as u8, 4);
+                return Piece::Text(Meant::Byte(number as u8), 4);
             }
             by_code(number, 4)
         }
@@ -306,7 +299,7 @@ fn by_code(code: u32, taken: usize) -> Piece
     ensures { piece_of result ≡ quoted.by_code code taken }
 {
     match char::from_u32(code) {
-        Some(character) => Piece::Char(character, taken),
+        Some(character) => Piece::Text(Meant::Char(character), taken),
         None => Piece::Illegal,
     }
 }

@@ -1,18 +1,17 @@
 //! Segments of texts between quotes, gathered over the window (Ion specification, "Strings",
 //! "Symbols" and "Clobs").
-ghost use Rattle.std.specs.Prelude.{◌≡◌, ◌≢◌, ◌+◌, ◌<◌, ◌≤◌, [], ◌∷◌, ◌*◌, ℕ, Ok, Err, length, encode_utf8, OnOk, OnErr, IfOk};
+ghost use Rattle.std.specs.Prelude.{◌≡◌, ◌≢◌, ◌+◌, ◌<◌, ◌≤◌, List, [], ◌∷◌, ℕ, Ok, Err, length, OnOk, IfOk};
 ghost use Rattle.ion_meter.specs.Windows.{left, lent};
-ghost use Rattle.ion_meter.specs.Sources.{skip, cursor, Stands};
+ghost use Rattle.ion_meter.specs.Sources.{cursor, Stands};
 ghost use Rattle.ion_meter.specs.Sources.{Reads as Looks};
-ghost use Rattle.ion_value.specs.Answers.{Answers};
-ghost use Rattle.ion_value.specs.Calls.{Reads, ReadsInto, passed_over};
-ghost use Rattle.ion_value.specs.Shares.{fault_of, GrowsWithin};
+ghost use Rattle.ion_value.specs.Calls.{Reads};
 ghost use Rattle.ion_text_in.specs.Quoted.{piece_at, bad_text};
 ghost use Rattle.ion_text_in.specs.Quotes.{quote_of};
-ghost use Rattle.ion_text_in.specs.Pieces.{piece_of, bytes_of_piece, taken_of, TakesSome};
-ghost use Rattle.ion_text_in.specs.Gathered.{CanGather, CanGrow, Grown, PutsOn, Goes, onward, with_segment};
+ghost use Rattle.ion_text_in.specs.Pieces.{piece_of, bytes_of, behind_piece, taken_of, Advances};
+ghost use Rattle.ion_text_in.specs.Scanning.{PieceTakes};
+ghost use Rattle.ion_text_in.specs.Gathered.{CanGather, CanGrow, Continues, Gathers, Puts, onward, with_segment};
 
-use crate::piece::{Piece, last_piece, quick_piece, scan_piece};
+use crate::piece::{Meant, Piece, last_piece, quick_piece, scan_piece};
 use crate::quoted::{Quote, is_text, plain_length};
 use ion_meter::buf::Buf;
 use ion_meter::device::Input;
@@ -38,14 +37,12 @@ pub(crate) fn next_segment<I: Input, A: Allocator + Copy>(
     meter: &mut Meter<A>,
 ) -> Result<(), Fault>
     requires can_gather { CanGather limits source.old text.old meter.old }
-    ensures gives { I.observable source.old.device → Answers (λ _. text.new) result
-        (cursor I.Input source.new) place
-        (with_segment (quote_of quote) limits.scalar text.old (cursor I.Input source.old)) }
+    ensures gives { I.observable source.old.device → Continues result place
+        (with_segment (quote_of quote) limits.scalar text.old (cursor I.Input source.old))
+        (λ _. Ok (text.new, cursor I.Input source.new)) }
     ensures further { OnOk result (source.old.place < source.new.place) }
-    ensures reads { ReadsInto I.Input source.old source.new meter.old meter.new
-        (length text.old) (length text.new) limits.scalar result }
-    ensures goes { GrowsWithin meter.old meter.new (length text.old) (length text.new)
-        (8 * passed_over source.old source.new) }
+    ensures gathers { Gathers I.Input limits source.old source.new meter.old meter.new
+        text.old text.new result }
 {
     let start = text.as_slice().len();
     gather_pieces(source, text, quote, place, limits, meter)?;
@@ -65,26 +62,22 @@ fn gather_pieces<I: Input, A: Allocator + Copy>(
     meter: &mut Meter<A>,
 ) -> Result<(), Fault>
     requires can_gather { CanGather limits source.old text.old meter.old }
-    ensures gives { I.observable source.old.device → Answers (λ _. text.new) result
-        (cursor I.Input source.new) place
-        (onward (quote_of quote) limits.scalar text.old (cursor I.Input source.old)) }
+    ensures gives { I.observable source.old.device → Continues result place
+        (onward (quote_of quote) limits.scalar text.old (cursor I.Input source.old))
+        (λ _. Ok (text.new, cursor I.Input source.new)) }
     ensures further { OnOk result (source.old.place < source.new.place) }
     ensures longer { OnOk result (length text.old ≤ length text.new) }
-    ensures reads { ReadsInto I.Input source.old source.new meter.old meter.new
-        (length text.old) (length text.new) limits.scalar result }
-    ensures goes { GrowsWithin meter.old meter.new (length text.old) (length text.new)
-        (8 * passed_over source.old source.new) }
+    ensures gathers { Gathers I.Input limits source.old source.new meter.old meter.new
+        text.old text.new result }
 {
     'pieces: loop {
         take_plain(source, text, quote, place, limits, meter)?;
-        let piece = next_piece(source, quote)?;
-        match piece {
+        match next_piece(source, quote)? {
+            Piece::Text(meant, _) => put_meant(text, meant, place, limits, meter)?,
             Piece::Close(_) => return Ok(()),
             Piece::Illegal => return Err(Fault::Refused(bad_text(quote), place)),
             Piece::Cut => return Err(Fault::Refused(Reason::Truncated, place)),
-            _ => {}
         }
-        put_piece(text, piece, place, limits, meter)?;
     }
 }
 
@@ -111,14 +104,12 @@ fn take_plain<I: Input, A: Allocator + Copy>(
     meter: &mut Meter<A>,
 ) -> Result<(), Fault>
     requires can_gather { CanGather limits source.old text.old meter.old }
-    ensures gives { I.observable source.old.device → Goes result place
+    ensures gives { I.observable source.old.device → Continues result place
         (onward (quote_of quote) limits.scalar text.old (cursor I.Input source.old))
-        (onward (quote_of quote) limits.scalar text.new (cursor I.Input source.new)) }
+        (λ _. onward (quote_of quote) limits.scalar text.new (cursor I.Input source.new)) }
     ensures longer { OnOk result (length text.old ≤ length text.new) }
-    ensures reads { ReadsInto I.Input source.old source.new meter.old meter.new
-        (length text.old) (length text.new) limits.scalar result }
-    ensures goes { GrowsWithin meter.old meter.new (length text.old) (length text.new)
-        (8 * passed_over source.old source.new) }
+    ensures gathers { Gathers I.Input limits source.old source.new meter.old meter.new
+        text.old text.new result }
 {
     let bytes = source.buffer();
     let plain = plain_length(quote, bytes);
@@ -127,9 +118,9 @@ fn take_plain<I: Input, A: Allocator + Copy>(
     Ok(())
 }
 
-// Puts bytes behind a text.
+/// Puts bytes behind a text.
 #[inline]
-fn put<A: Allocator + Copy>(
+pub(crate) fn put<A: Allocator + Copy>(
     text: &mut Buf<A>,
     bytes: &[u8],
     place: u64,
@@ -137,13 +128,7 @@ fn put<A: Allocator + Copy>(
     meter: &mut Meter<A>,
 ) -> Result<(), Fault>
     requires can_grow { CanGrow limits text.old meter.old }
-    ensures puts { PutsOn text.old text.new bytes.now limits.scalar place result }
-    ensures grown { Grown meter.old meter.new (length text.old) (length text.new) limits.scalar
-        (fault_of result) }
-    ensures goes { GrowsWithin meter.old meter.new (length text.old) (length text.new)
-        (length bytes.now) }
-    ensures still { OnErr result (GrowsWithin meter.old meter.new
-        (length text.old) (length text.new) 0) }
+    ensures { Puts limits meter.old meter.new text.old text.new bytes.now place result }
 {
     if limits.scalar - (text.as_slice().len() as u64) < bytes.len() as u64 {
         return Err(Fault::Refused(Reason::ScalarLimit, place));
@@ -161,10 +146,7 @@ fn put_byte<A: Allocator + Copy>(
     meter: &mut Meter<A>,
 ) -> Result<(), Fault>
     requires can_grow { CanGrow limits text.old meter.old }
-    ensures puts { PutsOn text.old text.new (byte ∷ []) limits.scalar place result }
-    ensures grown { Grown meter.old meter.new (length text.old) (length text.new) limits.scalar
-        (fault_of result) }
-    ensures goes { GrowsWithin meter.old meter.new (length text.old) (length text.new) 1 }
+    ensures { Puts limits meter.old meter.new text.old text.new (byte ∷ []) place result }
 {
     if limits.scalar <= text.as_slice().len() as u64 {
         return Err(Fault::Refused(Reason::ScalarLimit, place));
@@ -172,52 +154,26 @@ fn put_byte<A: Allocator + Copy>(
     text.push(meter, byte)
 }
 
-// Puts a character behind a text, in UTF-8.
-fn put_char<A: Allocator + Copy>(
-    text: &mut Buf<A>,
-    character: char,
-    place: u64,
-    limits: Limits,
-    meter: &mut Meter<A>,
-) -> Result<(), Fault>
-    requires can_grow { CanGrow limits text.old meter.old }
-    ensures puts { PutsOn text.old text.new (encode_utf8 character) limits.scalar place result }
-    ensures grown { Grown meter.old meter.new (length text.old) (length text.new) limits.scalar
-        (fault_of result) }
-    ensures goes { GrowsWithin meter.old meter.new (length text.old) (length text.new) 4 }
-{
-    if character.is_ascii() {
-        return put_byte(text, character as u8, place, limits, meter);
-    }
-    let mut room = [0; 4];
-    put(
-        text,
-        character.encode_utf8(&mut room).as_bytes(),
-        place,
-        limits,
-        meter,
-    )
-}
-
-// Puts the bytes of a piece behind a text.
+// Puts what a piece means behind a text.
 #[inline]
-fn put_piece<A: Allocator + Copy>(
+fn put_meant<A: Allocator + Copy>(
     text: &mut Buf<A>,
-    piece: Piece,
+    meant: Meant,
     place: u64,
     limits: Limits,
     meter: &mut Meter<A>,
 ) -> Result<(), Fault>
     requires can_grow { CanGrow limits text.old meter.old }
-    ensures puts { PutsOn text.old text.new (bytes_of_piece piece) limits.scalar place result }
-    ensures grown { Grown meter.old meter.new (length text.old) (length text.new) limits.scalar
-        (fault_of result) }
-    ensures goes { GrowsWithin meter.old meter.new (length text.old) (length text.new) 4 }
+    ensures { Puts limits meter.old meter.new text.old text.new (bytes_of meant) place result }
 {
-    match piece {
-        Piece::Char(character, _) => put_char(text, character, place, limits, meter),
-        Piece::Byte(byte, _) => put_byte(text, byte, place, limits, meter),
-        _ => Ok(()),
+    match meant {
+        Meant::Char(character) => {
+            let mut room = [0; 4];
+            let bytes = character.encode_utf8(&mut room).as_bytes();
+            put(text, bytes, place, limits, meter)
+        }
+        Meant::Byte(byte) => put_byte(text, byte, place, limits, meter),
+        Meant::Nothing => Ok(()),
     }
 }
 
@@ -228,13 +184,10 @@ fn next_piece<I: Input, A: Allocator + Copy>(
     quote: Quote,
 ) -> Result<Piece, Fault>
     requires stands { Stands source.old }
-    ensures gives { I.observable source.old.device → IfOk result (λ piece.
-        piece_of piece ≡ piece_at (quote_of quote) (left I.rest source.old)) }
-    ensures behind { I.observable source.old.device → IfOk result (λ piece.
-        cursor I.Input source.new ≡ skip (taken_of piece) (cursor I.Input source.old)) }
-    ensures place { IfOk result (λ piece.
-        source.new.place ≡ source.old.place + taken_of piece) }
-    ensures some { IfOk result TakesSome }
+    ensures gives { I.observable source.old.device → (limit : ℕ) (text : List ℕ)
+        → IfOk result (λ piece. onward (quote_of quote) limit text (cursor I.Input source.old)
+        ≡ behind_piece (quote_of quote) limit text (cursor I.Input source.new) piece) }
+    ensures further { IfOk result (Advances source.old.place source.new.place) }
     ensures plain { (r : Reason) (p : ℕ) → result ≢ Err (Fault.Refused r p) }
     ensures reads { Reads I.Input source.old source.new result }
 {
@@ -252,8 +205,7 @@ fn show_piece<I: Input, A: Allocator + Copy>(
     requires stands { Stands source.old }
     ensures gives { I.observable source.old.device → IfOk result (λ piece.
         piece_of piece ≡ piece_at (quote_of quote) (left I.rest source.old)) }
-    ensures there { IfOk result (λ piece. taken_of piece ≤ length (lent source.new)) }
-    ensures some { IfOk result TakesSome }
+    ensures takes { IfOk result (λ piece. PieceTakes (lent source.new) (piece_of piece)) }
     ensures looks { Looks I.Input source.old source.new result }
     ensures limit { result ≡ Err Fault.InputLimit → I.observable source.old.device
         → source.old.limit < source.old.place + length (left I.rest source.old) }
@@ -272,8 +224,7 @@ fn show_slowly<I: Input, A: Allocator + Copy>(
     requires stands { Stands source.old }
     ensures gives { I.observable source.old.device → IfOk result (λ piece.
         piece_of piece ≡ piece_at (quote_of quote) (left I.rest source.old)) }
-    ensures there { IfOk result (λ piece. taken_of piece ≤ length (lent source.new)) }
-    ensures some { IfOk result TakesSome }
+    ensures takes { IfOk result (λ piece. PieceTakes (lent source.new) (piece_of piece)) }
     ensures looks { Looks I.Input source.old source.new result }
     ensures limit { result ≡ Err Fault.InputLimit → I.observable source.old.device
         → source.old.limit < source.old.place + length (left I.rest source.old) }
@@ -297,10 +248,7 @@ fn taken(piece: Piece) -> usize
     ensures { result ≡ taken_of piece }
 {
     match piece {
-        Piece::Char(_, taken)
-        | Piece::Byte(_, taken)
-        | Piece::Nothing(taken)
-        | Piece::Close(taken) => taken,
+        Piece::Text(_, taken) | Piece::Close(taken) => taken,
         Piece::Illegal | Piece::Cut => 0,
     }
 }

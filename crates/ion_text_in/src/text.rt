@@ -3,7 +3,6 @@
 ghost use Rattle.std.specs.Prelude.{◌≡◌, ◌≢◌, ◌+◌, ◌<◌, ◌≤◌, [], ◌∷◌, ◌*◌, ℕ, true, false, Some, Ok, Err, length, OnOk, IfOk};
 ghost use Rattle.ion_meter.specs.Windows.{left, lent, IsGiven};
 ghost use Rattle.ion_meter.specs.Sources.{skip, cursor, Stands};
-ghost use Rattle.ion_value.specs.Answers.{Answers};
 ghost use Rattle.ion_value.specs.Calls.{AnswersBy, CanRead, Reads, ReadsInto, passed_over};
 ghost use Rattle.ion_value.specs.Name.{begins_with};
 ghost use Rattle.ion_value.specs.Value as value;
@@ -13,7 +12,7 @@ ghost use Rattle.ion_text_in.specs.Token as tokens;
 ghost use Rattle.ion_text_in.specs.Token.{token_of};
 ghost use Rattle.ion_text_in.specs.Quoted.{text_at};
 ghost use Rattle.ion_text_in.specs.Quotes.{quote_of};
-ghost use Rattle.ion_text_in.specs.Gathered.{CanGather, passed, Overruns};
+ghost use Rattle.ion_text_in.specs.Gathered.{Continues, Gathers, passed, Overruns};
 
 use crate::blank::{pass_blanks, pass_white};
 use crate::quoted::{Quote, scan_text};
@@ -124,13 +123,11 @@ pub(crate) fn next_short_text<I: Input, A: Allocator + Copy>(
 ) -> Result<(), Fault>
     requires can_read { CanRead limits limits.scalar source.old text.old meter.old }
     requires short { (quote_of quote).is_long ≡ false }
-    ensures gives { I.observable source.old.device → Answers (λ _. text.new) result
-        (cursor I.Input source.new) place
-        (text_at (quote_of quote) (Some limits.scalar) (cursor I.Input source.old)) }
-    ensures reads { ReadsInto I.Input source.old source.new meter.old meter.new
-        (length text.old) (length text.new) limits.scalar result }
-    ensures goes { GrowsWithin meter.old meter.new (length text.old) (length text.new)
-        (8 * passed_over source.old source.new) }
+    ensures gives { I.observable source.old.device → Continues result place
+        (text_at (quote_of quote) (Some limits.scalar) (cursor I.Input source.old))
+        (λ _. Ok (text.new, cursor I.Input source.new)) }
+    ensures gathers { Gathers I.Input limits source.old source.new meter.old meter.new
+        text.old text.new result }
     ensures fresh { OnOk result (length text.new ≤ 8 * passed_over source.old source.new) }
 {
     text.clear(meter);
@@ -164,10 +161,8 @@ pub(crate) fn next_long_text<I: Input, A: Allocator + Copy>(
     ensures gives { I.observable source.old.device
         → Overruns (quote_of quote).in_clob text.new result (cursor I.Input source.new) place
         (text_at (quote_of quote) (Some limits.scalar) (cursor I.Input source.old)) }
-    ensures reads { ReadsInto I.Input source.old source.new meter.old meter.new
-        (length text.old) (length text.new) limits.scalar result }
-    ensures goes { GrowsWithin meter.old meter.new (length text.old) (length text.new)
-        (8 * passed_over source.old source.new) }
+    ensures gathers { Gathers I.Input limits source.old source.new meter.old meter.new
+        text.old text.new result }
 {
     text.clear(meter);
     'segments: loop {

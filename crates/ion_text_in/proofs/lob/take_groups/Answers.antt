@@ -22,18 +22,21 @@ returns-clause-gives g c = λ h.
     let limit = c.args.limits.scalar in
     let text : List ℕ = c.args.text.now in
     let fits : c.args.count ≤ length c.buffer.result.now = subst (λ (l : List ℕ). c.args.count ≤ length l) (sym c.buffer.ensures) c.requires.there in
-    let passed = turn g.I.Input s s t c.buffer.result.now c.args.count c.requires.can_take.stands (extends-not g.I.Input s) c.requires.can_take.stands.well (omega arith) c.buffer.ensures fits c.consume.ensures in
+    let passed = turn g.I.Input s s t c.buffer.result.now c.args.count c.requires.can_gather.stands (extends-not g.I.Input s) c.requires.can_gather.stands.well (omega arith) c.buffer.ensures fits c.consume.ensures in
     let long = length-take-le n c.decode.new.room d.within in
     let held = ap (λ (l : List ℕ). length l) c.as_slice.ensures in
     let free : passes (Some limit) (length text + length bytes) ≡ false =
-    le-ltb limit (length text + length bytes) (omega (arith, long, held, c.if-left-n.false, c.requires.can_take.share)) in
+    le-ltb limit (length text + length bytes) (omega (arith, long, held, c.if-left-n.false, c.requires.can_gather.grows.share)) in
     turn-then g.I.Input s t chars (with_groups_behind limit text false) (with_groups_behind limit (text ++ bytes) (is_padded (length bytes))) passed h
     (block-of limit text s.place chars bytes (left g.I.Input.rest t) d.some d.octets free)
     ∙ ap (λ (k : ℕ). with_groups_behind limit (text ++ bytes) (is_padded k) (cursor g.I.Input t)) long
     ∙ ap (λ (l : List ℕ). with_groups_behind limit l (is_padded n) (cursor g.I.Input t)) (sym c.in_ok-extend.ensures.ok)
 
-pub returns-clause-goes : goal.returns-clause-goes
-returns-clause-goes g c =
+pub consume-requires : goal.consume-requires
+consume-requires g c = grind (arith, common_steps)
+
+pub returns-clause-gathers : goal.returns-clause-gathers
+returns-clause-gathers g c =
     let n = c.in-Some.n in
     let d = c.in-Some.ensures in
     let fits : c.args.count ≤ length c.buffer.result.now = subst (λ (l : List ℕ). c.args.count ≤ length l) (sym c.buffer.ensures) c.requires.there in
@@ -41,19 +44,13 @@ returns-clause-goes g c =
     let long = length-take-le n c.decode.new.room d.within in
     let spelled = ap (λ (l : List ℕ). length l) d.some ∙ length-encode_of (take n c.decode.new.room) in
     let few : n ≤ c.args.count = omega (arith, chars, long, spelled) in
-    grind (arith, common_steps)
-
-pub consume-requires : goal.consume-requires
-consume-requires g c = grind (arith, common_steps)
-
-pub returns-clause-reads : goal.returns-clause-reads
-returns-clause-reads g c = grind (arith, common_steps)
+    record { reads = grind (arith, common_steps); goes = grind (arith, common_steps) }
 
 pub returns-clause-plain : goal.returns-clause-plain
 returns-clause-plain g c = grind (arith, common_steps)
 
-pub returns-in_default-clause-reads : goal.returns-in_default-clause-reads
-returns-in_default-clause-reads g c = grind (arith, common_steps)
+pub returns-in_default-clause-gathers : goal.returns-in_default-clause-gathers
+returns-in_default-clause-gathers g c = grind (arith, common_steps)
 
-pub returns-then-left-n-clause-reads : goal.returns-then-left-n-clause-reads
-returns-then-left-n-clause-reads g c = grind (arith, common_steps)
+pub returns-then-left-n-clause-gathers : goal.returns-then-left-n-clause-gathers
+returns-then-left-n-clause-gathers g c = grind (arith, common_steps)

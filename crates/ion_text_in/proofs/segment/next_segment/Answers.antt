@@ -1,12 +1,10 @@
-use Rattle.std.proofs.Common.{◌≡◌, ◌∙◌, ◌||◌, Bool, true, false, length, drop, refl, sym, arith}
-use Rattle.std.proofs.lemmas.Grind.{common_steps}
+use Rattle.std.proofs.Common.{◌≡◌, ◌∙◌, ◌||◌, Bool, true, false, length, drop, refl, sym}
 use Rattle.std.specs.Str.{is_utf8}
 use Rattle.ion_meter.specs.Sources.{cursor}
 use Rattle.ion_text_in.specs.Quotes.{quote_of}
-use Rattle.ion_text_in.specs.Gathered.{onward, with_segment}
 use Rattle.ion_text_in.proofs.Segments.{segment-err, segment-bad, segment-good}
 use Rattle.ion_text_in.proofs.Utf8.{is_utf8-behind}
-use Rattle.ion_value.proofs.Cursors.{answers-refused}
+use Rattle.ion_text_in.proofs.Gathering.{continues-err}
 use Rattle.ion_text_in.proofs.segment.next_segment.Goals.{else-not-in_clob-via-then-not-in_clob+else-not-is_text, else-not-in_clob-via-else-not-in_clob}
 use Rattle.ion_text_in.proofs.Holding.{handed-on}
 use Rattle.ion_text_in.proofs.segment.next_segment.Goals as goal
@@ -19,9 +17,8 @@ pub returns-in_err-gather_pieces-clause-gives : goal.returns-in_err-gather_piece
 returns-in_err-gather_pieces-clause-gives g c = λ h.
     let q = quote_of c.args.quote in
     let from = cursor g.I.Input c.args.source.now in
-    rw (handed-on c.from_residual.result c.in_err-gather_pieces.field-0.0 c.from_residual.ensures) (answers-refused {T = Unit {0}} {U = Unit {0}} (λ _. c.gather_pieces.new.text) (λ _. c.gather_pieces.new.text) _ (cursor g.I.Input c.gather_pieces.new.source) (cursor g.I.Input c.gather_pieces.new.source) c.args.place
-    (onward q c.args.limits.scalar c.args.text.now from) (with_segment q c.args.limits.scalar c.args.text.now from) (c.in_err-gather_pieces.ensures.gives h)
-    (λ e k. segment-err q c.args.limits.scalar c.args.text.now from e k))
+    rw (handed-on c.from_residual.result c.in_err-gather_pieces.field-0.0 c.from_residual.ensures) (continues-err _ _ c.in_err-gather_pieces.field-0.0 c.args.place
+    (λ e k. segment-err q c.args.limits.scalar c.args.text.now from e k) (c.in_err-gather_pieces.ensures.gives h))
 
 pub slice_bounds-is_text-count : goal.slice_bounds-is_text-count
 slice_bounds-is_text-count g c =
@@ -51,6 +48,3 @@ returns-clause-gives g c = λ h.
           let clob : q.in_clob ≡ true = sym c.in_clob.ensures ∙ w.if-not-in_clob.false in
           rw clob refl
     ])
-
-pub returns-then-not-is_text-clause-reads : goal.returns-then-not-is_text-clause-reads
-returns-then-not-is_text-clause-reads g c = grind (arith, common_steps)

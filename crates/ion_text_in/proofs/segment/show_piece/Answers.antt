@@ -1,7 +1,7 @@
-use Rattle.std.proofs.Common.{ℕ, ◌≤◌, List, length, subst, arith}
+use Rattle.std.proofs.Common.{ℕ, List, subst, arith}
 use Rattle.std.proofs.lemmas.Grind.{common_steps}
 use Rattle.ion_text_in.specs.Quotes.{quote_of}
-use Rattle.ion_text_in.specs.Pieces.{taken_of, ShowsPiece}
+use Rattle.ion_text_in.specs.Pieces.{ShowsPiece}
 use Rattle.ion_text_in.proofs.Looking.{piece-left}
 use Rattle.ion_text_in.proofs.segment.show_piece.Goals as goal
 
@@ -9,10 +9,6 @@ pub returns-in_default-clause-gives : goal.returns-in_default-clause-gives
 returns-in_default-clause-gives g c = λ h.
     let shows = subst (λ (l : List ℕ). ShowsPiece (quote_of c.args.quote) l c.quick_piece.result) c.buffer.ensures c.quick_piece.ensures.shows in
     piece-left g.I.Input.rest c.args.source.now (quote_of c.args.quote) c.quick_piece.result c.in_default.not-Cut shows
-
-pub returns-in_default-clause-there : goal.returns-in_default-clause-there
-returns-in_default-clause-there g c =
-    subst (λ (l : List ℕ). taken_of c.quick_piece.result ≤ length l) c.buffer.ensures c.quick_piece.ensures.there
 
 pub returns-in_default-clause-looks : goal.returns-in_default-clause-looks
 returns-in_default-clause-looks g c = grind (arith, common_steps) steps 400000

@@ -1,10 +1,11 @@
-use Rattle.std.proofs.Common.{ℕ, ◌≤◌, List, length, ap, subst, ◌∙◌, arith}
+use Rattle.std.proofs.Common.{ℕ, List, ap, subst, ◌∙◌, arith}
 use Rattle.std.proofs.lemmas.Grind.{common_steps}
 use Rattle.ion_text_in.specs.Quoted.{piece_at}
 use Rattle.ion_text_in.specs.Quotes.{quote_of}
-use Rattle.ion_text_in.specs.Pieces.{taken_of, ShowsPiece}
+use Rattle.ion_text_in.specs.Pieces.{piece_of, ShowsPiece}
+use Rattle.ion_text_in.specs.Scanning.{PieceTakes}
 use Rattle.ion_text_in.proofs.Looking.{piece-left, lent-all}
-use Rattle.ion_text_in.proofs.Taking.{taken-there, taken-some}
+use Rattle.ion_text_in.proofs.Taking.{piece-fits}
 use Rattle.ion_text_in.proofs.segment.show_slowly.Goals as goal
 
 pub returns-in_default-clause-gives : goal.returns-in_default-clause-gives
@@ -12,10 +13,6 @@ returns-in_default-clause-gives g c = λ h.
     let shows = subst (λ (l : List ℕ). ShowsPiece (quote_of c.args.quote) l c.scan_piece.result) c.buffer-bytes.ensures c.scan_piece.ensures.shows in
     piece-left g.I.Input.rest c.more.source (quote_of c.args.quote) c.scan_piece.result c.in_default.not-Cut shows
     ∙ ap (λ (l : List ℕ). piece_at (quote_of c.args.quote) l) (c.more.invariant.kept.same_left h)
-
-pub returns-in_default-clause-there : goal.returns-in_default-clause-there
-returns-in_default-clause-there g c =
-    subst (λ (l : List ℕ). taken_of c.scan_piece.result ≤ length l) c.buffer-bytes.ensures c.scan_piece.ensures.there
 
 pub returns-in_default-2-clause-gives : goal.returns-in_default-2-clause-gives
 returns-in_default-2-clause-gives g c = λ h.
@@ -28,12 +25,8 @@ returns-in_default-2-clause-gives g c = λ h.
     (c.buffer.ensures ∙ lent-all g.I.Input.rest g.I.Input.observable s t c.in_ok-peek.ensures.kept c.in_ok-peek.ensures.well.0 c.in_ok-peek.ensures.well.1 seen gives
     ∙ c.more.invariant.kept.same_left h)
 
-pub returns-in_default-2-clause-there : goal.returns-in_default-2-clause-there
-returns-in_default-2-clause-there g c =
-    subst (λ (l : List ℕ). taken_of c.last_piece.result ≤ length l) c.buffer.ensures (taken-there c.args.quote c.buffer.result.now c.last_piece.result c.last_piece.ensures)
-
-pub returns-in_default-2-clause-some : goal.returns-in_default-2-clause-some
-returns-in_default-2-clause-some g c = taken-some c.args.quote c.buffer.result.now c.last_piece.result c.last_piece.ensures
+pub returns-in_default-2-clause-takes : goal.returns-in_default-2-clause-takes
+returns-in_default-2-clause-takes g c = subst (λ (l : List ℕ). PieceTakes l (piece_of c.last_piece.result)) c.buffer.ensures (piece-fits c.args.quote c.buffer.result.now c.last_piece.result c.last_piece.ensures)
 
 pub more-preserved : goal.more-preserved
 more-preserved g c = grind (arith, common_steps)

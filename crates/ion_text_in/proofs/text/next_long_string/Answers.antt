@@ -29,7 +29,7 @@ returns-clause-gives g c = λ h.
 pub returns-clause-further : goal.returns-clause-further
 returns-clause-further g c = λ _.
     let passed = c.consume.ensures.place in
-    let further = c.next_long_text.ensures.reads.moves.further in
+    let further = c.next_long_text.ensures.gathers.reads.moves.further in
     on-ok c.next_long_text.result (omega (arith, passed, further))
 
 pub returns-clause-goes : goal.returns-clause-goes

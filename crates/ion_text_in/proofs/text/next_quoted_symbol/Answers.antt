@@ -1,36 +1,22 @@
 use Rattle.std.proofs.lemmas.Grind.{common_steps}
-use Rattle.std.proofs.Common.{◌≡◌, ℕ, ◌∙◌, List, Result, Some, true, sym, ap, subst, arith}
-use Rattle.ion_meter.specs.Sources.{Cursor, cursor}
-use Rattle.ion_meter.specs.declared.fault.Reason.{Reason}
-use Rattle.ion_value.specs.Answers.{Answers}
+use Rattle.std.proofs.Common.{ℕ, List, Some, true, arith}
 use Rattle.ion_value.specs.Value as value
-use Rattle.ion_value.proofs.Passing.{IsPassed-cursor}
-use Rattle.ion_text_in.specs.Quoted.{symbol_quote, text_at}
+use Rattle.ion_text_in.specs.Quoted.{symbol_quote}
 use Rattle.ion_text_in.specs.Token as tokens
-use Rattle.ion_text_in.specs.Token.{token_of}
-use Rattle.ion_text_in.proofs.TextTokens.{made, quoted-token, answers-made, given-lent}
+use Rattle.ion_text_in.proofs.TextTokens.{quoted-token, short-answers}
 use Rattle.ion_text_in.proofs.ShownFurther.{on-ok}
 use Rattle.ion_text_in.proofs.text.next_quoted_symbol.Goals as goal
 
 pub returns-clause-gives : goal.returns-clause-gives
-returns-clause-gives g c = λ h.
-    let s = c.args.source.now in
-    let t = c.advance.new.self in
-    let end = cursor g.I.Input c.next_short_text.new.source in
-    let token = (λ (l : List ℕ). tokens.name true (value.Text l)) in
-    let seen = subst g.I.Input.observable (sym c.advance.ensures.device) h in
-    let behind = IsPassed-cursor g.I.Input s t 1 (given-lent s 0 1 c.requires.can_read.stands.well c.requires.given (omega arith)) c.advance.ensures in
-    let from : made token (text_at (symbol_quote) (Some c.args.limits.scalar) (cursor g.I.Input t)) ≡ token_of (Some c.args.limits.scalar) tokens.a_quoted (cursor g.I.Input s) =
-    ap (λ (d : Cursor). made token (text_at (symbol_quote) (Some c.args.limits.scalar) d)) behind ∙ quoted-token (Some c.args.limits.scalar) (cursor g.I.Input s) in
-    let text = c.next_short_text.new.text in
-    subst (λ (o : Result (tokens.Token × Cursor) Reason). Answers {T = Unit {0}} (λ _. token text) c.next_short_text.result end s.place o) from
-    (answers-made token text c.next_short_text.result end s.place (text_at symbol_quote (Some c.args.limits.scalar) (cursor g.I.Input t))
-    (subst (λ (n : ℕ). Answers {T = Unit {0}} (λ _. text) c.next_short_text.result end n (text_at symbol_quote (Some c.args.limits.scalar) (cursor g.I.Input t))) c.place-place.ensures (c.next_short_text.ensures.gives seen)))
+returns-clause-gives g c =
+    short-answers g.I.Input c.args.source.now c.advance.new.self c.next_short_text.new.source symbol_quote (Some c.args.limits.scalar) (λ (l : List ℕ). tokens.name true (value.Text l)) tokens.a_quoted
+    c.next_short_text.new.text c.next_short_text.result c.place-place.result c.requires.can_read.stands.well c.requires.given c.advance.ensures c.place-place.ensures
+    (quoted-token (Some c.args.limits.scalar)) c.next_short_text.ensures.gives
 
 pub returns-clause-further : goal.returns-clause-further
 returns-clause-further g c = λ _.
     let passed = c.advance.ensures.place in
-    let further = c.next_short_text.ensures.reads.moves.further in
+    let further = c.next_short_text.ensures.gathers.reads.moves.further in
     on-ok c.next_short_text.result (omega (arith, passed, further))
 
 pub returns-clause-fresh : goal.returns-clause-fresh

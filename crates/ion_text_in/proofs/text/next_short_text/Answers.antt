@@ -2,7 +2,7 @@ use Rattle.std.proofs.Common.{◌≡◌, ℕ, ◌∙◌, ◌++◌, List, take, S
 use Rattle.std.proofs.lemmas.Grind.{common_steps}
 use Rattle.ion_meter.specs.Sources.{Cursor, cursor}
 use Rattle.ion_meter.specs.Windows.{lent}
-use Rattle.ion_value.specs.Answers.{Answers}
+use Rattle.ion_text_in.specs.Gathered.{Continues}
 use Rattle.ion_text_in.specs.declared.scanned.Scanned.TheVariants.{Whole, Fault}
 use Rattle.ion_text_in.specs.Quoted.{text_at}
 use Rattle.ion_text_in.specs.Quotes.{quote_of}
@@ -32,24 +32,21 @@ returns-in-Fault-clause-gives g c = λ h.
 
 pub returns-in-Cut-clause-gives : goal.returns-in-Cut-clause-gives
 returns-in-Cut-clause-gives g c = λ h.
-    subst (λ (o : Spelled). Answers {T = Unit {0}} (λ _. c.next_segment.new.text) c.next_segment.result (cursor g.I.Input c.next_segment.new.source) c.args.place o)
+    subst (λ (o : Spelled). Continues c.next_segment.result c.args.place o (λ _. Ok (c.next_segment.new.text, cursor g.I.Input c.next_segment.new.source)))
     (short-text (quote_of c.args.quote) c.args.limits.scalar c.clear.new.self (cursor g.I.Input c.args.source.now) c.requires.short c.clear.ensures.bytes)
     (c.next_segment.ensures.gives h)
 
 pub consume-requires : goal.consume-requires
 consume-requires g c = grind (arith, common_steps)
 
-pub returns-in-Cut-clause-reads : goal.returns-in-Cut-clause-reads
-returns-in-Cut-clause-reads g c = grind (arith, common_steps)
+pub returns-in-Cut-clause-gathers : goal.returns-in-Cut-clause-gathers
+returns-in-Cut-clause-gathers g c = grind (arith, common_steps)
 
-pub returns-in-Fault-clause-reads : goal.returns-in-Fault-clause-reads
-returns-in-Fault-clause-reads g c = grind (arith, common_steps)
+pub returns-in-Fault-clause-gathers : goal.returns-in-Fault-clause-gathers
+returns-in-Fault-clause-gathers g c = grind (arith, common_steps)
 
 pub returns-in_ok-extend-in-Whole-clause-fresh : goal.returns-in_ok-extend-in-Whole-clause-fresh
 returns-in_ok-extend-in-Whole-clause-fresh g c = grind (arith, common_steps)
 
-pub returns-in_ok-extend-in-Whole-clause-goes : goal.returns-in_ok-extend-in-Whole-clause-goes
-returns-in_ok-extend-in-Whole-clause-goes g c = grind (arith, common_steps)
-
-pub returns-in_ok-extend-in-Whole-clause-reads : goal.returns-in_ok-extend-in-Whole-clause-reads
-returns-in_ok-extend-in-Whole-clause-reads g c = grind (arith, common_steps)
+pub returns-in_ok-extend-in-Whole-clause-gathers : goal.returns-in_ok-extend-in-Whole-clause-gathers
+returns-in_ok-extend-in-Whole-clause-gathers g c = grind (arith, common_steps)

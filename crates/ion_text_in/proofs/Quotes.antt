@@ -1,12 +1,13 @@
 -- Quotes as the code has them, and runs of plain bytes.
-use Rattle.std.proofs.Common.{◌≡◌, ℕ, ◌+◌, Bool, true, ◌&&◌, List, [], ◌∷◌, ◌++◌, take, drop, refl, inl, inr, arith}
+use Rattle.std.proofs.Common.{◌≡◌, ℕ, ◌+◌, Bool, true, not, ◌&&◌, ◌||◌, ◌==◌, nat_le, nat_lt, List, [], ◌∷◌, ◌++◌, take, drop, refl, inl, inr, arith}
 use Rattle.std.proofs.lemmas.Bool.{cases_Bool}
 use Rattle.std.proofs.Math.Seq.{take-add}
-use Rattle.ion_value.specs.Digits.{first_is, all_are}
+use Rattle.ion_value.specs.Digits.{all_are}
+use Rattle.ion_value.specs.Name.{is_one_of}
 use Rattle.ion_text_in.specs.declared.quoted.Quote.{Quote as CodeQuote}
 use Rattle.ion_text_in.specs.declared.quoted.Quote.TheVariants as code
 use Rattle.ion_text_in.specs.Scanning.{IsQuote, is_plain_byte}
-use Rattle.ion_text_in.specs.Quotes.{quote_of, mark_of, one_mark}
+use Rattle.ion_text_in.specs.Quotes.{quote_of, mark_of}
 
 pub quote_of-is : (q : CodeQuote) → IsQuote (quote_of q)
 quote_of-is code.Symbol = (omega arith, omega arith)
@@ -16,20 +17,15 @@ quote_of-is code.Long = (omega arith, omega arith)
 quote_of-is code.LongClob = (omega arith, omega arith)
 
 -- which bytes are plain the first mark says
-pub plain-mark : (q : CodeQuote) (b : ℕ) → is_plain_byte (quote_of q) b ≡ is_plain_byte (one_mark (mark_of q) (quote_of q).is_long (quote_of q).in_clob) b
-plain-mark code.Symbol b = refl
-plain-mark code.Short b = refl
-plain-mark code.ShortClob b = refl
-plain-mark code.Long b = refl
-plain-mark code.LongClob b = refl
-
-pub all_are-same : (f g : ℕ → Bool) (xs : List ℕ) → ((b : ℕ) → f b ≡ g b) → all_are f xs ≡ all_are g xs
-all_are-same f g [] e = refl
-all_are-same f g (b ∷ xs) e = rw (e b, all_are-same f g xs e) refl
-
-pub first_is-same : (f g : ℕ → Bool) (xs : List ℕ) → ((b : ℕ) → f b ≡ g b) → first_is f xs ≡ first_is g xs
-first_is-same f g [] e = refl
-first_is-same f g (b ∷ xs) e = e b
+pub plain_mark : (q : CodeQuote) (b : ℕ)
+    → is_plain_byte (quote_of q) b
+    ≡ (not (mark_of q == b) && not (b == 92)
+    && (((nat_le 32 b || is_one_of (9 ∷ 11 ∷ 12 ∷ []) b) && (not (quote_of q).in_clob || nat_lt b 128)) || ((quote_of q).is_long && b == 10)))
+plain_mark code.Symbol b = refl
+plain_mark code.Short b = refl
+plain_mark code.ShortClob b = refl
+plain_mark code.Long b = refl
+plain_mark code.LongClob b = refl
 
 all-joined : (test : ℕ → Bool) (xs ys : List ℕ) → all_are test (xs ++ ys) ≡ (all_are test xs && all_are test ys)
 all-joined test [] ys = refl

@@ -1,5 +1,5 @@
 -- Quotes and pieces as the code has them.
-use Rattle.std.specs.Prelude.{◌≡◌, ℕ, ◌<◌, ◌≤◌, Bool, true, false, not, ◌&&◌, ◌||◌, ◌==◌, nat_le, nat_lt, List, [], ◌∷◌, length, take, drop, get_or}
+use Rattle.std.specs.Prelude.{◌≡◌, ℕ, ◌<◌, ◌≤◌, Bool, true, false, not, ◌&&◌, ◌||◌, ◌==◌, nat_le, nat_lt, List, length, take, drop, get_or}
 use Rattle.ion_value.specs.Digits.{first_is, all_are}
 use Rattle.ion_text_in.specs.declared.quoted.Quote.{Quote as CodeQuote}
 use Rattle.ion_text_in.specs.declared.quoted.Quote.TheVariants as code
@@ -25,11 +25,6 @@ mark_of code.Short = 34
 mark_of code.ShortClob = 34
 mark_of code.Long = 39
 mark_of code.LongClob = 39
-
--- quotes of which only the first byte is known, whether lines may end between them, and whether they are a clob's: enough to tell
--- plain bytes
-abbrev pub one_mark : ℕ → Bool → Bool → Quote
-one_mark mark lines in_clob = record { closer = mark ∷ []; is_long = lines; in_clob = in_clob }
 
 -- a byte that stands for itself between them, as few comparisons tell: none below the space is one, though a few stand for themselves
 abbrev pub is_sure : ℕ → Bool → ℕ → Bool

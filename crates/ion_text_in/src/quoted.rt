@@ -3,7 +3,7 @@ ghost use Rattle.std.specs.Prelude.{◌≡◌, ◌<◌, ◌≤◌, ◌↔◌, �
 ghost use Rattle.std.specs.Simd.Lanes.{mask_l};
 ghost use Rattle.ion_value.specs.Name.{is_one_of};
 ghost use Rattle.ion_value.specs.Digits.{first_is, all_are};
-ghost use Rattle.ion_text_in.specs.Quotes.{quote_of, mark_of, one_mark, is_sure, IsAsciiText, IsWithin, StopsBefore};
+ghost use Rattle.ion_text_in.specs.Quotes.{quote_of, mark_of, is_sure, IsAsciiText, IsWithin, StopsBefore};
 ghost use Rattle.ion_text_in.specs.Quoted.{text_at};
 ghost use Rattle.ion_text_in.specs.Scanners.{Shows};
 ghost use Rattle.ion_text_in.specs.Scanning.{is_plain_byte};
@@ -181,7 +181,6 @@ pub(crate) fn plain_length(quote: Quote, bytes: &[u8]) -> usize
     ensures ends { first_is (is_plain_byte (quote_of quote)) (drop result bytes.now) ≡ false }
 {
     let mark = quote.mark();
-    let lines = quote.is_long();
     let in_clob = quote.in_clob();
     let mut at = 0;
     'skip: while bytes.len() - at >= BLOCK {
@@ -190,13 +189,13 @@ pub(crate) fn plain_length(quote: Quote, bytes: &[u8]) -> usize
             at += BLOCK;
         } else {
             let next = at + suspects.trailing_zeros() as usize;
-            if !is_cleared(mark, lines, in_clob, bytes[next]) {
+            if !is_cleared(quote, bytes[next]) {
                 return next;
             }
             at = next + 1;
         }
     }
-    at + few_plain(mark, lines, in_clob, &bytes[at..])
+    at + few_plain(quote, &bytes[at..])
 }
 
 // Which of these bytes may stand for something else than themselves: a bit for each, the lowest for
@@ -217,27 +216,25 @@ fn suspects(mark: u8, in_clob: bool, bytes: u8x32) -> u64
 
 // Whether a byte that is suspect stands for itself all the same, as only bytes below the space do.
 #[inline(always)]
-fn is_cleared(mark: u8, lines: bool, in_clob: bool, byte: u8) -> bool
-    requires { is_sure mark in_clob byte ≡ false }
-    ensures { result ≡ is_plain_byte (one_mark mark lines in_clob) byte }
+fn is_cleared(quote: Quote, byte: u8) -> bool
+    requires { is_sure (mark_of quote) (quote_of quote).in_clob byte ≡ false }
+    ensures { result ≡ is_plain_byte (quote_of quote) byte }
 {
     if byte >= b' ' {
         return false;
     }
-    is_plain_alone(mark, lines, in_clob, byte)
+    is_plain_alone(quote, byte)
 }
 
 // How many bytes at the front of these are plain, one after the other.
 #[inline(always)]
-fn few_plain(mark: u8, lines: bool, in_clob: bool, bytes: &[u8]) -> usize
+fn few_plain(quote: Quote, bytes: &[u8]) -> usize
     ensures within { result ≤ length bytes.now }
-    ensures plain { all_are (is_plain_byte (one_mark mark lines in_clob))
-        (take result bytes.now) ≡ true }
-    ensures ends { first_is (is_plain_byte (one_mark mark lines in_clob))
-        (drop result bytes.now) ≡ false }
+    ensures plain { all_are (is_plain_byte (quote_of quote)) (take result bytes.now) ≡ true }
+    ensures ends { first_is (is_plain_byte (quote_of quote)) (drop result bytes.now) ≡ false }
 {
     for (i, byte) in bytes.iter().enumerate() {
-        if !is_plain_alone(mark, lines, in_clob, *byte) {
+        if !is_plain_alone(quote, *byte) {
             return i;
         }
     }
@@ -245,11 +242,13 @@ fn few_plain(mark: u8, lines: bool, in_clob: bool, bytes: &[u8]) -> usize
 }
 
 // Whether a byte stands for itself between such quotes, whatever follows it.
+#[tactic(auto, using(crate::proofs::Quotes::plain_mark))]
 #[inline(always)]
-fn is_plain_alone(mark: u8, lines: bool, in_clob: bool, byte: u8) -> bool
-    ensures { result ≡ is_plain_byte (one_mark mark lines in_clob) byte }
+fn is_plain_alone(quote: Quote, byte: u8) -> bool
+    ensures { result ≡ is_plain_byte (quote_of quote) byte }
 {
-    byte != mark && (is_written(byte) && (!in_clob || byte < 128) || lines && byte == b'\n')
+    let written = is_written(byte) && (!quote.in_clob() || byte < 128);
+    byte != quote.mark() && (written || quote.is_long() && byte == b'\n')
 }
 
 // Which bytes stand for themselves between quotes of another sort, where the text is no clob's.

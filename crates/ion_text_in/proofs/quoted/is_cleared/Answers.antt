@@ -3,4 +3,4 @@ use Rattle.ion_text_in.proofs.Suspects.{suspect-other}
 use Rattle.ion_text_in.proofs.quoted.is_cleared.Goals as goal
 
 pub returns-then-byte-ge32 : goal.returns-then-byte-ge32
-returns-then-byte-ge32 c = sym (suspect-other c.args.mark c.args.lines c.args.in_clob c.args.byte c.requires c.if-byte-ge32.true)
+returns-then-byte-ge32 c = sym (suspect-other c.args.quote c.args.byte c.requires c.if-byte-ge32.true)

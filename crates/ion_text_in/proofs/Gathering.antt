@@ -1,22 +1,16 @@
 -- A text that is gathered: the pieces behind what was read, and the calls that read them.
-use Rattle.std.proofs.Common.{◌≡◌, ℕ, ◌+◌, ◌<◌, ◌≤◌, Bool, true, false, List, ◌++◌, length, take, drop, None, Some, Result, Ok, Err, OnOk, OnErr, refl, sym, ap, subst, ◌∙◌, inl, inr, append_assoc, append-nil, arith}
+use Rattle.std.proofs.Common.{◌≡◌, ℕ, ◌+◌, ◌≤◌, Bool, true, false, List, ◌++◌, length, take, drop, Some, Result, Ok, Err, refl, sym, ap, subst, ◌∙◌, inl, inr, append_assoc, append-nil, arith}
 use Rattle.std.proofs.lemmas.List.{length-append, length-take-le, take-append-drop}
 use Rattle.std.proofs.lemmas.Bool.{cases_Bool, le-ltb}
 use Rattle.std.proofs.lemmas.Str.{length-encode, len_utf8_bounds}
-use Rattle.ion_meter.specs.Counts.{Counts}
-use Rattle.ion_meter.specs.declared.device.Input.{Ghosts as InputOf}
 use Rattle.ion_meter.specs.declared.fault.Fault.{Fault}
 use Rattle.ion_meter.specs.declared.fault.Fault.TheVariants.{Refused, Memory, ReadFault, WriteFault, InputLimit}
 use Rattle.ion_meter.specs.declared.fault.Reason.{Reason}
 use Rattle.ion_meter.specs.declared.fault.Reason.TheVariants.{ScalarLimit}
-use Rattle.ion_meter.specs.declared.limits.Limits.{Limits}
 use Rattle.ion_meter.specs.Sources.{Cursor, skip}
 use Rattle.ion_meter.specs.Windows.{Incoming, left, lent}
 use Rattle.ion_meter.proofs.Lent.{lent-take}
 use Rattle.ion_value.proofs.Passing.{lent-there}
-use Rattle.ion_value.specs.Calls.{Reads}
-use Rattle.ion_value.specs.Shares.{GrowsWithin, fault_of}
-use Rattle.ion_value.proofs.GrowsWithin.{grows-over, grows-on, grows-behind, grows-more}
 use Rattle.ion_value.specs.Digits.{all_are}
 use Rattle.ion_value.specs.Parts.{refuse, ◌>>◌}
 use Rattle.ion_text_in.specs.declared.piece.Piece.{Piece as CodePiece}
@@ -31,8 +25,7 @@ use Rattle.ion_text_in.proofs.Quotes.{quote_of-is}
 use Rattle.ion_text_in.specs.declared.piece.Meant.{Meant}
 use Rattle.ion_text_in.specs.declared.piece.Meant.TheVariants as meant
 use Rattle.ion_text_in.specs.Pieces.{piece_of, bytes_of, behind_piece, taken_of}
-use Rattle.ion_text_in.specs.Gathered.{Continues, Gathers, Puts, PutsOn, onward}
-use Rattle.ion_text_in.proofs.Holding.{Held, held-into, held-then, into-held, reads-held, reads-refused, grown-held}
+use Rattle.ion_text_in.specs.Gathered.{Continues, PutsOn, onward}
 use Rattle.ion_text_in.proofs.Fuel.{pieces-first}
 use Rattle.ion_text_in.proofs.Plain.{plain-spelled}
 
@@ -123,88 +116,3 @@ continues-puts (Err Memory) old new bytes limit place on h = tt
 continues-puts (Err ReadFault) old new bytes limit place on h = tt
 continues-puts (Err WriteFault) old new bytes limit place on h = tt
 continues-puts (Err InputLimit) old new bytes limit place on h = tt
-
--- ---- calls one after the other
-
--- calls that went well so far: what reading gives from before them is what it gives from behind them
-pub record Goes {I A : Type 0} (device : InputOf I) (limits : Limits) (old new : Incoming I) (earlier later : Counts) (before after : List ℕ) (given left : Result A Reason) : Type 0 where
-  pub holds : length before ≤ earlier.held
-  pub gathers : Gathers {T = Unit {0}} device limits old new earlier later before after (Ok tt)
-  pub same : device.observable old.device → given ≡ left
-
-pub goes-seen : {I A : Type 0} {device : InputOf I} {limits : Limits} {s t : Incoming I} {a b : Counts} {k l : List ℕ} {given mid : Result A Reason} → Goes device limits s t a b k l given mid
-    → device.observable s.device → device.observable t.device
-goes-seen x h = x.gathers.reads.moves.still_observable.1 h
-
--- what the next call answers
-pub goes-gives : {I T A : Type 0} {device : InputOf I} {limits : Limits} {s t : Incoming I} {a b : Counts} {k l : List ℕ} {given mid : Result A Reason} (r : Result T Fault) (place : ℕ) (after : T → Result A Reason)
-    → Goes device limits s t a b k l given mid → (device.observable t.device → Continues r place mid after) → device.observable s.device → Continues r place given after
-goes-gives r place after x gives h = subst (λ o. Continues r place o after) (sym (x.same h)) (gives (goes-seen x h))
-
-held-so : {I A : Type 0} (device : InputOf I) (limits : Limits) (s t : Incoming I) (a b : Counts) (k l : List ℕ) (given mid : Result A Reason) → Goes device limits s t a b k l given mid
-    → Held device s t a b (length k) (length l) limits.scalar None
-held-so device limits s t a b k l given mid x = into-held device s t a b (length k) (length l) limits.scalar (Ok tt) x.gathers.reads
-
--- a refusal behind them
-pub goes-refused : {I T A : Type 0} {device : InputOf I} {limits : Limits} {s t : Incoming I} {a b : Counts} {k l : List ℕ} {given mid : Result A Reason} {reason : Reason} {place : ℕ} → Goes device limits s t a b k l given mid
-    → Gathers {T = T} device limits s t a b k l (Err (Refused reason place))
-goes-refused {device = device} {limits} {s} {t} {a} {b} {k} {l} {given} {mid} {reason} {place} x =
-    record { reads = reads-refused device s t a b (length k) (length l) limits.scalar reason place (held-so device limits s t a b k l given mid x); goes = x.gathers.goes }
-
--- a call that reads into the text
-pub goes-gathers : {I T A : Type 0} {device : InputOf I} {limits : Limits} {s t u : Incoming I} {a b c : Counts} {k l n : List ℕ} {given mid : Result A Reason} {r : Result T Fault}
-    → Goes device limits s t a b k l given mid → Gathers device limits t u b c l n r → Gathers device limits s u a c k n r
-goes-gathers {device = device} {limits} {s} {t} {u} {a} {b} {c} {k} {l} {n} {given} {mid} {r} x y = record {
-  reads = held-into device s u a c (length k) (length n) limits.scalar r
-      (held-then device s t u a b c (length k) (length l) (length n) limits.scalar (fault_of r) x.holds (held-so device limits s t a b k l given mid x)
-      (into-held device t u b c (length l) (length n) limits.scalar r y.reads));
-  goes = grows-over device s t u a b c (length k) (length l) (length n) x.gathers.reads.charges.held x.gathers.reads.moves y.reads.moves x.gathers.goes y.goes;
-}
-
--- one that takes no memory
-pub goes-reads : {I T A : Type 0} {device : InputOf I} {limits : Limits} {s t u : Incoming I} {a b : Counts} {k l : List ℕ} {given mid : Result A Reason} {r : Result T Fault}
-    → Goes device limits s t a b k l given mid → Reads device t u r → Gathers device limits s u a b k l r
-goes-reads {device = device} {limits} {s} {t} {u} {a} {b} {k} {l} {given} {mid} {r} x y =
-    let held = x.gathers.reads.charges.held in let holds = x.holds in
-    record {
-      reads = held-into device s u a b (length k) (length l) limits.scalar r
-          (held-then device s t u a b b (length k) (length l) (length l) limits.scalar (fault_of r) x.holds (held-so device limits s t a b k l given mid x)
-          (reads-held device t u b (length l) limits.scalar r x.gathers.reads.charges.share (omega (arith, held, holds)) y));
-      goes = grows-on device s t u a b (length k) (length l) x.gathers.reads.moves y.moves x.gathers.goes;
-    }
-
--- and one that puts a few bytes behind it, where one was passed over
-pub goes-puts : {I T U A : Type 0} {device : InputOf I} {limits : Limits} {s t u : Incoming I} {a b c : Counts} {k l n bytes : List ℕ} {place : ℕ} {given mid : Result A Reason} {v : T} (r : Result U Fault)
-    → Goes device limits s t a b k l given mid → Reads device t u (Ok v) → t.place < u.place → length bytes ≤ 8 → Puts limits b c l n bytes place r → Gathers device limits s u a c k n r
-goes-puts {U = U} {device = device} {limits} {s} {t} {u} {a} {b} {c} {k} {l} {n} {bytes} {given = given} {mid} r x y some few z = record {
-  reads = held-into device s u a c (length k) (length n) limits.scalar r
-      (held-then device s u u a b c (length k) (length l) (length n) limits.scalar (fault_of r) x.holds
-      (into-held device s u a b (length k) (length l) limits.scalar (Ok _) (goes-reads x y).reads)
-      (grown-held device u b c (length l) (length n) limits.scalar (fault_of r) y.stands z.grown));
-  goes =
-      let limit = y.moves.limit in let within = y.stands.within in
-      grows-behind device s t u a b c (length k) (length l) (length n) 8 x.gathers.reads.charges.held x.gathers.reads.moves y.moves (omega (arith, some, limit, within)) (omega arith) x.gathers.goes (by r z.goes z.still);
-}
-  where
-    by : (r : Result U Fault) → OnOk r (GrowsWithin b c (length l) (length n) (length bytes)) → OnErr r (GrowsWithin b c (length l) (length n) 0) → GrowsWithin b c (length l) (length n) 8
-    by (Ok x) goes still = grows-more b c (length l) (length n) (length bytes) 8 few goes
-    by (Err f) goes still = grows-more b c (length l) (length n) 0 8 (omega arith) still
-
--- what is held by how a call ended
-pub gathers-ok : {I T U : Type 0} {device : InputOf I} {limits : Limits} {s t : Incoming I} {a b : Counts} {k l : List ℕ} {v : T} {w : U} → Gathers device limits s t a b k l (Ok v) → Gathers device limits s t a b k l (Ok w)
-gathers-ok x = record { reads = record { stands = x.reads.stands; moves = x.reads.moves; causes = x.reads.causes; charges = x.reads.charges }; goes = x.goes }
-
-pub gathers-err : {I T U : Type 0} {device : InputOf I} {limits : Limits} {s t : Incoming I} {a b : Counts} {k l : List ℕ} {f : Fault} → Gathers {T = T} device limits s t a b k l (Err f) → Gathers {T = U} device limits s t a b k l (Err f)
-gathers-err x = record { reads = record { stands = x.reads.stands; moves = x.reads.moves; causes = x.reads.causes; charges = x.reads.charges }; goes = x.goes }
-
-pub goes-then : {I T A : Type 0} {device : InputOf I} {limits : Limits} {s t : Incoming I} {a b : Counts} {k l : List ℕ} {given left : Result A Reason} {v : T} → length k ≤ a.held
-    → Gathers device limits s t a b k l (Ok v) → (device.observable s.device → given ≡ left) → Goes device limits s t a b k l given left
-goes-then holds x same = record { holds = holds; gathers = gathers-ok x; same = same }
-
-pub goes-over : {I T A : Type 0} {device : InputOf I} {limits : Limits} {s t u : Incoming I} {a b c : Counts} {k l n : List ℕ} {given mid left : Result A Reason} {v : T} → Goes device limits s t a b k l given mid
-    → Gathers device limits t u b c l n (Ok v) → (device.observable t.device → mid ≡ left) → Goes device limits s u a c k n given left
-goes-over x y same = goes-then x.holds (goes-gathers x y) (λ h. x.same h ∙ same (goes-seen x h))
-
-pub goes-on : {I T A : Type 0} {device : InputOf I} {limits : Limits} {s t u : Incoming I} {a b : Counts} {k l : List ℕ} {given mid left : Result A Reason} {v : T} → Goes device limits s t a b k l given mid
-    → Reads device t u (Ok v) → (device.observable t.device → mid ≡ left) → Goes device limits s u a b k l given left
-goes-on x y same = goes-then x.holds (goes-reads x y) (λ h. x.same h ∙ same (goes-seen x h))

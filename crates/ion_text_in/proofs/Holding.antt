@@ -1,18 +1,16 @@
 -- Calls that read into a text one after the other: what they hold, and the causes of their faults.
-use Rattle.std.proofs.Common.{◌≡◌, ℕ, ◌+◌, ◌≤◌, List, length, Option, Some, None, Result, Ok, Err, refl, ap, ◌∙◌, arith}
+use Rattle.std.proofs.Common.{◌≡◌, ℕ, ◌+◌, ◌≤◌, Option, Some, None, Result, Ok, Err, refl, ap, ◌∙◌, arith}
 use Rattle.std.specs.Result.{IsErr, IsErrAnd}
 use Rattle.ion_meter.specs.Counts.{Counts}
 use Rattle.ion_meter.specs.declared.device.Input.{Ghosts as InputOf}
 use Rattle.ion_meter.specs.declared.fault.Fault.{Fault}
 use Rattle.ion_meter.specs.declared.fault.Fault.TheVariants.{Refused}
 use Rattle.ion_meter.specs.declared.fault.Reason.{Reason}
-use Rattle.ion_meter.specs.declared.limits.Limits.{Limits}
 use Rattle.ion_meter.specs.Windows.{Incoming}
 use Rattle.ion_meter.specs.Sources.{Exceeds, Stands, Moves, Causes}
-use Rattle.ion_value.specs.Calls.{CanRead, Reads, ReadsInto}
+use Rattle.ion_value.specs.Calls.{Reads, ReadsInto}
 use Rattle.ion_value.specs.Shares.{Charges, ReadCauses, fault_of}
 use Rattle.ion_value.proofs.Cursors.{moves-not, moves-then}
-use Rattle.ion_text_in.specs.Gathered.{CanGrow, CanGather, Grown}
 
 -- what calls did so far, or all of them with the last one's fault
 pub record Held {I : Type 0} (device : InputOf I) (old new : Incoming I) (earlier later : Counts) (before after most : ℕ) (fault : Option Fault) : Type 0 where
@@ -127,45 +125,3 @@ reads-held device s t m n most (Err f) le there h = record {
   causes = causes-held (Some f) m _ _ _ h.causes;
   charges = charges-none m n most le there;
 }
-
--- one that reads nothing
-pub grown-held : {I : Type 0} (device : InputOf I) (s : Incoming I) (a b : Counts) (k l most : ℕ) (fault : Option Fault) → Stands s → Grown a b k l most fault → Held device s s a b k l most fault
-grown-held device s a b k l most fault stands g = record {
-  stands = λ _. stands;
-  moves = moves-not device s;
-  causes = record {
-    memory = g.memory;
-    counted = g.counted;
-    device = λ e. absurd (g.no_reads e);
-    steady = λ _. refl;
-    limit = λ e. absurd (g.no_limit e);
-    no_writes = g.no_writes;
-  };
-  charges = g.charges;
-}
-
--- ---- what the next call may do
-
-pub can-grow : (limits : Limits) (text new : List ℕ) (a b : Counts) → CanGrow limits text a → Charges a b (length text) (length new) limits.scalar → b.refused ≡ a.refused → CanGrow limits new b
-can-grow limits text new a b can charges still =
-    let holds = can.holds in let room = can.room in let held = charges.held in let countable = can.countable in
-    record {
-      holds = omega (arith, holds, held);
-      room = omega (arith, holds, room, held);
-      countable = omega (arith, countable, still);
-      checked = can.checked;
-      share = charges.share;
-    }
-
-pub held-can : {I : Type 0} (device : InputOf I) (limits : Limits) (s t : Incoming I) (text new : List ℕ) (a b : Counts) → CanGather limits s text a
-    → Held device s t a b (length text) (length new) limits.scalar None → CanGather limits t new b
-held-can device limits s t text new a b can held =
-    record { stands = held.stands refl; grows = can-grow limits text new a b can.grows held.charges (held.causes.counted (λ e. cc e)) }
-
-pub read-can : {I : Type 0} (limits : Limits) (s : Incoming I) (text : List ℕ) (m : Counts) → CanRead limits limits.scalar s text m → CanGather limits s text m
-read-can limits s text m can =
-    let room = can.room in
-    record {
-      stands = can.stands;
-      grows = record { holds = can.holds; room = omega (arith, room); countable = can.countable; checked = can.checked; share = can.share };
-    }

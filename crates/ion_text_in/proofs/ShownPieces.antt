@@ -3,7 +3,7 @@ use Rattle.std.proofs.Common.{◌≡◌, ℕ, zero, suc, ◌+◌, ◌*◌, ◌�
 use Rattle.ion_value.specs.Digits.{is_between, is_hex_digit, digit_value}
 use Rattle.ion_value.specs.Name.{begins_with}
 use Rattle.ion_text_in.specs.Quoted as quoted
-use Rattle.ion_text_in.specs.Quoted.{Quote, Piece, char, close, illegal, cut, Hex, number, no_digit, cut_digits, hex_behind, piece_at, with_piece}
+use Rattle.ion_text_in.specs.Quoted.{Quote, Piece, char, close, illegal, cut, Hex, number, no_digit, cut_digits, hex_behind, piece_at}
 use Rattle.ion_text_in.specs.Scanning.{IsQuote}
 
 -- ---- what more bytes may change
@@ -14,22 +14,20 @@ prefix-shown [] bytes more le = refl
 prefix-shown (c ∷ cs) [] more le = absurd (omega (arith, le))
 prefix-shown (c ∷ cs) (b ∷ bytes) more le = ap (λ (others : Bool). (c == b) && others) (prefix-shown cs bytes more (omega (arith, le)))
 
--- a piece that is not cut stays as it is
-abbrev pub Same : Piece → Piece → Type 0
-Same (char bytes taken) long = long ≡ char bytes taken
-Same (close taken) long = long ≡ close taken
-Same illegal long = long ≡ illegal
-Same cut long = Unit {0}
+-- not cut by the slice's end
+abbrev pub IsWhole : Piece → Type 0
+IsWhole (char bytes taken) = Unit {0}
+IsWhole (close taken) = Unit {0}
+IsWhole illegal = Unit {0}
+IsWhole cut = ⊥
 
-same-eq : (x u : Piece) → u ≡ x → Same x u
-same-eq (char bytes taken) u e = e
-same-eq (close taken) u e = e
-same-eq illegal u e = e
-same-eq cut u e = tt
+-- a whole piece stays as it is
+abbrev Kept : Piece → Piece → Type 0
+Kept x u = IsWhole x → u ≡ x
 
-same-if : (b : Bool) (x y u v : Piece) → Same x u → Same y v → Same (if b then x else y) (if b then u else v)
-same-if true x y u v sx sy = sx
-same-if false x y u v sx sy = sy
+kept-if : (b : Bool) (x y u v : Piece) → (b ≡ true → Kept x u) → (b ≡ false → Kept y v) → Kept (if b then x else y) (if b then u else v)
+kept-if true x y u v kx ky = kx refl
+kept-if false x y u v kx ky = ky refl
 
 -- digits
 abbrev SameHex : List ℕ → Hex → Hex → Type 0
@@ -48,91 +46,91 @@ hex-same (suc k) n [] more = tt
 hex-same (suc k) n (b ∷ bytes) more =
     hex-either more (is_hex_digit b) (hex_behind k (16 * n + digit_value b) bytes) (hex_behind k (16 * n + digit_value b) (bytes ++ more)) (hex-same k (16 * n + digit_value b) bytes more)
 
-low-same : (high : ℕ) (more : List ℕ) (h long : Hex) → SameHex more h long → Same (quoted.low_half high h) (quoted.low_half high long)
-low-same high more (number low behind) long e = same-eq _ _ (ap (quoted.low_half high) e)
-low-same high more no_digit long e = ap (quoted.low_half high) e
-low-same high more cut_digits long e = tt
+low-kept : (high : ℕ) (more : List ℕ) (h long : Hex) → SameHex more h long → Kept (quoted.low_half high h) (quoted.low_half high long)
+low-kept high more (number low behind) long e w = ap (quoted.low_half high) e
+low-kept high more no_digit long e w = ap (quoted.low_half high) e
+low-kept high more cut_digits long e w = absurd w
 
-behind-same : (high : ℕ) (behind more : List ℕ) → Same (quoted.low_behind high behind) (quoted.low_behind high (behind ++ more))
-behind-same high [] more = tt
-behind-same high (b ∷ []) [] = same-eq _ _ refl
-behind-same high (b ∷ []) (c ∷ more) = from (b == 92)
+behind-kept : (high : ℕ) (behind more : List ℕ) → Kept (quoted.low_behind high behind) (quoted.low_behind high (behind ++ more))
+behind-kept high [] more w = absurd w
+behind-kept high (b ∷ []) [] w = refl
+behind-kept high (b ∷ []) (c ∷ more) w = from (b == 92) w
   where
-    from : (escapes : Bool) → Same (if escapes then cut else illegal) (if escapes && c == 117 then quoted.low_half high (hex_behind 4 0 more) else illegal)
-    from true = tt
-    from false = refl
-behind-same high (b ∷ c ∷ bytes) more =
-    same-if (b == 92 && c == 117) _ _ _ _ (low-same high more (hex_behind 4 0 bytes) (hex_behind 4 0 (bytes ++ more)) (hex-same 4 0 bytes more)) refl
+    from : (escapes : Bool) → Kept (if escapes then cut else illegal) (if escapes && c == 117 then quoted.low_half high (hex_behind 4 0 more) else illegal)
+    from true w = absurd w
+    from false w = refl
+behind-kept high (b ∷ c ∷ bytes) more w =
+    kept-if (b == 92 && c == 117) _ _ _ _ (λ _. low-kept high more (hex_behind 4 0 bytes) (hex_behind 4 0 (bytes ++ more)) (hex-same 4 0 bytes more)) (λ _ w. refl) w
 
-byte-same : (in_clob : Bool) (more : List ℕ) (h long : Hex) → SameHex more h long → Same (quoted.byte_code in_clob h) (quoted.byte_code in_clob long)
-byte-same true more (number n behind) long e = ap (quoted.byte_code true) e
-byte-same false more (number n behind) long e = same-eq _ _ (ap (quoted.byte_code false) e)
-byte-same true more no_digit long e = ap (quoted.byte_code true) e
-byte-same false more no_digit long e = ap (quoted.byte_code false) e
-byte-same true more cut_digits long e = tt
-byte-same false more cut_digits long e = tt
+byte-kept : (in_clob : Bool) (more : List ℕ) (h long : Hex) → SameHex more h long → Kept (quoted.byte_code in_clob h) (quoted.byte_code in_clob long)
+byte-kept in_clob more (number n behind) long e w = ap (quoted.byte_code in_clob) e ∙ by in_clob
+  where
+    by : (in_clob : Bool) → quoted.byte_code in_clob (number n (behind ++ more)) ≡ quoted.byte_code in_clob (number n behind)
+    by true = refl
+    by false = refl
+byte-kept in_clob more no_digit long e w = ap (quoted.byte_code in_clob) e
+byte-kept true more cut_digits long e w = absurd w
+byte-kept false more cut_digits long e w = absurd w
 
-by-same : (x u v : Piece) → u ≡ v → Same x v → Same x u
-by-same (char bytes taken) u v e s = e ∙ s
-by-same (close taken) u v e s = e ∙ s
-by-same illegal u v e s = e ∙ s
-by-same cut u v e s = tt
+short_code-kept : (more : List ℕ) (h long : Hex) → SameHex more h long → Kept (quoted.short_code h) (quoted.short_code long)
+short_code-kept more (number n behind) long e w =
+    ap quoted.short_code e
+    ∙ kept-if (quoted.is_high_surrogate n) (quoted.low_behind n behind) (quoted.by_code n 6) (quoted.low_behind n (behind ++ more)) (quoted.by_code n 6) (λ _. behind-kept n behind more) (λ _ w. refl) w
+short_code-kept more no_digit long e w = ap quoted.short_code e
+short_code-kept more cut_digits long e w = absurd w
 
-short_code-same : (more : List ℕ) (h long : Hex) → SameHex more h long → Same (quoted.short_code h) (quoted.short_code long)
-short_code-same more (number n behind) long e =
-    by-same (quoted.short_code (number n behind)) _ _ (ap quoted.short_code e)
-    (same-if (quoted.is_high_surrogate n) (quoted.low_behind n behind) (quoted.by_code n 6) (quoted.low_behind n (behind ++ more)) (quoted.by_code n 6) (behind-same n behind more) (same-eq _ _ refl))
-short_code-same more no_digit long e = ap quoted.short_code e
-short_code-same more cut_digits long e = tt
+long_code-kept : (more : List ℕ) (h long : Hex) → SameHex more h long → Kept (quoted.long_code h) (quoted.long_code long)
+long_code-kept more (number n behind) long e w = ap quoted.long_code e
+long_code-kept more no_digit long e w = ap quoted.long_code e
+long_code-kept more cut_digits long e w = absurd w
 
-long_code-same : (more : List ℕ) (h long : Hex) → SameHex more h long → Same (quoted.long_code h) (quoted.long_code long)
-long_code-same more (number n behind) long e = same-eq _ _ (ap quoted.long_code e)
-long_code-same more no_digit long e = ap quoted.long_code e
-long_code-same more cut_digits long e = tt
+coded-kept : (in_clob : Bool) (e : ℕ) (bytes more : List ℕ) → Kept (quoted.coded in_clob e bytes) (quoted.coded in_clob e (bytes ++ more))
+coded-kept in_clob e bytes more =
+    kept-if (e == 120) _ _ _ _ (λ _. byte-kept in_clob more (hex_behind 2 0 bytes) (hex_behind 2 0 (bytes ++ more)) (hex-same 2 0 bytes more))
+    (λ _. kept-if in_clob illegal _ illegal _ (λ _ w. refl)
+    (λ _. kept-if (e == 117) _ _ _ _ (λ _. short_code-kept more (hex_behind 4 0 bytes) (hex_behind 4 0 (bytes ++ more)) (hex-same 4 0 bytes more))
+    (λ _. kept-if (e == 85) _ _ _ _ (λ _. long_code-kept more (hex_behind 8 0 bytes) (hex_behind 8 0 (bytes ++ more)) (hex-same 8 0 bytes more)) (λ _ w. refl))))
 
-coded-same : (in_clob : Bool) (e : ℕ) (bytes more : List ℕ) → Same (quoted.coded in_clob e bytes) (quoted.coded in_clob e (bytes ++ more))
-coded-same in_clob e bytes more =
-    same-if (e == 120) _ _ _ _ (byte-same in_clob more (hex_behind 2 0 bytes) (hex_behind 2 0 (bytes ++ more)) (hex-same 2 0 bytes more))
-    (same-if in_clob illegal _ illegal _ refl
-    (same-if (e == 117) _ _ _ _ (short_code-same more (hex_behind 4 0 bytes) (hex_behind 4 0 (bytes ++ more)) (hex-same 4 0 bytes more))
-    (same-if (e == 85) _ _ _ _ (long_code-same more (hex_behind 8 0 bytes) (hex_behind 8 0 (bytes ++ more)) (hex-same 8 0 bytes more)) refl)))
+letter-kept : (in_clob : Bool) (e : ℕ) (bytes more : List ℕ) (o : Option ℕ) → Kept (quoted.by_letter o in_clob e bytes) (quoted.by_letter o in_clob e (bytes ++ more))
+letter-kept in_clob e bytes more (Some c) w = refl
+letter-kept in_clob e bytes more None w = coded-kept in_clob e bytes more w
 
-letter-same : (in_clob : Bool) (e : ℕ) (bytes more : List ℕ) (o : Option ℕ) → Same (quoted.by_letter o in_clob e bytes) (quoted.by_letter o in_clob e (bytes ++ more))
-letter-same in_clob e bytes more (Some c) = refl
-letter-same in_clob e bytes more None = coded-same in_clob e bytes more
+-- no CR stands last
+abbrev pub NoEnd : ℕ → List ℕ → Type 0
+NoEnd b bytes = bytes ≡ [] → (b == 13) ≡ false
 
-piece-same : (q : Quote) (a b c : ℕ) (bytes more : List ℕ) → IsQuote q → Same (piece_at q (a ∷ b ∷ c ∷ bytes)) (piece_at q (a ∷ b ∷ c ∷ (bytes ++ more)))
-unfolding piece_at
-piece-same q a b c bytes more is =
-    by-same (piece_at q (a ∷ b ∷ c ∷ bytes)) _ _
-    (ap (λ (closes : Bool). if closes then close (length q.closer)
-    else (if a == 92 then quoted.escape q.in_clob (b ∷ c ∷ (bytes ++ more)) else quoted.raw q a (b ∷ c ∷ (bytes ++ more)))) (prefix-shown q.closer (a ∷ b ∷ c ∷ bytes) more (omega (arith, is.1))))
-    (same-if (begins_with q.closer (a ∷ b ∷ c ∷ bytes)) _ _ _ _ refl
-    (same-if (a == 92) _ _ _ _
-    (same-if (b == 10 || b == 13) _ _ _ _ refl (letter-same q.in_clob b (c ∷ bytes) more (quoted.letter b)))
-    (same-eq _ _ refl)))
+line_end-kept : (b : ℕ) (bytes more : List ℕ) → NoEnd b bytes → quoted.line_end_length b (bytes ++ more) ≡ quoted.line_end_length b bytes
+line_end-kept b [] more none = rw (none refl) refl
+line_end-kept b (c ∷ bytes) more none = refl
+
+pub escape-kept : (in_clob : Bool) (e : ℕ) (bytes more : List ℕ) → NoEnd e bytes → Kept (quoted.escape in_clob (e ∷ bytes)) (quoted.escape in_clob (e ∷ (bytes ++ more)))
+escape-kept in_clob e bytes more none =
+    kept-if (e == 10 || e == 13) _ _ _ _ (λ _ w. ap (λ (n : ℕ). char [] (1 + n)) (line_end-kept e bytes more none)) (λ _. letter-kept in_clob e bytes more (quoted.letter e))
+
+raw-kept : (q : Quote) (b : ℕ) (bytes more : List ℕ) → (q.is_long ≡ true → NoEnd b bytes) → quoted.raw q b (bytes ++ more) ≡ quoted.raw q b bytes
+raw-kept q b bytes more none = from q.is_long refl
+  where
+    from : (long : Bool) → q.is_long ≡ long
+        → (if long && (b == 10 || b == 13) then char (10 ∷ []) (quoted.line_end_length b (bytes ++ more)) else (if quoted.is_raw q b then char (b ∷ []) 1 else illegal))
+        ≡ (if long && (b == 10 || b == 13) then char (10 ∷ []) (quoted.line_end_length b bytes) else (if quoted.is_raw q b then char (b ∷ []) 1 else illegal))
+    from true e = ap (λ (n : ℕ). if b == 10 || b == 13 then char (10 ∷ []) n else (if quoted.is_raw q b then char (b ∷ []) 1 else illegal)) (line_end-kept b bytes more (none e))
+    from false e = refl
 
 -- ---- pieces
 
--- not cut by the slice's end
-abbrev pub IsWhole : Piece → Type 0
-IsWhole (char bytes taken) = Unit {0}
-IsWhole (close taken) = Unit {0}
-IsWhole illegal = Unit {0}
-IsWhole cut = ⊥
+pub piece-kept : (q : Quote) (a : ℕ) (bytes more : List ℕ) → begins_with q.closer (a ∷ (bytes ++ more)) ≡ begins_with q.closer (a ∷ bytes)
+    → ((a == 92) ≡ true → Kept (quoted.escape q.in_clob bytes) (quoted.escape q.in_clob (bytes ++ more))) → (q.is_long ≡ true → NoEnd a bytes) → Kept (piece_at q (a ∷ bytes)) (piece_at q (a ∷ (bytes ++ more)))
+unfolding piece_at
+piece-kept q a bytes more closer escapes line w =
+    ap (λ (closes : Bool). if closes then close (length q.closer) else (if a == 92 then quoted.escape q.in_clob (bytes ++ more) else quoted.raw q a (bytes ++ more))) closer
+    ∙ kept-if (begins_with q.closer (a ∷ bytes)) _ _ _ _ (λ _ w. refl) (λ _. kept-if (a == 92) _ _ _ _ escapes (λ _ w. raw-kept q a bytes more line)) w
 
-whole-same : (x u : Piece) → IsWhole x → Same x u → u ≡ x
-whole-same (char bytes taken) u whole s = s
-whole-same (close taken) u whole s = s
-whole-same illegal u whole s = s
-whole-same cut u whole s = absurd whole
+-- where three bytes are shown: closing quotes, or an escaped CR before LF
+pub piece-shown : (q : Quote) (a b c : ℕ) (bytes more : List ℕ) → IsQuote q → Kept (piece_at q (a ∷ b ∷ c ∷ bytes)) (piece_at q (a ∷ b ∷ c ∷ (bytes ++ more)))
+piece-shown q a b c bytes more is =
+    piece-kept q a (b ∷ c ∷ bytes) more (prefix-shown q.closer (a ∷ b ∷ c ∷ bytes) more (omega (arith, is.1))) (λ _. escape-kept q.in_clob b (c ∷ bytes) more (λ e. absurd (cc e))) (λ _ e. absurd (cc e))
 
--- a piece that is not cut, where three bytes are shown: closing quotes, or an escaped CR before LF
-pub piece-shown : (q : Quote) (bytes more : List ℕ) → IsQuote q → 3 ≤ length bytes → IsWhole (piece_at q bytes) → piece_at q (bytes ++ more) ≡ piece_at q bytes
-piece-shown q [] more is le whole = absurd (omega (arith, le))
-piece-shown q (a ∷ []) more is le whole = absurd (omega (arith, le))
-piece-shown q (a ∷ b ∷ []) more is le whole = absurd (omega (arith, le))
-piece-shown q (a ∷ b ∷ c ∷ bytes) more is le whole = whole-same (piece_at q (a ∷ b ∷ c ∷ bytes)) (piece_at q (a ∷ b ∷ c ∷ (bytes ++ more))) whole (piece-same q a b c bytes more is)
+-- ---- no piece is cut where twelve bytes are shown
 
 whole-if : (b : Bool) (x y : Piece) → IsWhole x → IsWhole y → IsWhole (if b then x else y)
 whole-if true x y wx wy = wx

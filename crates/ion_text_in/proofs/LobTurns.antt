@@ -121,11 +121,6 @@ cut-at : {I : Type 0} (device : InputOf I) (s t : Incoming I) (group : List ℕ)
     → IsCut (cursor device s) (cursor device t) group
 cut-at device s t group moves h is = record { cut = is; behind = behind-cursor (cursor device s) (cursor device t) (moves.total h) moves.further }
 
--- four characters
-pub cut-four : {I : Type 0} (device : InputOf I) (s t : Incoming I) (group : List ℕ) (n : ℕ) → Moves device s t → device.observable s.device → group_of 4 (left device.rest s) ≡ (take n group, left device.rest t)
-    → length group ≡ 4 → 4 ≤ n → IsCut (cursor device s) (cursor device t) group
-cut-four device s t group n moves h is four le = cut-at device s t group moves h (is ∙ ap (λ (l : List ℕ). (l, left device.rest t)) (take_all n group (omega (arith, four, le))))
-
 -- what a group comes to, by its bytes
 abbrev pub group_then : ℕ → List ℕ → Cursor → Result (List ℕ) Reason → Spelled
 group_then limit text d (Ok bytes) = refuse (passes (Some limit) (length text + length bytes)) ScalarLimit >> with_groups_behind limit (text ++ bytes) (nat_lt (length bytes) 3) d
@@ -149,7 +144,7 @@ module _ (limit : ℕ) (text : List ℕ) where
       ∙ ap (λ (b : Bool). with_front text (if b then last_group group (behind_to c d.rest) else then_groups (behind_to c d.rest) (group_bytes padded group))) e
       ∙ ap (λ (k : Cursor). with_front text (if few then last_group group k else then_groups k (group_bytes padded group))) is.behind
 
-  pub group-read : (padded : Bool) (c d : Cursor) (group : List ℕ) → IsCut c d group → length group ≡ 4
+  group-read : (padded : Bool) (c d : Cursor) (group : List ℕ) → IsCut c d group → length group ≡ 4
       → with_groups_behind limit text padded c ≡ group_then limit text d (group_bytes padded group)
   group-read padded c d group is four = cut-first padded c d group false is (le-ltb (length group) 4 (omega (arith, four))) ∙ by (group_bytes padded group)
     where
@@ -189,6 +184,14 @@ pub cut-last : {I : Type 0} (device : InputOf I) (s t : Incoming I) (limit : ℕ
     → with_groups_behind limit text padded (cursor device s) ≡ (closed_behind n (cursor device t) >>= (λ e. Ok (text, e)))
 cut-last device s t limit text padded group n moves h is four few =
     group-last limit text padded (cursor device s) (cursor device t) (take n group) n (cut-at device s t (take n group) moves h is) (length-take-le n group (omega (arith, four, few))) few
+
+-- four characters
+pub cut-read : {I : Type 0} (device : InputOf I) (s t : Incoming I) (limit : ℕ) (text : List ℕ) (padded : Bool) (group : List ℕ) (n : ℕ) (o : Result (List ℕ) Reason) → Moves device s t → device.observable s.device
+    → group_of 4 (left device.rest s) ≡ (take n group, left device.rest t) → length group ≡ 4 → 4 ≤ n → group_bytes padded group ≡ o
+    → with_groups_behind limit text padded (cursor device s) ≡ group_then limit text (cursor device t) o
+cut-read device s t limit text padded group n o moves h is four le e =
+    let all = is ∙ ap (λ (l : List ℕ). (l, left device.rest t)) (take_all n group (omega (arith, four, le))) in
+    group-read limit text padded (cursor device s) (cursor device t) group (cut-at device s t group moves h all) four ∙ ap (group_then limit text (cursor device t)) e
 
 -- a group that is not well formed, and one behind padding
 pub group-bad : (padded : Bool) (group : List ℕ) → decoded_of standard group ≡ None → group_bytes padded group ≡ Err BadLob

@@ -102,17 +102,9 @@ long-closer code.ShortClob e = absurd (cc e)
 long-closer code.Long e = refl
 long-closer code.LongClob e = refl
 
-next-by : (q : CodeQuote) (c d : Cursor) (test : Bool) → (quote_of q).is_long ≡ true → passed (quote_of q).in_clob c ≡ overrun None d → begins_with three d.rest ≡ test
+pub next-by : (q : CodeQuote) (c d : Cursor) (test : Bool) → (quote_of q).is_long ≡ true → passed (quote_of q).in_clob c ≡ overrun None d → begins_with three d.rest ≡ test
     → quoted.next_segment (quote_of q) c ≡ (if test then Some (skip 3 d) else None)
 next-by q c d test long e begins =
     next-passed (quote_of q) c (Ok d) long e
     ∙ ap (λ (l : List ℕ). if begins_with l d.rest then Some (skip (length l) d) else None) (long-closer q long)
     ∙ ap (λ (b : Bool). if b then Some (skip 3 d) else None) begins
-
-pub next-none : (q : CodeQuote) (c d : Cursor) → (quote_of q).is_long ≡ true → passed (quote_of q).in_clob c ≡ overrun None d → begins_with three d.rest ≡ false
-    → quoted.next_segment (quote_of q) c ≡ None
-next-none q c d long e begins = next-by q c d false long e begins
-
-pub next-some : (q : CodeQuote) (c d : Cursor) → (quote_of q).is_long ≡ true → passed (quote_of q).in_clob c ≡ overrun None d → begins_with three d.rest ≡ true
-    → quoted.next_segment (quote_of q) c ≡ Some (skip 3 d)
-next-some q c d long e begins = next-by q c d true long e begins

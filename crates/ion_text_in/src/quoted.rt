@@ -78,9 +78,20 @@ pub(crate) fn scan_text(quote: Quote, limit: u64, bytes: &[u8]) -> Scanned<usize
         → StopsBefore quote bytes.now }
 {
     match ascii_text(quote, bytes) {
-        Some(plain) if plain as u64 <= limit => Scanned::Whole(plain, plain + 1),
-        _ => any_text(quote, limit, bytes),
+        Some(plain) if plain as u64 <= limit => return Scanned::Whole(plain, plain + 1),
+        _ => {}
     }
+    let plain = plain_length(quote, bytes);
+    if quote.is_long() || plain == bytes.len() || bytes[plain] != quote.mark() {
+        return Scanned::Cut;
+    }
+    if limit < plain as u64 {
+        return Scanned::Fault(Reason::ScalarLimit);
+    }
+    if !quote.in_clob() && !front_is_text(plain, bytes) {
+        return Scanned::Fault(Reason::BadText);
+    }
+    Scanned::Whole(plain, plain + 1)
 }
 
 // How many bytes the text has, where the first block of these bytes shows its closing quote, and that
@@ -101,28 +112,6 @@ fn ascii_text(quote: Quote, bytes: &[u8]) -> Option<usize>
         return None;
     }
     Some(plain)
-}
-
-// What a slice shows of a text between quotes, whatever stands in it: how many bytes it has.
-#[inline(always)]
-fn any_text(quote: Quote, limit: u64, bytes: &[u8]) -> Scanned<usize>
-    ensures shows { Shows (λ n. take n bytes.now) bytes.now result
-        (λ c. text_at (quote_of quote) (Some limit) c) }
-    ensures within { IsWithin limit result }
-    ensures known { result ≡ Scanned.Cut → (quote_of quote).is_long ≡ false
-        → StopsBefore quote bytes.now }
-{
-    let plain = plain_length(quote, bytes);
-    if quote.is_long() || plain == bytes.len() || bytes[plain] != quote.mark() {
-        return Scanned::Cut;
-    }
-    if limit < plain as u64 {
-        return Scanned::Fault(Reason::ScalarLimit);
-    }
-    if !quote.in_clob() && !front_is_text(plain, bytes) {
-        return Scanned::Fault(Reason::BadText);
-    }
-    Scanned::Whole(plain, plain + 1)
 }
 
 /// Whether bytes are UTF-8.

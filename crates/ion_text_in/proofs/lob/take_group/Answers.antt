@@ -5,22 +5,21 @@ use Rattle.ion_text_in.specs.Lobs.{with_groups_behind}
 use Rattle.ion_value.specs.Parts.{◌>>=◌}
 use Rattle.ion_text_in.proofs.Gathering.{continues-puts, continues-err}
 use Rattle.ion_text_in.proofs.Holding.{handed-on}
-use Rattle.ion_text_in.proofs.LobTurns.{cut-last, cut-four, group_then, group-read, group-bad, group-late, group-given}
+use Rattle.ion_text_in.proofs.LobTurns.{cut-last, cut-read, group-bad, group-late, group-given}
 use Rattle.ion_text_in.proofs.lob.take_group.Goals as goal
 
 pub returns-in_default-clause-gives : goal.returns-in_default-clause-gives
 returns-in_default-clause-gives g c = λ h.
-    let n = c.in_ok-count.ensures in
-    let four = c.next_characters.array_long in
-    let cut = cut-four g.I.Input c.args.source.now c.next_characters.new.source c.next_characters.new.group c.in_ok-count.count n.reads.moves h (n.gives h) four c.if-count-lt4.false in
-    (group-read c.args.limits.scalar c.args.text.now c.args.padded _ _ c.next_characters.new.group cut four ∙ ap (group_then c.args.limits.scalar c.args.text.now _) (group-bad c.args.padded c.next_characters.new.group c.in_default.ensures.none), refl)
+    let n = c.in_ok-count.ensures in (
+      cut-read g.I.Input c.args.source.now c.next_characters.new.source c.args.limits.scalar c.args.text.now c.args.padded c.next_characters.new.group c.in_ok-count.count _ n.reads.moves h (n.gives h) c.next_characters.array_long c.if-count-lt4.false
+          (group-bad c.args.padded c.next_characters.new.group c.in_default.ensures.none),
+      refl,
+    )
 
 pub returns-then-padded-clause-gives : goal.returns-then-padded-clause-gives
 returns-then-padded-clause-gives g c = λ h.
     let n = c.in_ok-count.ensures in
-    let four = c.next_characters.array_long in
-    let cut = cut-four g.I.Input c.args.source.now c.next_characters.new.source c.next_characters.new.group c.in_ok-count.count n.reads.moves h (n.gives h) four c.if-count-lt4.false in
-    (rw c.if-padded.true (group-read c.args.limits.scalar c.args.text.now true _ _ c.next_characters.new.group cut four ∙ ap (group_then c.args.limits.scalar c.args.text.now _) (group-late c.next_characters.new.group)), refl)
+    (rw c.if-padded.true (cut-read g.I.Input c.args.source.now c.next_characters.new.source c.args.limits.scalar c.args.text.now true c.next_characters.new.group c.in_ok-count.count _ n.reads.moves h (n.gives h) c.next_characters.array_long c.if-count-lt4.false (group-late c.next_characters.new.group)), refl)
 
 pub returns-in_err-end_groups-clause-gives : goal.returns-in_err-end_groups-clause-gives
 returns-in_err-end_groups-clause-gives g c = λ h.
@@ -41,26 +40,20 @@ returns-then-count-lt4-clause-gives g c = λ h.
 pub returns-in_err-put-clause-gives : goal.returns-in_err-put-clause-gives
 returns-in_err-put-clause-gives g c = λ h.
     let n = c.in_ok-count.ensures in
-    let four = c.next_characters.array_long in
-    let limit = c.args.limits.scalar in
     let d = cursor g.I.Input c.next_characters.new.source in
-    let group = c.next_characters.new.group in
     let bytes = take c.in-Some.n c.decode.new.room in
-    let cut = cut-four g.I.Input c.args.source.now c.next_characters.new.source group c.in_ok-count.count n.reads.moves h (n.gives h) four c.if-count-lt4.false in
-    let read = group-read limit c.args.text.now false (cursor g.I.Input c.args.source.now) d group cut four ∙ ap (group_then limit c.args.text.now d) (group-given group bytes c.in-Some.ensures.octets c.in-Some.ensures.some) in
+    let read = cut-read g.I.Input c.args.source.now c.next_characters.new.source c.args.limits.scalar c.args.text.now false c.next_characters.new.group c.in_ok-count.count _ n.reads.moves h (n.gives h) c.next_characters.array_long c.if-count-lt4.false
+    (group-given c.next_characters.new.group bytes c.in-Some.ensures.octets c.in-Some.ensures.some) in
     rw (handed-on c.from_residual-in_err-put.result c.in_err-put.field-0.0 c.from_residual-in_err-put.ensures) (continues-err _ _ c.in_err-put.field-0.0 c.args.place (λ e k. rw c.if-padded.false (read ∙ k))
-    (continues-puts {T = Unit {0}} (Err c.in_err-put.field-0.0) c.args.text.now c.put.new.text bytes limit c.args.place (λ (l : List ℕ). with_groups_behind limit l (nat_lt (length bytes) 3) d) c.in_err-put.ensures.puts))
+    (continues-puts {T = Unit {0}} (Err c.in_err-put.field-0.0) c.args.text.now c.put.new.text bytes c.args.limits.scalar c.args.place (λ (l : List ℕ). with_groups_behind c.args.limits.scalar l (nat_lt (length bytes) 3) d) c.in_err-put.ensures.puts))
 
 pub returns-clause-gives : goal.returns-clause-gives
 returns-clause-gives g c = λ h.
     let n = c.in_ok-count.ensures in
-    let four = c.next_characters.array_long in
-    let limit = c.args.limits.scalar in
     let d = cursor g.I.Input c.next_characters.new.source in
-    let group = c.next_characters.new.group in
     let bytes = take c.in-Some.n c.decode.new.room in
-    let cut = cut-four g.I.Input c.args.source.now c.next_characters.new.source group c.in_ok-count.count n.reads.moves h (n.gives h) four c.if-count-lt4.false in
-    let read = group-read limit c.args.text.now false (cursor g.I.Input c.args.source.now) d group cut four ∙ ap (group_then limit c.args.text.now d) (group-given group bytes c.in-Some.ensures.octets c.in-Some.ensures.some) in
+    let read = cut-read g.I.Input c.args.source.now c.next_characters.new.source c.args.limits.scalar c.args.text.now false c.next_characters.new.group c.in_ok-count.count _ n.reads.moves h (n.gives h) c.next_characters.array_long c.if-count-lt4.false
+    (group-given c.next_characters.new.group bytes c.in-Some.ensures.octets c.in-Some.ensures.some) in
     rw c.if-padded.false (read
-    ∙ continues-puts (Ok c.in_ok-put.field-0) c.args.text.now c.put.new.text bytes limit c.args.place (λ (l : List ℕ). with_groups_behind limit l (nat_lt (length bytes) 3) d) c.in_ok-put.ensures.puts
-    ∙ ap (λ (k : ℕ). with_groups_behind limit c.put.new.text (nat_lt k 3) d) (length-take-le c.in-Some.n c.decode.new.room c.in-Some.ensures.within))
+    ∙ continues-puts (Ok c.in_ok-put.field-0) c.args.text.now c.put.new.text bytes c.args.limits.scalar c.args.place (λ (l : List ℕ). with_groups_behind c.args.limits.scalar l (nat_lt (length bytes) 3) d) c.in_ok-put.ensures.puts
+    ∙ ap (λ (k : ℕ). with_groups_behind c.args.limits.scalar c.put.new.text (nat_lt k 3) d) (length-take-le c.in-Some.n c.decode.new.room c.in-Some.ensures.within))

@@ -1,4 +1,4 @@
-use Rattle.std.proofs.Common.{◌≡◌, ◌∙◌, Bool, Some, None, Ok, sym, ap, arith}
+use Rattle.std.proofs.Common.{◌≡◌, ◌∙◌, Bool, true, false, Some, None, Ok, sym, ap, arith}
 use Rattle.std.proofs.lemmas.Grind.{common_steps}
 use Rattle.ion_meter.specs.Sources.{Cursor, cursor, skip}
 use Rattle.ion_text_in.specs.Overrun.{overrun}
@@ -6,7 +6,7 @@ use Rattle.ion_text_in.specs.Quotes.{quote_of}
 use Rattle.ion_text_in.specs.Gathered.{passed}
 use Rattle.ion_text_in.proofs.Quotes.{quote_of-is}
 use Rattle.ion_text_in.proofs.Holding.{handed-on}
-use Rattle.ion_text_in.proofs.SegmentTexts.{behind_text, long-err, long-ends, long-goes, next-cut, next-none, next-some}
+use Rattle.ion_text_in.proofs.SegmentTexts.{behind_text, long-err, long-ends, long-goes, next-cut, next-by}
 use Rattle.ion_text_in.proofs.TextTokens.{overruns-refused}
 use Rattle.ion_text_in.proofs.text.next_long_text.Goals as goal
 
@@ -44,7 +44,7 @@ returns-then-not-branch-clause-gives g c = λ h.
       t,
       inv.same h
           ∙ long-ends q c.args.limits.scalar c.segments.text c.next_segment.new.text (cursor g.I.Input c.segments.source) t (quote_of-is c.args.quote) (c.in_ok-next_segment.ensures.gives (inv.gathers.reads.moves.still_observable.1 h))
-          (next-none c.args.quote t u c.requires.long behind none.0),
+          (next-by c.args.quote t u false c.requires.long behind none.0),
       behind ∙ ap (λ (d : Cursor). Ok d) (sym none.1),
     )
 
@@ -64,6 +64,6 @@ segments-preserved g c =
           let some = c.in_ok-pass_quotes.ensures.some (c.in_ok-start.ensures.reads.moves.still_observable.1 ht) (ap (λ (b : Bool). Ok b) c.if-not-branch.false) in
           inv.same h
           ∙ long-goes q limit c.segments.text c.next_segment.new.text (cursor g.I.Input c.segments.source) t (skip 3 u) (quote_of-is c.args.quote) (c.in_ok-next_segment.ensures.gives hs)
-          (next-some c.args.quote t u c.requires.long behind some.0)
+          (next-by c.args.quote t u true c.requires.long behind some.0)
           ∙ ap (λ (d : Cursor). behind_text q limit c.next_segment.new.text d) (sym some.1);
     }

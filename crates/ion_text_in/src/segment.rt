@@ -211,24 +211,9 @@ fn show_piece<I: Input, A: Allocator + Copy>(
         → source.old.limit < source.old.place + length (left I.rest source.old) }
 {
     match quick_piece(quote, source.buffer()) {
-        Piece::Cut => show_slowly(source, quote),
-        piece => Ok(piece),
+        Piece::Cut => {}
+        piece => return Ok(piece),
     }
-}
-
-// The piece at the present place, whatever it is.
-fn show_slowly<I: Input, A: Allocator + Copy>(
-    source: &mut Source<I, A>,
-    quote: Quote,
-) -> Result<Piece, Fault>
-    requires stands { Stands source.old }
-    ensures gives { I.observable source.old.device → IfOk result (λ piece.
-        piece_of piece ≡ piece_at (quote_of quote) (left I.rest source.old)) }
-    ensures takes { IfOk result (λ piece. PieceTakes (lent source.new) (piece_of piece)) }
-    ensures looks { Looks I.Input source.old source.new result }
-    ensures limit { result ≡ Err Fault.InputLimit → I.observable source.old.device
-        → source.old.limit < source.old.place + length (left I.rest source.old) }
-{
     'more: loop {
         let bytes = source.buffer();
         let shown = bytes.len();

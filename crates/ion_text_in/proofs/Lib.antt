@@ -8,7 +8,6 @@ mod TokenLimits
 mod Tokens
 mod Advancing
 mod Allowing
-mod AsciiTexts
 mod Complete
 mod ReadWithin
 mod TokenCuts

@@ -1,9 +1,11 @@
 -- A text without escapes that a slice shows.
-use Rattle.std.proofs.Common.{◌≡◌, ℕ, zero, suc, ◌+◌, ◌<◌, ◌≤◌, Bool, true, false, ◌||◌, List, [], ◌∷◌, ◌++◌, length, take, drop, ◌==◌, slice_index, Some, Ok, Err, refl, sym, ap, ◌∙◌, arith}
+use Rattle.std.proofs.Common.{◌≡◌, ℕ, zero, suc, ◌+◌, ◌<◌, ◌≤◌, Bool, true, false, ◌||◌, List, [], ◌∷◌, ◌++◌, length, take, drop, ◌==◌, nat_lt, slice_index, Some, Ok, Err, refl, sym, ap, ◌∙◌, arith}
 use Rattle.std.proofs.lemmas.List.{take-append-le, drop-append-le, drop-drop, length-append, length-take-le}
-use Rattle.std.proofs.lemmas.Bool.{lt-ltb, le-ltb, or_right}
+use Rattle.std.proofs.lemmas.Bool.{and_parts, lt-ltb, le-ltb, or_right}
 use Rattle.std.proofs.lemmas.Bool.Decides.{nat_tests}
-use Rattle.std.proofs.lemmas.Str.{is_utf8-from_IsUtf8}
+use Rattle.std.proofs.lemmas.Str.{is_utf8-from_IsUtf8, IsUtf8-from_ascii}
+use Rattle.std.proofs.lemmas.Str.Ascii.{IsAscii-cons, IsAscii-nil}
+use Rattle.std.specs.Str.{IsAscii}
 use Rattle.std.proofs.Math.Seq.{drop-cons}
 use Rattle.std.specs.Str.{is_utf8}
 use Rattle.ion_meter.specs.declared.fault.Reason.TheVariants.{BadText, ScalarLimit}
@@ -18,7 +20,6 @@ use Rattle.ion_text_in.specs.Scanning.{is_plain_byte}
 use Rattle.ion_text_in.specs.Quotes.{quote_of, mark_of, IsAsciiText}
 use Rattle.ion_text_in.specs.Pieces.{piece_of}
 use Rattle.ion_text_in.specs.Gathered.{onward}
-use Rattle.ion_text_in.proofs.AsciiTexts.{front-text}
 use Rattle.ion_text_in.proofs.Quotes.{quote_of-is}
 use Rattle.ion_text_in.proofs.Gathering.{onward-plain, onward-piece}
 use Rattle.ion_text_in.proofs.Still.{mark-closes}
@@ -67,11 +68,20 @@ text-shown q limit place n bytes more short plain there mark within test =
     sym (short-text (quote_of q) limit [] c short refl)
     ∙ segment-good (quote_of q) limit [] (take n bytes) c (at (place + (n + 1)) (drop (n + 1) bytes ++ more)) (pieces-shown q limit place n bytes more short plain there mark within) test
 
+low : (b : ℕ) → nat_lt b 128 ≡ true → b < 128
+low b e = grind (arith, nat_tests)
+
+ascii-all : (bytes : List ℕ) → all_are (λ b. nat_lt b 128) bytes ≡ true → IsAscii bytes
+ascii-all [] e = IsAscii-nil
+ascii-all (b ∷ bytes) e =
+    let parts = and_parts (nat_lt b 128) (all_are (λ b. nat_lt b 128) bytes) e in
+    IsAscii-cons b bytes (low b parts.0) (ascii-all bytes parts.1)
+
 -- a text of ASCII
 pub ascii-shown : (q : CodeQuote) (limit place n : ℕ) (bytes more : List ℕ) → IsAsciiText q bytes n → n ≤ limit
     → text_at (quote_of q) (Some limit) (at place (bytes ++ more)) ≡ Ok (take n bytes, at (place + (n + 1)) (drop (n + 1) bytes ++ more))
 ascii-shown q limit place n bytes more so within =
-    let good : is_utf8 (take n bytes) ≡ true = is_utf8-from_IsUtf8 (take n bytes) (front-text bytes n n (omega arith) so.ascii) in
+    let good : is_utf8 (take n bytes) ≡ true = is_utf8-from_IsUtf8 (take n bytes) (IsUtf8-from_ascii (take n bytes) (ascii-all (take n bytes) so.ascii)) in
     text-shown q limit place n bytes more so.short so.plain so.within so.closed within (or_right (quote_of q).in_clob (is_utf8 (take n bytes)) good)
 
 pub text-bad : (q : CodeQuote) (limit place n : ℕ) (bytes more : List ℕ) → (quote_of q).is_long ≡ false → all_are (is_plain_byte (quote_of q)) (take n bytes) ≡ true → n < length bytes

@@ -1,5 +1,5 @@
 //! Quotes, and the plain bytes between them (Ion specification, "Strings", "Symbols" and "Clobs").
-ghost use Rattle.std.specs.Prelude.{◌≡◌, ◌<◌, ◌≤◌, ◌↔◌, ◌&&◌, ◌||◌, ◌==◌, nat_le, nat_lt, not, [], ◌∷◌, true, false, Some, map, length, take, drop, IfSome, IsTrue, IsUtf8};
+ghost use Rattle.std.specs.Prelude.{◌≡◌, ◌<◌, ◌≤◌, ◌↔◌, ◌&&◌, ◌||◌, ◌==◌, nat_le, not, [], ◌∷◌, true, false, Some, map, length, take, drop, IfSome, IsTrue, IsUtf8};
 ghost use Rattle.std.specs.Simd.Lanes.{mask_l};
 ghost use Rattle.ion_value.specs.Name.{is_one_of};
 ghost use Rattle.ion_value.specs.Digits.{first_is, all_are};
@@ -88,7 +88,7 @@ pub(crate) fn scan_text(quote: Quote, limit: u64, bytes: &[u8]) -> Scanned<usize
     if limit < plain as u64 {
         return Scanned::Fault(Reason::ScalarLimit);
     }
-    if !quote.in_clob() && !front_is_text(plain, bytes) {
+    if !quote.in_clob() && !is_text(&bytes[..plain]) {
         return Scanned::Fault(Reason::BadText);
     }
     Scanned::Whole(plain, plain + 1)
@@ -120,42 +120,6 @@ pub(crate) fn is_text(bytes: &[u8]) -> bool
     ensures { IsTrue result ↔ IsUtf8 bytes.now }
 {
     simdutf8::basic::from_utf8(bytes).is_ok()
-}
-
-// Whether so many bytes at the front are UTF-8. Mostly a block of them shows that they are ASCII.
-#[inline(always)]
-fn front_is_text(count: usize, bytes: &[u8]) -> bool
-    requires { count ≤ length bytes.now }
-    ensures { IsTrue result ↔ IsUtf8 (take count bytes.now) }
-{
-    let shown = ascii_front(bytes);
-    if count <= shown {
-        return true;
-    }
-    is_text(&bytes[..count])
-}
-
-// How many bytes at the front of these are ASCII, as a block of them shows.
-#[inline(always)]
-fn ascii_front(bytes: &[u8]) -> usize
-    ensures { all_are (λ b. nat_lt b 128) (take result bytes.now) ≡ true }
-{
-    if bytes.len() < BLOCK {
-        return 0;
-    }
-    let others = no_ascii(u8x32::from_slice(bytes));
-    if others == 0 {
-        return BLOCK;
-    }
-    others.trailing_zeros() as usize
-}
-
-// Which of these bytes are no ASCII: a bit for each, the lowest for the first.
-#[inline(always)]
-fn no_ascii(bytes: u8x32) -> u64
-    ensures { result ≡ mask_l (map (λ b. not (nat_lt b 128)) bytes) }
-{
-    bytes.simd_ge(u8x32::splat(128)).to_bitmask()
 }
 
 // How many bytes are looked at together.

@@ -1,12 +1,12 @@
 -- How many bytes a piece takes of a slice, and how many bytes show it.
-use Rattle.std.proofs.Common.{◌≡◌, ℕ, ◌+◌, ◌<◌, ◌≤◌, true, List, [], ◌∷◌, length, sym, ap, subst, ◌∙◌, arith}
+use Rattle.std.proofs.Common.{◌≡◌, ℕ, ◌<◌, ◌≤◌, true, List, [], ◌∷◌, length, sym, ap, subst, ◌∙◌, arith}
 use Rattle.ion_text_in.specs.declared.quoted.Quote.{Quote as CodeQuote}
 use Rattle.ion_text_in.specs.declared.piece.Piece.{Piece as CodePiece}
 use Rattle.ion_text_in.specs.declared.piece.Piece.TheVariants as code
 use Rattle.ion_text_in.specs.Quoted.{Quote, piece_at}
 use Rattle.ion_text_in.specs.Scanning.{PieceTakes}
 use Rattle.ion_text_in.specs.Quotes.{quote_of}
-use Rattle.ion_text_in.specs.Pieces.{piece_of, taken_of, may_go_on, Advances}
+use Rattle.ion_text_in.specs.Pieces.{piece_of, taken_of, may_go_on}
 use Rattle.ion_text_in.proofs.Quotes.{quote_of-is}
 use Rattle.ion_text_in.proofs.ShownPieces.{IsWhole, piece-whole}
 use Rattle.ion_text_in.proofs.Fuel.{piece-takes}
@@ -19,12 +19,6 @@ takes-there bytes code.Cut t = omega arith
 
 pub piece-fits : (q : CodeQuote) (bytes : List ℕ) (piece : CodePiece) → piece_of piece ≡ piece_at (quote_of q) bytes → PieceTakes bytes (piece_of piece)
 piece-fits q bytes piece e = subst (PieceTakes bytes) (sym e) (piece-takes (quote_of q) bytes (quote_of-is q))
-
-pub advances : (bytes : List ℕ) (piece : CodePiece) (p q : ℕ) → PieceTakes bytes (piece_of piece) → q ≡ p + taken_of piece → Advances p q piece
-advances bytes (code.Text m n) p q t e = let some = t.some in omega (arith, some, e)
-advances bytes (code.Close n) p q t e = let some = t.some in omega (arith, some, e)
-advances bytes code.Illegal p q t e = tt
-advances bytes code.Cut p q t e = tt
 
 pub cut-short : (q : CodeQuote) (bytes : List ℕ) (piece : CodePiece) → piece_of piece ≡ piece_at (quote_of q) bytes → piece ≡ code.Cut → length bytes < 12
 cut-short q bytes piece e cut = grind (arith, few)

@@ -23,12 +23,9 @@ mod DecodedBytes
 mod DigitNumbers
 mod LobBytes
 mod RawTokens
-mod RawStreams
 mod ValuesWithin
 mod Narrow
 mod Refused
-mod TokenFaults
-mod ExactLimits
 pub mod Behind
 pub mod NumberEnds
 pub mod TokenBegins

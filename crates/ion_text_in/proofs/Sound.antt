@@ -96,9 +96,13 @@ reading_for-has_verdict (suc n) limits bytes path s stands fuel =
     next-has_verdict bytes path s (λ t. reading_for (step limits) n t) (step limits s) stands (step-follows limits bytes path s stands)
     (λ after next leaves at. let smaller : size after < size s = each_step_falls limits s after leaves in reading_for-has_verdict n limits bytes next after at (omega (arith, smaller, fuel)))
 
+-- before the first byte
+pub at-start : (bytes : List ℕ) → At bytes (closed []) (start bytes)
+at-start bytes = record { full = false; behind = start_of bytes; spells = Spells.top Tops.nothing; begun = in_item Field.at_top Annotations.nothing; top = tt }
+
 pub sound : Sound
 unfolding reading
 sound limits bytes =
     let c = reading_for-has_verdict (suc (size (start bytes))) limits bytes (closed []) (start bytes)
-    (record { full = false; behind = start_of bytes; spells = Spells.top Tops.nothing; begun = in_item Field.at_top Annotations.nothing; top = tt }) (omega arith) in
+    (at-start bytes) (omega arith) in
     record { path = c.next; place = c.place; is_path = c.is_path; items = sym c.items; whole = c.whole }

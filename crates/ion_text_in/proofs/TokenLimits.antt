@@ -1,5 +1,5 @@
 -- Under a limit a token is read exactly where it counts no more.
-use Rattle.std.proofs.Common.{◌≡◌, ℕ, zero, suc, ◌+◌, ◌-◌, ◌<◌, ◌≤◌, Bool, true, false, not, ◌||◌, nat_lt, if◌then◌else◌, List, [], ◌∷◌, ◌++◌, length, Option, None, Some, Result, Ok, Err, refl, ap, sym, ◌∙◌, arith}
+use Rattle.std.proofs.Common.{◌≡◌, ℕ, zero, suc, ◌+◌, ◌-◌, ◌<◌, ◌≤◌, Bool, true, false, not, ◌||◌, nat_lt, if◌then◌else◌, List, [], ◌∷◌, ◌++◌, length, Option, None, Some, Result, Ok, Err, refl, ap, ◌∙◌, arith}
 use Rattle.std.specs.Result.{IfOk}
 use Rattle.std.specs.Str.{is_utf8}
 use Rattle.std.proofs.lemmas.Bool.{le-ltb, lt-ltb, ltb-true, ltb-false}
@@ -346,8 +346,3 @@ module _ (limit : ℕ) where
       → token_of (Some limit) f c ≡ limited (counts t c.place d.place) (t, d)
   token-exact f c t d token =
       IfOk-at_ok (λ (x : Token × Cursor). token_of (Some limit) f c ≡ limited (counts x.0 c.place x.1.place) x) token (token-limited f c)
-
-  -- so it is read where the limit allows it
-  pub token-within : (f : First) (c : Cursor) (t : Token) (d : Cursor) → token_of None f c ≡ got t d
-      → counts t c.place d.place ≤ limit → token_of (Some limit) f c ≡ got t d
-  token-within f c t d token le = token-exact f c t d token ∙ sym (within (counts t c.place d.place) (t, d) le)

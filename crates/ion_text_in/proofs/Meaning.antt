@@ -334,50 +334,17 @@ typed-word type rest all ends =
 
 null-word : (t : IonType) (rest : List ℕ) → behind_null t rest ≡ false → word_of (null_text t ++ rest) ≡ null_text t
 null-word type.Null rest ends = let parts = or_parts (in_word rest) (first_is (λ b. b == 46) rest) ends in whole-word 110 (codes "ull") rest refl parts.0 parts.1
-null-word type.Bool rest ends = typed-word (codes "bool") rest refl ends
-null-word type.Int rest ends = typed-word (codes "int") rest refl ends
-null-word type.Float rest ends = typed-word (codes "float") rest refl ends
-null-word type.Decimal rest ends = typed-word (codes "decimal") rest refl ends
-null-word type.Timestamp rest ends = typed-word (codes "timestamp") rest refl ends
-null-word type.Symbol rest ends = typed-word (codes "symbol") rest refl ends
-null-word type.String rest ends = typed-word (codes "string") rest refl ends
-null-word type.Clob rest ends = typed-word (codes "clob") rest refl ends
-null-word type.Blob rest ends = typed-word (codes "blob") rest refl ends
-null-word type.List rest ends = typed-word (codes "list") rest refl ends
-null-word type.Sexp rest ends = typed-word (codes "sexp") rest refl ends
-null-word type.Struct rest ends = typed-word (codes "struct") rest refl ends
+null-word t rest ends = typed-word (drop 5 (null_text t)) rest refl ends
 
 null-first : (t : IonType) (sexp : Bool) (rest : List ℕ) → first_at sexp (null_text t ++ rest) ≡ a_word
 unfolding first_at
 null-first type.Null sexp rest = refl
-null-first type.Bool sexp rest = refl
-null-first type.Int sexp rest = refl
-null-first type.Float sexp rest = refl
-null-first type.Decimal sexp rest = refl
-null-first type.Timestamp sexp rest = refl
-null-first type.Symbol sexp rest = refl
-null-first type.String sexp rest = refl
-null-first type.Clob sexp rest = refl
-null-first type.Blob sexp rest = refl
-null-first type.List sexp rest = refl
-null-first type.Sexp sexp rest = refl
-null-first type.Struct sexp rest = refl
+null-first t sexp rest = refl
 
 null-token : (t : IonType) → word_token (null_text t) ≡ Ok (plain (value.null t))
 unfolding word_token
 null-token type.Null = refl
-null-token type.Bool = refl
-null-token type.Int = refl
-null-token type.Float = refl
-null-token type.Decimal = refl
-null-token type.Timestamp = refl
-null-token type.Symbol = refl
-null-token type.String = refl
-null-token type.Clob = refl
-null-token type.Blob = refl
-null-token type.List = refl
-null-token type.Sexp = refl
-null-token type.Struct = refl
+null-token t = refl
 
 pub null-means : NullIf
 null-means t = word-means (behind_null t) (null_text t) (plain (value.null t)) (null-word t) (null-first t) (null-token t)

@@ -30,7 +30,7 @@ use Rattle.ion_text_in.specs.Lob.{lob_at}
 use Rattle.ion_text_in.specs.Meaning.{IsRawScalar, IsRawToken, TokensAreRaw}
 use Rattle.ion_text_in.specs.Places.{run_of}
 use Rattle.ion_text_in.specs.Quoted.{Quote, symbol_quote, short_quote, long_quote, pieces_for, segment_at, text_at}
-use Rattle.ion_text_in.specs.Token.{First, a_run, a_word, a_quoted, a_short, a_long, a_lob, an_operator, an_infinity, a_begin, an_end, a_comma, a_colon, two_colons, no_token, first_at, Token, name, counted, bytes_of, in_run, in_word, in_operator, with_type, word_of, word_token, run_token, by_keyword, token_of}
+use Rattle.ion_text_in.specs.Token.{First, a_run, a_word, a_quoted, a_short, a_long, a_lob, an_operator, an_infinity, first_at, Token, name, counted, bytes_of, in_run, in_word, in_operator, with_type, word_of, word_token, run_token, by_keyword, token_of}
 use Rattle.ion_text_in.proofs.LobBytes.{Joins, text-is, lob-raw}
 use Rattle.ion_text_in.proofs.NumberEnds.{one_of-from}
 use Rattle.ion_text_in.proofs.TokenBegins.{what-begins}
@@ -83,9 +83,7 @@ readings-raw : (i : Result Int Reason) (d : Result Decimal Reason) (t : Result T
 readings-raw (Ok i) d t h k l = record { in_range = h; text = tt; bytes = tt; no_symbol = refl }
 readings-raw (Err BadToken) (Ok d) t h k l = record { in_range = k; text = tt; bytes = tt; no_symbol = refl }
 readings-raw (Err BadToken) (Err BadToken) (Ok t) h k l = record { in_range = l; text = tt; bytes = tt; no_symbol = refl }
-readings-raw (Err BadToken) (Err BadToken) (Err reason) h k l = tt
-readings-raw (Err BadToken) (Err reason) t h k l = tt
-readings-raw (Err reason) d t h k l = tt
+readings-raw i d t h k l = tt
 
 run-raw : (run : List ℕ) → IfOk (run_token run) IsRawToken
 unfolding scalar_of_run
@@ -229,12 +227,7 @@ token-raw limit an_operator c small =
     (counted-is Ascii limit (bytes_of in_operator c.rest) c (operator-ascii c.rest (small (inr refl))))
     (λ r h. ascii-utf8 r.0 h)
 token-raw limit an_infinity c small = if-passed _ (passes limit 4) ScalarLimit _ (λ _. tt)
-token-raw limit (a_begin k) c small = tt
-token-raw limit (an_end k) c small = tt
-token-raw limit a_comma c small = tt
-token-raw limit a_colon c small = tt
-token-raw limit two_colons c small = tt
-token-raw limit no_token c small = tt
+token-raw limit mark c small = tt
 
 first-small : (sexp : Bool) (rest : List ℕ) → first_at sexp rest ≡ a_word ⊎ first_at sexp rest ≡ an_operator → FirstSmall rest
 first-small sexp rest (inl e) = word-first sexp rest ((what-begins sexp rest a_word (λ no. absurd (cc no))).0 e)

@@ -143,8 +143,7 @@ module _ (q : Quote) where
   abbrev pub PieceIs : List ℕ → Piece → Type 0
   PieceIs rest (char bytes taken) = Takes rest taken × (length bytes ≤ taken)
   PieceIs rest (close taken) = (begins_with q.closer rest ≡ true) × (taken ≡ length q.closer)
-  PieceIs rest illegal = Unit {0}
-  PieceIs rest cut = Unit {0}
+  PieceIs rest piece = Unit {0}
 
   if-is : (rest : List ℕ) (b : Bool) (x y : Piece) → PieceIs rest x → PieceIs rest y → PieceIs rest (if b then x else y)
   if-is rest true x y hx hy = hx
@@ -247,8 +246,7 @@ with_piece-sized : (later : ℕ → Cursor → Result (List ℕ × Cursor) Reaso
 with_piece-sized later q limit count c (char bytes taken) is more =
     sized-append c (skip taken c) bytes limit count (later (count + length bytes) (skip taken c)) (omega (arith, is.0.there, is.1, length-drop taken c.rest)) (more (count + length bytes) (skip taken c))
 with_piece-sized later q limit count c (close taken) is more = omega (arith, length-drop taken c.rest)
-with_piece-sized later q limit count c illegal is more = tt
-with_piece-sized later q limit count c cut is more = tt
+with_piece-sized later q limit count c piece is more = tt
 
 pieces-sized : (most : ℕ) (q : Quote) (limit : Option ℕ) (count : ℕ) (c : Cursor) → Sized c (pieces_for most q limit count c)
 unfolding pieces_for

@@ -14,7 +14,7 @@ use Rattle.ion_value.specs.declared.timestamp.Timestamp.{Timestamp}
 use Rattle.ion_value.specs.Decimal.{decimal_of_text}
 use Rattle.ion_value.specs.Digits.{first_is}
 use Rattle.ion_value.specs.Int.{int_of_text}
-use Rattle.ion_value.specs.Name.{Keyword, a_null, a_bool, a_nan, begins_with, keyword}
+use Rattle.ion_value.specs.Name.{Keyword, a_null, begins_with, keyword}
 use Rattle.ion_value.specs.Parts.{refuse, ◌>>=◌, ◌>>◌}
 use Rattle.ion_value.specs.Scalar.{scalar_of_run, scalar_of_readings}
 use Rattle.ion_value.specs.Timestamp.{timestamp_of_text}
@@ -24,7 +24,7 @@ use Rattle.ion_text_in.specs.Blanks.{is_white}
 use Rattle.ion_text_in.specs.Lob.{group_of, behind_to, last_group, closed_at, group_bytes, groups_for, blob_at, clob_closed_at, clob_at, lob_at}
 use Rattle.ion_text_in.specs.Meaning.{counts}
 use Rattle.ion_text_in.specs.Places.{behind_run}
-use Rattle.ion_text_in.specs.Quoted.{Quote, symbol_quote, short_quote, long_quote, Piece, char, close, illegal, cut, piece_at, with_piece, pieces_for, segment_at, next_segment, with_segments, segments_for, text_at}
+use Rattle.ion_text_in.specs.Quoted.{Quote, symbol_quote, short_quote, long_quote, Piece, char, close, piece_at, with_piece, pieces_for, segment_at, next_segment, with_segments, segments_for, text_at}
 use Rattle.ion_text_in.specs.Token as tokens
 use Rattle.ion_text_in.specs.Token.{First, a_run, a_word, a_quoted, a_short, a_long, a_lob, an_operator, an_infinity, a_begin, an_end, a_comma, a_colon, two_colons, no_token, first_at, Token, plain, name, text, operator, no_number, begin, end, comma, colon, colons, bytes_of, in_run, in_operator, word_of, word_token, run_token, by_keyword, token_of, token_at, next_token}
 
@@ -58,9 +58,7 @@ readings-count : (i : Result Int Reason) (d : Result Decimal Reason) (t : Result
 readings-count (Ok i) d t = λ p q. refl
 readings-count (Err BadToken) (Ok d) t = λ p q. refl
 readings-count (Err BadToken) (Err BadToken) (Ok t) = λ p q. refl
-readings-count (Err BadToken) (Err BadToken) (Err reason) = tt
-readings-count (Err BadToken) (Err reason) t = tt
-readings-count (Err reason) d t = tt
+readings-count i d t = tt
 
 pub run_token-counts : (run : List ℕ) → IfOk (run_token run) CountsAll
 unfolding scalar_of_run
@@ -72,11 +70,9 @@ run_token-counts run = by (scalar_of_readings (int_of_text run) (decimal_of_text
     by (Err reason) h = tt
 
 keyword-counts : (k : Option Keyword) (word : List ℕ) → IfOk (by_keyword k word) CountsAll
-keyword-counts (Some (a_null (Some type))) word = λ p q. refl
 keyword-counts (Some (a_null None)) word = tt
-keyword-counts (Some (a_bool truth)) word = λ p q. refl
-keyword-counts (Some a_nan) word = λ p q. refl
-keyword-counts None word = λ p q. refl
+keyword-counts (Some (a_null (Some type))) word = λ p q. refl
+keyword-counts k word = λ p q. refl
 
 pub word_token-counts : (word : List ℕ) → IfOk (word_token word) CountsAll
 unfolding word_token
@@ -169,8 +165,7 @@ module _ (limit : ℕ) where
       join-limited count bytes (later (count + length bytes) (skip taken c)) (more (count + length bytes) (skip taken c))
       (h (count + length bytes) (skip taken c))
   with_piece-limited later more q count c (close taken) le h = within (count + 0) (none (skip taken c)) (omega (arith, le))
-  with_piece-limited later more q count c illegal le h = tt
-  with_piece-limited later more q count c cut le h = tt
+  with_piece-limited later more q count c piece le h = tt
 
   pieces-limited : (most : ℕ) (q : Quote) (count : ℕ) (c : Cursor) → count ≤ limit
       → Limited (pieces_for most q (Some limit) count c) (pieces_for most q None count c) (λ x. count + length x.0)
@@ -334,12 +329,8 @@ module _ (limit : ℕ) where
       (λ l. (plain l.0, l.1)) (λ l. refl) (lob-limited c.place (skip 2 c))
   token-limited an_operator c = counted-limited (bytes_of in_operator c.rest) c (λ bytes. Ok (operator bytes)) (λ p q. refl)
   token-limited an_infinity c = infinity-limited c (nat_lt limit 4) refl
-  token-limited (a_begin k) c = within 0 (begin k, skip 1 c) (omega arith)
-  token-limited (an_end k) c = within 0 (end k, skip 1 c) (omega arith)
-  token-limited a_comma c = within 0 (comma, skip 1 c) (omega arith)
-  token-limited a_colon c = within 0 (colon, skip 1 c) (omega arith)
-  token-limited two_colons c = within 0 (colons, skip 2 c) (omega arith)
   token-limited no_token c = tt
+  token-limited mark c = within 0 _ (omega arith)
 
   -- a token that is read without a limit
   pub token-exact : (f : First) (c : Cursor) (t : Token) (d : Cursor) → token_of None f c ≡ got t d

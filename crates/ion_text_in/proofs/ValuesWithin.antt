@@ -15,7 +15,7 @@ use Rattle.ion_value.specs.declared.timestamp.Timestamp.{Timestamp}
 use Rattle.ion_value.specs.Decimal.{decimal_of_text}
 use Rattle.ion_value.specs.Digits.{first_is}
 use Rattle.ion_value.specs.Int.{int_of_text}
-use Rattle.ion_value.specs.Name.{Keyword, a_null, a_bool, a_nan, begins_with, keyword, is_id, id_of}
+use Rattle.ion_value.specs.Name.{Keyword, a_null, begins_with, keyword, is_id, id_of}
 use Rattle.ion_value.specs.Parts.{◌>>=◌}
 use Rattle.ion_value.specs.Scalar.{scalar_of_run, scalar_of_readings}
 use Rattle.ion_value.specs.Standing.{in_struct}
@@ -32,7 +32,7 @@ use Rattle.ion_text_in.specs.Places.{behind_run}
 use Rattle.ion_text_in.specs.Positions.{at, first_place}
 use Rattle.ion_text_in.specs.Quoted.{long_quote, short_quote, symbol_quote, text_at}
 use Rattle.ion_text_in.specs.ReadWithin.{SymbolIsWithin, ScalarIsWithin, AnnotationsAreWithin, ValueIsWithin, MembersAreWithin, TopIsWithin, WhatIsReadIsWithin, ValuesReadAreWithin}
-use Rattle.ion_text_in.specs.Token.{First, a_run, a_word, a_quoted, a_short, a_long, a_lob, an_operator, an_infinity, a_begin, an_end, a_comma, a_colon, two_colons, no_token, Token, plain, name, text, operator, no_number, begin, end, comma, colon, colons, first_at, by_keyword, bytes_of, in_operator, in_run, run_token, token_of, word_of, word_token}
+use Rattle.ion_text_in.specs.Token.{First, a_run, a_word, a_quoted, a_short, a_long, a_lob, an_operator, an_infinity, no_token, Token, plain, name, text, operator, first_at, by_keyword, bytes_of, in_operator, in_run, run_token, token_of, word_of, word_token}
 use Rattle.ion_text_in.specs.Within.{TokenWithin, AnnotationsWithin, NamesWithin, FieldWithin, TxtWithin, InsideWithin, TopsWithin}
 use Rattle.ion_text_in.proofs.Allowing.{tops-allowed}
 use Rattle.ion_text_in.proofs.RawTokens.{tokens-are_raw}
@@ -62,21 +62,14 @@ module _ (limits : Limits) where
   Means (name quoted symbol) = SymbolIsWithin limits symbol
   Means (text bytes) = length bytes ≤ limits.scalar
   Means (operator bytes) = length bytes ≤ limits.scalar
-  Means no_number = Unit {0}
-  Means (begin kind) = Unit {0}
-  Means (end kind) = Unit {0}
-  Means comma = Unit {0}
-  Means colon = Unit {0}
-  Means colons = Unit {0}
+  Means t = Unit {0}
 
   readings-within : (run : List ℕ) (i : Result Int Reason) (d : Result Decimal Reason) (t : Result Timestamp Reason) → decimal_of_text run ≡ d → timestamp_of_text run ≡ t
       → length run ≤ limits.scalar → IfOk (scalar_of_readings {S = SymbolAt} i d t) (ScalarIsWithin limits)
   readings-within run (Ok i) d t e f le = tt
   readings-within run (Err BadToken) (Ok d) t e f le = (run, e, le)
   readings-within run (Err BadToken) (Err BadToken) (Ok t) e f le = (run, f, le)
-  readings-within run (Err BadToken) (Err BadToken) (Err reason) e f le = tt
-  readings-within run (Err BadToken) (Err reason) t e f le = tt
-  readings-within run (Err reason) d t e f le = tt
+  readings-within run i d t e f le = tt
 
   run-within : (run : List ℕ) → length run ≤ limits.scalar → IfOk (run_token run) Means
   unfolding scalar_of_run
@@ -85,15 +78,14 @@ module _ (limits : Limits) where
       (readings-within run (int_of_text run) (decimal_of_text run) (timestamp_of_text run) refl refl le) (λ v h. h)
 
   keyword-within : (k : Option Keyword) (word : List ℕ) → length word ≤ limits.scalar → IfOk (by_keyword k word) Means
-  keyword-within (Some (a_null (Some n))) word le = tt
-  keyword-within (Some (a_null None)) word le = tt
-  keyword-within (Some (a_bool truth)) word le = tt
-  keyword-within (Some a_nan) word le = tt
   keyword-within None word le = by (is_id word)
     where
       by : (b : Bool) → Means (name false (if b then value.Id (id_of word) else value.Text word))
       by true = tt
       by false = le
+  keyword-within (Some (a_null None)) word le = tt
+  keyword-within (Some (a_null (Some type))) word le = tt
+  keyword-within k word le = tt
 
   word-within : (word : List ℕ) → length word ≤ limits.scalar → IfOk (word_token word) Means
   unfolding word_token
@@ -141,12 +133,8 @@ module _ (limits : Limits) where
   token-means a_lob c = if-then (LobCounted c.place) _ (lob_at None (skip 2 c)) _ (lob-within c.place (skip 2 c)) (λ l h le. h le)
   token-means an_operator c = counted-within (bytes_of in_operator c.rest) c (λ bytes. Ok (operator bytes)) (λ p q. refl) (λ le. le)
   token-means an_infinity c = λ le. tt
-  token-means (a_begin k) c = λ le. tt
-  token-means (an_end k) c = λ le. tt
-  token-means a_comma c = λ le. tt
-  token-means a_colon c = λ le. tt
-  token-means two_colons c = λ le. tt
   token-means no_token c = tt
+  token-means mark c = λ le. tt
 
   tok-means : (sexp : Bool) (c d : Cursor) (t : Token) (p : ℕ) → Tok sexp c t p d → TokenWithin limits t p d → Means t
   tok-means sexp c d t p tok within =
@@ -256,9 +244,13 @@ module _ (limits : Limits) where
   tops-hold (Tops.with_value {tops = tops} {annotations = annotations} {p = p} {v = v} before txt) within =
       let x = txt-holds 0 txt within.1 in
       let symbols = x.symbols None tt in
-      all-append TopHolds tops (tree (first_place annotations p) annotations p v ∷ []) (tops-hold before within.0)
-      (((x.names, x.value, all-more Holds (λ s. SymbolIsWithin limits s.symbol) (λ s h. h.0) (value_symbols None annotations v) symbols),
-      (x.writable, (x.bytes, all-more Holds (λ s. SymbolIsText s.symbol) (λ s h. h.1) (value_symbols None annotations v) symbols))), tt)
+      all-append TopHolds tops (tree (first_place annotations p) annotations p v ∷ []) (tops-hold before within.0) (
+        (
+          (x.names, x.value, all-more Holds (λ s. SymbolIsWithin limits s.symbol) (λ s h. h.0) (value_symbols None annotations v) symbols),
+          (x.writable, (x.bytes, all-more Holds (λ s. SymbolIsText s.symbol) (λ s h. h.1) (value_symbols None annotations v) symbols)),
+        ),
+        tt,
+      )
 
 pub values_are_within : WhatIsReadIsWithin → ValuesReadAreWithin
 values_are_within law limits bytes tops is read =

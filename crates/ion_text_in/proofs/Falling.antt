@@ -10,7 +10,7 @@ use Rattle.ion_value.specs.Value as value
 use Rattle.ion_value.specs.Value.{Symbol, SymbolAt}
 use Rattle.ion_value.specs.Reading.{Step, Ends, Stops, Gives, GoesOn, Leaves, behind_item, behind_nothing, Shrinks}
 use Rattle.ion_value.specs.ReadingLaws.{AreWithin}
-use Rattle.ion_value.proofs.Faults.{Blames, part_blames, is_limit, Free, free}
+use Rattle.ion_value.proofs.Faults.{Blames, is_limit, Free, free}
 use Rattle.ion_meter.specs.Sources.{Cursor, skip}
 use Rattle.ion_value.specs.Parts.{Placed, part, refuse, ◌>>=◌, ◌>>◌}
 use Rattle.ion_text_in.specs.Blanks.{blanks}
@@ -22,7 +22,7 @@ use Rattle.ion_text_in.specs.Positions.{at, Wants, a_value, a_field, a_separator
 use Rattle.ion_text_in.specs.Reading.{cost, may_come, behind_colons, tells_version, step, step_of, take, part_at, size}
 use Rattle.ion_text_in.proofs.Shrinking.{NoLonger, Passed, Past, skip-within, blanks-pass, blanks-within, token-past}
 use Rattle.ion_text_in.proofs.Steps.{tok-read, colons-behind}
-use Rattle.ion_text_in.proofs.TokenCuts.{Cut, same, limit, bind-Cut, Short, token-cut}
+use Rattle.ion_text_in.proofs.TokenCuts.{Cut, same, limit, bind-Cut, Short, token_counts, token-cut}
 use Rattle.ion_text_in.proofs.WentWell.{part-known}
 
 -- ---- what a step leaves
@@ -102,8 +102,8 @@ ended-less n kinds wants p = fault n p reason.Truncated refl
 -- ---- a step, or a limit's fault in its place
 
 -- the fault of a limit that is passed at its place
-abbrev pub PassesAt : Limits → State → Reason × ℕ → Type 0
-PassesAt limits s fault = Passes limits s fault.1 fault.0
+abbrev pub PassesAt : {A : Type 0} → Limits → State → Reason × ℕ → Placed A → Type 0
+PassesAt limits s fault w = Passes limits s fault.1 fault.0
 
 pub data StepCut (limits : Limits) (s : State) : Step State → Step State → Type 0 where
   same_step : (o : Step State) → LeavesLess (size s) o → StepCut limits s o o
@@ -177,22 +177,26 @@ module _ (limits wide : Limits) (within : AreWithin limits wide) where
     abbrev FreeAt : Reason × ℕ → Type 0
     FreeAt fault = Free fault.0
 
+    abbrev TokenShort : Cursor → Result (Token × Cursor) Reason → Result (Token × Cursor) Reason → Type 0
+    TokenShort c r w = Short (Some limits.scalar) (Some wide.scalar) scalar-passed (token_counts c.place) r w
+
     -- the token itself
     token-Cut : (c : Cursor) (r w : Result (Token × Cursor) Reason) → blanks s.cursor ≡ Ok c → token_of (Some limits.scalar) (first_at sexp c.rest) c ≡ r
-        → Short r w → Cut (λ r. Blames FreeAt r) (PassesAt limits s) (part c.place r) (part c.place w)
+        → TokenShort c r w → Cut (λ r. Blames FreeAt r) (PassesAt limits s) (part c.place r) (part c.place w)
     unfolding next_token
-    token-Cut c _ _ blank is (same r free) = same (part c.place r) (part_blames FreeAt c.place r free)
+    token-Cut c _ _ blank is (same (Ok t) kept) = same (Ok t) (record { so = tt })
+    token-Cut c _ _ blank is (same (Err why) free) = same (Err (why, c.place)) (record { so = free })
     token-Cut c _ _ blank is (limit e w long) =
-        limit (e, c.place) (part c.place w) (rw long (Passes.token (rw (blank, is, long) refl)))
+        limit (e, c.place) (part c.place w) (rw long.0 (Passes.token (rw (blank, is, long.0) refl)))
 
     coming-Cut : (c : Cursor) (first : First) (may : Bool) → blanks s.cursor ≡ Ok c → 0 < length c.rest → first_at sexp c.rest ≡ first
         → Steps limits s (size s) (reading.next_part limits s c first may) (reading.next_part wide s c first may)
     coming-Cut c first false blank some is = same _ (fault _ c.place reason.BadToken refl)
     coming-Cut c first true blank some is =
-        bind-Cut (λ r. Blames FreeAt r) (λ r. Less (size s) r) (PassesAt limits s) (part c.place (token_of (Some limits.scalar) first c)) (part c.place (token_of (Some wide.scalar) first c)) _ _
-        (λ e free. record { so = free.so })
+        bind-Cut (λ r. Blames FreeAt r) (λ r. Less (size s) r) (PassesAt limits s) (PassesAt limits s) (part c.place (token_of (Some limits.scalar) first c)) (part c.place (token_of (Some wide.scalar) first c)) _ _
+        (λ e free. record { so = free.so }) (λ e w passes. passes)
         (token-Cut c _ _ blank (ap (λ first. token_of (Some limits.scalar) first c) is) (token-cut (Some limits.scalar) (Some wide.scalar) scalar-passed first c))
-        (λ t known.
+        (λ t known _.
         let token : token_of (Some limits.scalar) first c ≡ Ok t = part-known c.place _ t known in
         let past : length t.1.rest < length c.rest = subst (λ o. Past c o) token (token-past (Some limits.scalar) first c some) in
         let before = blanks-within s.cursor c blank in
@@ -207,8 +211,8 @@ module _ (limits wide : Limits) (within : AreWithin limits wide) where
     pub step-Cut : StepCut limits s (step limits s) (step wide s)
     unfolding step part_at
     step-Cut = by (part_at limits s) (part_at wide s)
-        (bind-Cut (λ r. Blames FreeAt r) (λ r. Less (size s) r) (PassesAt limits s) (blanks s.cursor) (blanks s.cursor) _ _ (λ e free. record { so = free.so })
-        (same _ (free-blanks (blanks s.cursor) (blanks-pass s.cursor))) (λ c blank. behind-Cut c c.rest blank refl))
+        (bind-Cut (λ r. Blames FreeAt r) (λ r. Less (size s) r) (PassesAt limits s) (PassesAt limits s) (blanks s.cursor) (blanks s.cursor) _ _ (λ e free. record { so = free.so }) (λ e w passes. passes)
+        (same _ (free-blanks (blanks s.cursor) (blanks-pass s.cursor))) (λ c blank _. behind-Cut c c.rest blank refl))
       where
         free-blanks : (o : Placed Cursor) → Passed (size s) o → Blames FreeAt o
         free-blanks (Ok c) passed = record { so = tt }

@@ -13,17 +13,17 @@ use Rattle.ion_value.specs.declared.int.Int.{Int}
 use Rattle.ion_value.specs.declared.timestamp.Timestamp.{Timestamp}
 use Rattle.ion_value.specs.declared.timestamp.Precision.{Precision}
 use Rattle.ion_value.specs.declared.timestamp.Precision.TheVariants.{Year, Month, Day, Minute, Second, Fraction}
-use Rattle.ion_value.specs.Decimal.{IsExponent, integer_text, magnitude_text, most_places, decimal_text, decimal_of_text}
+use Rattle.ion_value.specs.Decimal.{IsDecimal, IsExponent, integer_text, magnitude_text, most_places, decimal_text, decimal_of_text}
 use Rattle.ion_value.specs.Digits.{is_digit, digit_value, first_is, all_are, fixed_digits}
-use Rattle.ion_value.specs.Int.{int_text, int_of_text}
+use Rattle.ion_value.specs.Int.{IsInt, int_text, int_of_text}
 use Rattle.ion_value.specs.Number.{number}
-use Rattle.ion_value.specs.Name.{is_identifier, is_version, keyword, is_id, raw_id, id_of, is_identifier_start, is_identifier_byte, is_one_of, null_text, bool_text}
+use Rattle.ion_value.specs.Name.{is_plain, is_identifier, is_version, keyword, is_id, raw_id, id_of, is_identifier_start, is_identifier_byte, is_one_of, null_text, bool_text}
 use Rattle.ion_value.specs.declared.ion_type.IonType.{IonType}
 use Rattle.ion_value.specs.declared.ion_type.IonType.TheVariants as type
 use Rattle.std.specs.Str.{bytes_eq}
 use Rattle.std.specs.Prelude.{is_none}
 use Rattle.ion_value.specs.Scalar.{scalar_of_readings, scalar_of_run}
-use Rattle.ion_value.specs.Timestamp.{day_text, minute_text, second_text, minutes_text, offset_text, text_to, timestamp_text, timestamp_of_text}
+use Rattle.ion_value.specs.Timestamp.{IsTimestamp, day_text, minute_text, second_text, minutes_text, offset_text, text_to, timestamp_text, timestamp_of_text}
 use Rattle.ion_value.specs.Value.{SymbolAt, Scalar, int, timestamp}
 use Rattle.ion_value.specs.Value as value
 use Rattle.ion_value.specs.Parts.{◌>>=◌}
@@ -37,7 +37,7 @@ use Rattle.ion_text_in.specs.Blanks.{is_white}
 use Rattle.ion_text_in.specs.Token as tokens
 use Rattle.ion_text_in.specs.Token.{First, a_run, a_word, first_at, begins_run, in_run, in_word, bytes_of, with_type, word_of, word_token, counted, run_token, Token, plain, token_of}
 use Rattle.ion_text_in.specs.Meaning.{Limit, Allows, at}
-use Rattle.ion_text_in.proofs.Going.{MeansIf, behind_null, NullIf, BoolIf, PlainSymbolIf, IdWordIf, IdIf, IntIf, DecimalIf, TimestampIf}
+use Rattle.ion_text_in.proofs.Going.{MeansIf, behind_null}
 
 -- ---- limits and cursors
 
@@ -180,7 +180,7 @@ scalar-int run i e = ap (λ o. scalar_of_readings {S = SymbolAt} o (decimal_of_t
 decimal-runs : (n : ℕ) (text : List ℕ) → n < 10 ^ 64 → all_are is_run_byte text ≡ true → Runs (decimal n ++ text)
 decimal-runs n text small behind = let w = spells n small in digits-behind (decimal n) text w.some w.digits behind
 
-pub int-means : IntIf
+pub int-means : (i : Int) → IsInt i → MeansIf (length (int_text i)) in_run (int_text i) (plain (int i))
 int-means i valid =
     let runs = subst Runs (append-nil (decimal i.magnitude)) (decimal-runs i.magnitude [] (omega (arith, valid.fits)) refl) in
     run-means (int_text i) (int i) (sign-run i.negative (decimal i.magnitude) runs) (scalar-int (int_text i) i (int_text-is_read i valid))
@@ -213,7 +213,7 @@ magnitude-runs n (negsuc e) small within = elim (cases_Bool (nat_lt e most_place
   | inr many ↦ rw many (decimal-runs n (100 ∷ integer_text (negsuc e)) small (exponent-bytes (negsuc e) within))
 ]
 
-pub decimal-means : DecimalIf
+pub decimal-means : (d : Decimal) → IsDecimal d → MeansIf (length (decimal_text d)) in_run (decimal_text d) (plain (value.decimal d))
 decimal-means d valid =
     run-means (decimal_text d) (value.decimal d)
     (sign-run d.negative (magnitude_text d.coefficient d.exponent) (magnitude-runs d.coefficient d.exponent (omega (arith, valid.coefficient)) valid.exponent))
@@ -279,7 +279,7 @@ timestamp-runs : (t : Timestamp) → Runs (timestamp_text t)
 unfolding timestamp_text
 timestamp-runs t = text-runs t.precision t
 
-pub timestamp-means : TimestampIf
+pub timestamp-means : (t : Timestamp) → IsTimestamp t → MeansIf (length (timestamp_text t)) in_run (timestamp_text t) (plain (timestamp t))
 timestamp-means t valid =
     run-means (timestamp_text t) (timestamp t) (run-of_digits (timestamp_text t) (timestamp-runs t)) (scalar-timestamp (timestamp_text t) t (text-read t valid))
 
@@ -323,7 +323,7 @@ unfolding word_token
 bool-token true = refl
 bool-token false = refl
 
-pub bool-means : BoolIf
+pub bool-means : (truth : Bool) → MeansIf (length (bool_text truth)) in_word (bool_text truth) (plain (value.bool truth))
 bool-means truth = word-means in_word (bool_text truth) (plain (value.bool truth)) (bool-word truth) (bool-first truth) (bool-token truth)
 
 -- `null`, a point and a type
@@ -346,7 +346,7 @@ unfolding word_token
 null-token type.Null = refl
 null-token t = refl
 
-pub null-means : NullIf
+pub null-means : (t : IonType) → MeansIf (length (null_text t)) (behind_null t) (null_text t) (plain (value.null t))
 null-means t = word-means (behind_null t) (null_text t) (plain (value.null t)) (null-word t) (null-first t) (null-token t)
 
 -- ---- symbols without quotes
@@ -373,7 +373,7 @@ symbol-token : (word : List ℕ) (id : Bool) → keyword word ≡ None → is_id
 unfolding word_token
 symbol-token word id none is = ap (λ k. tokens.by_keyword k word) none ∙ ap (λ (id : Bool). named (if id then value.Id (id_of word) else value.Text word)) is
 
-pub plain-symbol-means : PlainSymbolIf
+pub plain-symbol-means : (word : List ℕ) → is_plain word ≡ true → MeansIf (length word) in_word word (tokens.name false (value.Text word))
 unfolding first_at
 plain-symbol-means [] is = absurd (false≢true is)
 plain-symbol-means (b ∷ word) is =
@@ -400,7 +400,7 @@ digits-identifier (d ∷ digits) e =
     let first : is_identifier_byte d ≡ true = grind (arith, nat_tests) in
     and_from (is_identifier_byte d) (all_are is_identifier_byte digits) first (digits-identifier digits parts.1)
 
-pub id_word-means : IdWordIf
+pub id_word-means : (word : List ℕ) → is_id word ≡ true → MeansIf (length word) in_word word (tokens.name false (value.Id (id_of word)))
 unfolding first_at
 id_word-means [] is = absurd (false≢true is)
 id_word-means (b ∷ word) is =
@@ -414,7 +414,7 @@ id_word-means (b ∷ word) is =
 id-digits : (ds : List ℕ) → 0 < length ds → all_are is_digit ds ≡ true → is_id (36 ∷ ds) ≡ true
 id-digits ds some digits = and_from (nat_lt 1 (length (36 ∷ ds))) (all_are is_digit ds) (lt-ltb 1 (length (36 ∷ ds)) (omega (arith, some))) digits
 
-pub id-means : IdIf
+pub id-means : (id : ℕ) → id ≤ 2 ^ 31 → MeansIf (length (36 ∷ decimal id)) in_word (36 ∷ decimal id) (tokens.name false (value.Id id))
 id-means id most =
     let w = spells id (omega (arith, most)) in
     let value_is : number 10 (map digit_value (decimal id)) ≡ id

@@ -11,7 +11,7 @@ use Rattle.ion_value.specs.Scalar.{scalar_of_run}
 use Rattle.ion_value.specs.Value as value
 use Rattle.ion_value.specs.Value.{SymbolAt, Scalar}
 use Rattle.ion_meter.specs.Sources.{Cursor, skip}
-use Rattle.ion_value.specs.Parts.{Placed, part, refuse, ◌>>=◌, ◌>>◌}
+use Rattle.ion_value.specs.Parts.{part, refuse, ◌>>=◌, ◌>>◌}
 use Rattle.ion_text_in.specs.Limit.{passes}
 use Rattle.ion_text_in.specs.Blanks.{blanks}
 use Rattle.ion_text_in.specs.Meaning.{counts, TokensWithinAreRead}
@@ -25,7 +25,9 @@ use Rattle.ion_text_in.specs.Reading as reading
 use Rattle.ion_text_in.specs.Positions.{Wants, a_value, a_field, a_separator, State, innermost, in_sexp}
 use Rattle.ion_text_in.specs.Reading.{is_punctuation, names_field, may_come, step, step_of, take, part_at}
 use Rattle.ion_text_in.specs.Grammar.{Tok}
-use Rattle.ion_text_in.proofs.TokenLimits.{got, token-exact}
+use Rattle.ion_text_in.proofs.TokenCuts.{token-exact}
+use Rattle.ion_text_in.proofs.TokenLimits.{got}
+use Rattle.ion_text_in.proofs.WentWell.{went, part-known}
 
 -- ---- what a token's first bytes told
 
@@ -106,26 +108,21 @@ pub record Stands (sexp : Bool) (c : Cursor) (t : Token) (p : ℕ) (d : Cursor) 
   pub token : token_of None (first_at sexp prefix.rest) prefix ≡ got t d
   pub place : prefix.place ≡ p
 
-tok-cut : (sexp : Bool) (c b d : Cursor) (t : Token) (p : ℕ) → blanks c ≡ Ok b → (o : Result (Token × Cursor) Reason) → token_of None (first_at sexp b.rest) b ≡ o
-    → (part b.place o >>= (λ t. Ok (tokens.cut t.0 b.place t.1))) ≡ Ok (tokens.cut t p d) → Stands sexp c t p d
-tok-cut sexp c b d t p blank (Ok u) token e =
-    let same : tokens.cut u.0 b.place u.1 ≡ tokens.cut t p d = cc e in
-    let is : u.0 ≡ t = ap (λ (z : tokens.Cut). z.token) same in
-    let behind : u.1 ≡ d = ap (λ (z : tokens.Cut). z.behind) same in
-    record { prefix = b; blank = blank; token = token ∙ ap Ok (pair u t d is behind); place = ap (λ (z : tokens.Cut). z.first) same }
-  where
-    pair : (u : Token × Cursor) (t : Token) (d : Cursor) → u.0 ≡ t → u.1 ≡ d → u ≡ (t, d)
-    pair u t d is behind = rw (← is, ← behind) refl
-tok-cut sexp c b d t p blank (Err reason) token e = absurd (cc e)
-
-tok-blank : (sexp : Bool) (c d : Cursor) (t : Token) (p : ℕ) (o : Placed Cursor) → blanks c ≡ o
-    → (o >>= (λ b. part b.place (token_at None sexp b) >>= (λ t. Ok (tokens.cut t.0 b.place t.1)))) ≡ Ok (tokens.cut t p d) → Stands sexp c t p d
-tok-blank sexp c d t p (Ok b) blank e = tok-cut sexp c b d t p blank (token_at None sexp b) refl e
-tok-blank sexp c d t p (Err fault) blank e = absurd (cc e)
-
 pub tok-stands : (sexp : Bool) (c d : Cursor) (t : Token) (p : ℕ) → Tok sexp c t p d → Stands sexp c t p d
 unfolding next_token
-tok-stands sexp c d t p e = tok-blank sexp c d t p (blanks c) refl e
+tok-stands sexp c d t p e =
+    let before = went (blanks c) _ _ e in
+    let b : Cursor = before.value in
+    let there = went (part b.place (token_at None sexp b)) _ _ before.second in
+    let u : Token × Cursor = there.value in
+    let same : tokens.cut u.0 b.place u.1 ≡ tokens.cut t p d = cc there.second in
+    let is : u ≡ (t, d) = ap (λ (z : tokens.Cut). (z.token, z.behind)) same in
+    record {
+      prefix = b;
+      blank = before.first;
+      token = part-known b.place (token_at None sexp b) u there.first ∙ ap Ok is;
+      place = ap (λ (z : tokens.Cut). z.first) same;
+    }
 
 -- ---- under a limit
 

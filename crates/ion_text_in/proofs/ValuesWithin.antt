@@ -38,7 +38,7 @@ use Rattle.ion_text_in.proofs.Allowing.{tops-allowed}
 use Rattle.ion_text_in.proofs.RawTokens.{tokens-are_raw}
 use Rattle.ion_text_in.proofs.TokenLimits.{CountsAll, run_token-counts, word_token-counts}
 use Rattle.ion_text_in.proofs.Tokens.{tok-stands}
-use Rattle.ion_text_in.proofs.WentWell.{if-then, if-either}
+use Rattle.ion_text_in.proofs.WentWell.{if-then, if-either, any-ok}
 
 all-append : {A : Type 0} (P : A → Type 0) (xs ys : List A) → AllByRecursion P xs → AllByRecursion P ys → AllByRecursion P (xs ++ ys)
 all-append P [] ys h k = k
@@ -47,11 +47,6 @@ all-append P (x ∷ xs) ys h k = (h.0, all-append P xs ys h.1 k)
 all-more : {A : Type 0} (P Q : A → Type 0) → ((x : A) → P x → Q x) → (xs : List A) → AllByRecursion P xs → AllByRecursion Q xs
 all-more P Q more [] h = tt
 all-more P Q more (x ∷ xs) h = (more x h.0, all-more P Q more xs h.1)
-
--- what went well, went well
-any-ok : {A E : Type 0} (o : Result A E) → IfOk o (λ x. Unit {0})
-any-ok (Ok x) = tt
-any-ok (Err reason) = tt
 
 module _ (limits : Limits) where
   -- ---- tokens

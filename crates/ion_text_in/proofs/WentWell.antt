@@ -19,6 +19,10 @@ pub if-then : {A B E : Type 0} (P : A → Type 0) (Q : B → Type 0) (o : Result
 if-then P Q (Ok x) f h more = more x h
 if-then P Q (Err reason) f h more = tt
 
+pub any-ok : {A E : Type 0} (o : Result A E) → IfOk o (λ x. Unit {0})
+any-ok (Ok x) = tt
+any-ok (Err reason) = tt
+
 pub if-more : {A E : Type 0} (P Q : A → Type 0) (o : Result A E) → IfOk o P → ((x : A) → P x → Q x) → IfOk o Q
 if-more P Q (Ok x) h more = more x h
 if-more P Q (Err reason) h more = tt

@@ -75,12 +75,14 @@ unfolding run_of
 run-none test [] e = refl
 run-none test (b ∷ bytes) e = rw (run_of, e) refl
 
-run-all : (text rest : List ℕ) → all_are is_run_byte text ≡ true → in_run rest ≡ false → run_of in_run (text ++ rest) ≡ (text, rest)
-run-all [] rest all ends = run-none in_run rest ends
-run-all (b ∷ text) rest all ends =
-    let parts = and_parts (is_run_byte b) (all_are is_run_byte text) all in
-    run-more in_run b (text ++ rest) (run-byte b (text ++ rest) parts.0)
-    ∙ ap (λ (z : List ℕ × List ℕ). (b ∷ z.0, z.1)) (run-all text rest parts.1 ends)
+-- bytes each of which goes on
+run-all : (one : ℕ → Bool) (test : List ℕ → Bool) → ((b : ℕ) (bytes : List ℕ) → one b ≡ true → test (b ∷ bytes) ≡ true) → (text rest : List ℕ) → all_are one text ≡ true → test rest ≡ false
+    → run_of test (text ++ rest) ≡ (text, rest)
+run-all one test goes_on [] rest all ends = run-none test rest ends
+run-all one test goes_on (b ∷ text) rest all ends =
+    let parts = and_parts (one b) (all_are one text) all in
+    run-more test b (text ++ rest) (goes_on b (text ++ rest) parts.0)
+    ∙ ap (λ (z : List ℕ × List ℕ). (b ∷ z.0, z.1)) (run-all one test goes_on text rest parts.1 ends)
 
 -- a text that begins as a run does, and all of whose bytes go on with it
 pub record IsRun (text : List ℕ) : Type 0 where
@@ -106,7 +108,7 @@ first-run sexp b xs e = rw (begins-no_word b xs e, e) refl
 
 run-bytes : (text rest : List ℕ) → IsRun text → in_run rest ≡ false → bytes_of in_run (text ++ rest) ≡ text
 run-bytes text rest run ends =
-    let e : bytes_of in_run ((run.first ∷ run.others) ++ rest) ≡ run.first ∷ run.others = rw (run-all run.others rest run.goes_on ends) refl in
+    let e : bytes_of in_run ((run.first ∷ run.others) ++ rest) ≡ run.first ∷ run.others = rw (run-all is_run_byte in_run run-byte run.others rest run.goes_on ends) refl in
     subst (λ (xs : List ℕ). bytes_of in_run (xs ++ rest) ≡ xs) (sym run.text_is) e
 
 run-first : (sexp : Bool) (text rest : List ℕ) → IsRun text → first_at sexp (text ++ rest) ≡ a_run
@@ -117,16 +119,16 @@ run-first sexp text rest run =
 abbrev token_behind : Token → Cursor → Result (Token × Cursor) Reason
 token_behind t c = Ok (t, c)
 
-counted-run : (limit : Limit) (place : ℕ) (text bytes rest : List ℕ) (v : Scalar SymbolAt) → bytes ≡ text → passes limit (length text) ≡ false → scalar_of_run text ≡ Ok v
-    → (counted limit bytes (at place (text ++ rest)) >>= (λ r. run_token r.0 >>= (λ t. token_behind t r.1))) ≡ Ok (plain v, at (place + length text) rest)
-counted-run limit place text bytes rest v is fits means =
-    rw (is, fits, means, skip-prefix place text rest) refl
+counted-means : (limit : Limit) (place : ℕ) (text bytes rest : List ℕ) (means : List ℕ → Result Token Reason) (t : Token) → bytes ≡ text → passes limit (length text) ≡ false → means text ≡ Ok t
+    → (counted limit bytes (at place (text ++ rest)) >>= (λ r. means r.0 >>= (λ t. token_behind t r.1))) ≡ Ok (t, at (place + length text) rest)
+counted-means limit place text bytes rest means t is fits e = rw (is, fits, e, skip-prefix place text rest) refl
 
 pub run-means : (text : List ℕ) (v : Scalar SymbolAt) → IsRun text → scalar_of_run text ≡ Ok v → MeansIf (length text) in_run text (plain v)
 unfolding token_of
 run-means text v run means limit sexp place rest allows ends =
     ap (λ (f : First). token_of limit f (at place (text ++ rest))) (run-first sexp text rest run)
-    ∙ counted-run limit place text (bytes_of in_run (text ++ rest)) rest v (run-bytes text rest run ends) (allowed limit (length text) allows) means
+    ∙ counted-means limit place text (bytes_of in_run (text ++ rest)) rest run_token (plain v) (run-bytes text rest run ends) (allowed limit (length text) allows)
+    (ap (λ (o : Result (Scalar SymbolAt) Reason). o >>= (λ v. Ok (plain v))) means)
 
 -- ---- digits and what stands between them
 
@@ -290,17 +292,10 @@ word-means : (goes_on : List ℕ → Bool) (text : List ℕ) (t : Token) → ((r
 unfolding token_of
 word-means goes_on text t word first means limit sexp place rest allows ends =
     ap (λ (f : First). token_of limit f (at place (text ++ rest))) (first sexp rest)
-    ∙ counted-word limit place text (word_of (text ++ rest)) rest t (word rest ends) (allowed limit (length text) allows) means
-  where
-    counted-word : (limit : Limit) (place : ℕ) (text bytes rest : List ℕ) (t : Token) → bytes ≡ text → passes limit (length text) ≡ false → word_token text ≡ Ok t
-        → (counted limit bytes (at place (text ++ rest)) >>= (λ w. word_token w.0 >>= (λ t. token_behind t w.1))) ≡ Ok (t, at (place + length text) rest)
-    counted-word limit place text bytes rest t is fits means = rw (is, fits, means, skip-prefix place text rest) refl
+    ∙ counted-means limit place text (word_of (text ++ rest)) rest word_token t (word rest ends) (allowed limit (length text) allows) means
 
 word-all : (text rest : List ℕ) → all_are is_identifier_byte text ≡ true → in_word rest ≡ false → run_of in_word (text ++ rest) ≡ (text, rest)
-word-all [] rest all ends = run-none in_word rest ends
-word-all (b ∷ text) rest all ends =
-    let parts = and_parts (is_identifier_byte b) (all_are is_identifier_byte text) all in
-    run-more in_word b (text ++ rest) parts.0 ∙ ap (λ (z : List ℕ × List ℕ). (b ∷ z.0, z.1)) (word-all text rest parts.1 ends)
+word-all text rest all ends = run-all is_identifier_byte in_word (λ b bytes e. e) text rest all ends
 
 -- a word that is not `null`, or has no point behind it
 whole-word : (b : ℕ) (text rest : List ℕ) → all_are is_identifier_byte text ≡ true → in_word rest ≡ false

@@ -42,14 +42,9 @@ use Rattle.ion_text_in.proofs.WentWell.{if-then, if-passed, if-either}
 int_in_range-valid : (negative : Bool) (n : ℕ) → IfOk (int_in_range negative n) IsInt
 int_in_range-valid negative n = by (nat_lt n (2 ^ 128)) refl
   where
-    sign : (m : Bool) (k : ℕ) → IsTrue (m && nat_lt 0 k) → 0 < k
-    sign true zero h = absurd (cc h)
-    sign true (suc k) h = omega arith
-    sign false k h = absurd (false≢true h)
-
     by : (b : Bool) → nat_lt n (2 ^ 128) ≡ b
         → IfOk (if b then Ok (record { negative = negative && nat_lt 0 n; magnitude = n }) else Err Range) IsInt
-    by true e = record { positive_zero = λ h. sign negative n h; fits = ltb-true n (2 ^ 128) e }
+    by true e = record { positive_zero = λ h. ltb-true 0 n (and_parts negative (nat_lt 0 n) h).1; fits = ltb-true n (2 ^ 128) e }
     by false e = tt
 
 int-valid : (run : List ℕ) → IfOk (int_of_text run) IsInt

@@ -13,7 +13,7 @@ use Rattle.ion_text_in.specs.Quoted.{Quote, Piece, char, close, illegal, cut, He
 use Rattle.ion_text_in.specs.Lob as lob
 use Rattle.ion_text_in.specs.Lob.{group_of, groups_for}
 use Rattle.ion_text_in.specs.Scanning.{Spelled, IsQuote, Takes, PieceTakes, EachPieceTakes, pieces, segments, groups, with_groups, PiecesInTurn, SegmentsInTurn, GroupsInTurn}
-use Rattle.ion_text_in.proofs.Shrinking.{NoLonger, PieceIs, piece-is, Sized, segment-sized, WithinIf, between-within, group-counts}
+use Rattle.ion_text_in.proofs.Shrinking.{NoLonger, PieceIs, piece-is, Any, Sized, any-segment, WithinIf, between-within, group-counts}
 
 -- ---- steps that are the same
 
@@ -98,7 +98,7 @@ segments-by : (later more : ℕ → Cursor → Spelled) (q : Quote) (limit : Opt
     ≡ (segment_at q limit count c >>= (λ s. quoted.with_segments (λ d. more (count + length s.0) d) s (quoted.next_segment q s.1)))
 segments-by later more q limit count c is equal =
     bind-same (segment_at q limit count c) (segment_at q limit count c) _ _ refl
-    (λ s e. let sized : length s.0 + length s.1.rest ≤ length c.rest = subst (λ o. Sized c o) e (segment-sized q limit count c) in
+    (λ s e. let sized : length s.0 + length s.1.rest ≤ length c.rest = (subst (λ o. Sized Any c o) e (any-segment q limit count c)).0 in
     with_segments-fuel (λ d. later (count + length s.0) d) (λ d. more (count + length s.0) d) c s (quoted.next_segment q s.1) (omega (arith, sized)) (next-shorter q s.1 q.is_long is)
     (λ d less. equal (count + length s.0) d less))
 

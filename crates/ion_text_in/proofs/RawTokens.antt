@@ -1,5 +1,5 @@
 -- What each token means is raw: numbers in range, texts in UTF-8, lobs of bytes.
-use Rattle.std.proofs.Common.{◌≡◌, ◌⊎◌, inl, inr, ℕ, zero, suc, ◌^◌, ◌<◌, ℤ, pos, ◌-ℤ◌, filter, Bool, true, false, not, ◌&&◌, ◌||◌, ◌==◌, nat_lt, if◌then◌else◌, List, [], ◌∷◌, ◌++◌, length, drop, slice_index, codes, Option, None, Some, Result, Ok, Err, IsUtf8, IsTrue, refl, sym, arith}
+use Rattle.std.proofs.Common.{◌≡◌, ◌⊎◌, inl, inr, ℕ, zero, suc, ◌^◌, ◌<◌, ℤ, pos, ◌-ℤ◌, filter, Bool, true, false, not, ◌&&◌, ◌||◌, ◌==◌, nat_lt, if◌then◌else◌, List, [], ◌∷◌, ◌++◌, length, drop, slice_index, codes, Option, None, Some, Result, Ok, Err, IsUtf8, refl, sym, arith}
 use Rattle.std.specs.List.{AllByRecursion}
 use Rattle.std.specs.Result.{IfOk}
 use Rattle.std.specs.Str.{is_utf8, bytes_eq}
@@ -31,11 +31,12 @@ use Rattle.ion_text_in.specs.Meaning.{IsRawScalar, IsRawToken, TokensAreRaw}
 use Rattle.ion_text_in.specs.Places.{run_of}
 use Rattle.ion_text_in.specs.Quoted.{Quote, symbol_quote, short_quote, long_quote, pieces_for, segment_at, text_at}
 use Rattle.ion_text_in.specs.Token.{First, a_run, a_word, a_quoted, a_short, a_long, a_lob, an_operator, an_infinity, first_at, Token, name, counted, bytes_of, in_run, in_word, in_operator, with_type, word_of, word_token, run_token, by_keyword, token_of}
-use Rattle.ion_text_in.proofs.LobBytes.{Joins, text-is, lob-raw}
+use Rattle.ion_text_in.proofs.LobBytes.{lob-raw}
 use Rattle.ion_text_in.proofs.NumberEnds.{one_of-from}
+use Rattle.ion_text_in.proofs.Shrinking.{Any, SizedAt, Sized, any-pieces, text-sized}
 use Rattle.ion_text_in.proofs.TokenBegins.{what-begins}
 use Rattle.ion_text_in.proofs.Tokens.{tok-stands}
-use Rattle.ion_text_in.proofs.WentWell.{if-then, if-passed, if-either}
+use Rattle.ion_text_in.proofs.WentWell.{if-then, if-passed, if-either, if-more}
 
 -- ---- runs
 
@@ -92,7 +93,7 @@ run-raw run =
 abbrev Ascii : List ℕ → Type 0
 Ascii bytes = AllByRecursion (λ b. b < 128) bytes
 
-ascii-joins : Joins Ascii
+ascii-joins : (xs ys : List ℕ) → Ascii xs → Ascii ys → Ascii (xs ++ ys)
 ascii-joins [] ys h k = k
 ascii-joins (x ∷ xs) ys h k = (h.0, ascii-joins xs ys h.1 k)
 
@@ -177,20 +178,16 @@ or-second : (x y : Bool) → x ≡ false → not (x || y) ≡ false → y ≡ tr
 or-second false y e f = not-false y f
 or-second true y e f = absurd (false≢true (sym e))
 
-segment-utf8 : (q : Quote) (limit : Option ℕ) → q.in_clob ≡ false → (count : ℕ) (c : Cursor)
-    → IfOk (segment_at q limit count c) (λ s. IsUtf8 s.0)
+segment-utf8 : (q : Quote) (limit : Option ℕ) → q.in_clob ≡ false → (count : ℕ) (c : Cursor) → Sized IsUtf8 c (segment_at q limit count c)
 unfolding segment_at
 segment-utf8 q limit no_clob count c =
-    if-then (λ s. Unit {0}) _ (pieces_for (suc (length c.rest)) q limit count c) _ (any (pieces_for (suc (length c.rest)) q limit count c))
-    (λ s h. if-passed (λ (s : List ℕ × Cursor). IsUtf8 s.0) (not (q.in_clob || is_utf8 s.0)) BadText (Ok s)
-    (λ e. IsUtf8-from_is_utf8 s.0 (or-second q.in_clob (is_utf8 s.0) no_clob e)))
-  where
-    any : (o : Result (List ℕ × Cursor) Reason) → IfOk o (λ s. Unit {0})
-    any (Ok s) = tt
-    any (Err reason) = tt
+    if-then (SizedAt Any c) _ (pieces_for (suc (length c.rest)) q limit count c) _ (any-pieces q limit count c)
+    (λ s h. if-passed (SizedAt IsUtf8 c) (not (q.in_clob || is_utf8 s.0)) BadText (Ok s)
+    (λ e. (h.0, IsUtf8-from_is_utf8 s.0 (or-second q.in_clob (is_utf8 s.0) no_clob e))))
 
 text-utf8 : (q : Quote) (limit : Option ℕ) (c : Cursor) → q.in_clob ≡ false → IfOk (text_at q limit c) (λ t. IsUtf8 t.0)
-text-utf8 q limit c no_clob = text-is IsUtf8 IsUtf8-append q limit (segment-utf8 q limit no_clob) c
+text-utf8 q limit c no_clob =
+    if-more (SizedAt IsUtf8 c) _ (text_at q limit c) (text-sized IsUtf8 (record { none = ascii-utf8 [] tt; join = IsUtf8-append }) limit q (segment-utf8 q limit no_clob) c) (λ t h. h.1)
 
 -- ---- tokens
 

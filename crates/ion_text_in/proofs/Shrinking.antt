@@ -32,7 +32,7 @@ use Rattle.ion_text_in.specs.Scanning.{Takes}
 use Rattle.ion_text_in.specs.Token as tokens
 use Rattle.ion_text_in.specs.Token.{First, a_word, a_quoted, a_short, a_long, a_run, a_lob, an_operator, an_infinity, two_colons, no_token, Token, plain, name, text, operator, token_of, in_run, in_word, in_operator, bytes_of, word_of, counted, run_token, word_token}
 use Rattle.ion_text_in.proofs.TokenLimits.{CountsAll, run_token-counts, word_token-counts}
-use Rattle.ion_text_in.proofs.WentWell.{if-then, if-passed, if-either, if-more}
+use Rattle.ion_text_in.proofs.WentWell.{any-ok, if-then, if-passed, if-either, if-more, if-both}
 
 -- no more is left at one cursor than at another
 abbrev pub NoLonger : Cursor → Cursor → Type 0
@@ -226,40 +226,6 @@ module _ (q : Quote) where
 
 -- ---- texts
 
--- no more bytes are given than are taken
-abbrev pub Sized : Cursor → Result (List ℕ × Cursor) Reason → Type 0
-Sized c o = IfOk o (λ x. length x.0 + length x.1.rest ≤ length c.rest)
-
-behind-sized : (c d : Cursor) (bytes : List ℕ) (o : Result (List ℕ × Cursor) Reason) → length bytes + length d.rest ≤ length c.rest → Sized d o
-    → Sized c (o >>= (λ others. Ok (bytes ++ others.0, others.1)))
-behind-sized c d bytes (Ok x) le s = omega (arith, le, s, length-append bytes x.0)
-behind-sized c d bytes (Err reason) le s = tt
-
--- bytes that are counted, and others behind them
-sized-append : (c d : Cursor) (bytes : List ℕ) (limit : Option ℕ) (count : ℕ) (o : Result (List ℕ × Cursor) Reason) → length bytes + length d.rest ≤ length c.rest → Sized d o
-    → Sized c (refuse (passes limit (count + length bytes)) ScalarLimit >> (o >>= (λ others. Ok (bytes ++ others.0, others.1))))
-sized-append c d bytes limit count o le s =
-    if-passed (λ (x : List ℕ × Cursor). length x.0 + length x.1.rest ≤ length c.rest) (passes limit (count + length bytes)) ScalarLimit _ (λ _. behind-sized c d bytes o le s)
-
-with_piece-sized : (later : ℕ → Cursor → Result (List ℕ × Cursor) Reason) (q : Quote) (limit : Option ℕ) (count : ℕ) (c : Cursor) (piece : Piece) → PieceIs q c.rest piece
-    → ((n : ℕ) (d : Cursor) → Sized d (later n d)) → Sized c (quoted.with_piece later q limit count c piece)
-with_piece-sized later q limit count c (char bytes taken) is more =
-    sized-append c (skip taken c) bytes limit count (later (count + length bytes) (skip taken c)) (omega (arith, is.0.there, is.1, length-drop taken c.rest)) (more (count + length bytes) (skip taken c))
-with_piece-sized later q limit count c (close taken) is more = omega (arith, length-drop taken c.rest)
-with_piece-sized later q limit count c piece is more = tt
-
-pieces-sized : (most : ℕ) (q : Quote) (limit : Option ℕ) (count : ℕ) (c : Cursor) → Sized c (pieces_for most q limit count c)
-unfolding pieces_for
-pieces-sized zero q limit count c = tt
-pieces-sized (suc most) q limit count c =
-    with_piece-sized (λ n d. pieces_for most q limit n d) q limit count c (piece_at q c.rest) (piece-is q c.rest) (λ n d. pieces-sized most q limit n d)
-
-pub segment-sized : (q : Quote) (limit : Option ℕ) (count : ℕ) (c : Cursor) → Sized c (segment_at q limit count c)
-unfolding segment_at
-segment-sized q limit count c =
-    if-then (λ x. length x.0 + length x.1.rest ≤ length c.rest) _ (pieces_for (suc (length c.rest)) q limit count c) _ (pieces-sized (suc (length c.rest)) q limit count c)
-    (λ x s. if-passed _ (not (q.in_clob || is_utf8 x.0)) BadText (Ok x) (λ _. s))
-
 abbrev pub WithinIf : Cursor → Option Cursor → Type 0
 WithinIf c (Some d) = NoLonger c d
 WithinIf c None = Unit {0}
@@ -284,21 +250,89 @@ next-within : (q : Quote) (c : Cursor) (is_long : Bool) → WithinIf c (if is_lo
 next-within q c true = in_next-within q c (quoted.between q.in_clob c) (between-within q.in_clob c)
 next-within q c false = tt
 
-with_segments-sized : (later : Cursor → Result (List ℕ × Cursor) Reason) (c : Cursor) (s : List ℕ × Cursor) (o : Option Cursor)
-    → length s.0 + length s.1.rest ≤ length c.rest → WithinIf s.1 o → ((d : Cursor) → Sized d (later d)) → Sized c (quoted.with_segments later s o)
-with_segments-sized later c s None le w more = le
-with_segments-sized later c s (Some d) le w more = behind-sized c d s.0 (later d) (omega (arith, le, w)) (more d)
+-- no more bytes are given than are taken, and something holds of them
+abbrev pub SizedAt : (List ℕ → Type 0) → Cursor → List ℕ × Cursor → Type 0
+SizedAt P c x = (length x.0 + length x.1.rest ≤ length c.rest) × P x.0
 
-segments-sized : (most : ℕ) (q : Quote) (limit : Option ℕ) (count : ℕ) (c : Cursor) → Sized c (segments_for most q limit count c)
-unfolding segments_for
-segments-sized zero q limit count c = tt
-segments-sized (suc most) q limit count c =
-    if-then (λ s. length s.0 + length s.1.rest ≤ length c.rest) _ (segment_at q limit count c) _ (segment-sized q limit count c)
-    (λ s le. with_segments-sized (λ d. segments_for most q limit (count + length s.0) d) c s (quoted.next_segment q s.1) le (next-within q s.1 q.is_long)
-    (λ d. segments-sized most q limit (count + length s.0) d))
+abbrev pub Sized : (List ℕ → Type 0) → Cursor → Result (List ℕ × Cursor) Reason → Type 0
+Sized P c o = IfOk o (SizedAt P c)
 
-text-sized : (q : Quote) (limit : Option ℕ) (c : Cursor) → Sized c (text_at q limit c)
-text-sized q limit c = segments-sized (suc (length c.rest)) q limit 0 c
+-- it holds of no bytes, and of some behind others
+pub record Joins (P : List ℕ → Type 0) : Type 0 where
+  pub none : P []
+  pub join : (xs ys : List ℕ) → P xs → P ys → P (xs ++ ys)
+
+-- it holds of the bytes of a character
+abbrev pub PieceHas : (List ℕ → Type 0) → Piece → Type 0
+PieceHas P (char bytes taken) = P bytes
+PieceHas P piece = Unit {0}
+
+module _ (P : List ℕ → Type 0) (joins : Joins P) (limit : Option ℕ) where
+  behind-sized : (c d : Cursor) (bytes : List ℕ) (o : Result (List ℕ × Cursor) Reason) → length bytes + length d.rest ≤ length c.rest → P bytes → Sized P d o
+      → Sized P c (o >>= (λ others. Ok (bytes ++ others.0, others.1)))
+  behind-sized c d bytes (Ok x) le p s = (omega (arith, le, s.0, length-append bytes x.0), joins.join bytes x.0 p s.1)
+  behind-sized c d bytes (Err reason) le p s = tt
+
+  -- bytes that are counted, and others behind them
+  sized-append : (c d : Cursor) (bytes : List ℕ) (count : ℕ) (o : Result (List ℕ × Cursor) Reason) → length bytes + length d.rest ≤ length c.rest → P bytes → Sized P d o
+      → Sized P c (refuse (passes limit (count + length bytes)) ScalarLimit >> (o >>= (λ others. Ok (bytes ++ others.0, others.1))))
+  sized-append c d bytes count o le p s = if-passed (SizedAt P c) (passes limit (count + length bytes)) ScalarLimit _ (λ _. behind-sized c d bytes o le p s)
+
+  with_piece-sized : (later : ℕ → Cursor → Result (List ℕ × Cursor) Reason) (q : Quote) (count : ℕ) (c : Cursor) (piece : Piece) → PieceIs q c.rest piece → PieceHas P piece
+      → ((n : ℕ) (d : Cursor) → Sized P d (later n d)) → Sized P c (quoted.with_piece later q limit count c piece)
+  with_piece-sized later q count c (char bytes taken) is p more =
+      sized-append c (skip taken c) bytes count (later (count + length bytes) (skip taken c)) (omega (arith, is.0.there, is.1, length-drop taken c.rest)) p (more (count + length bytes) (skip taken c))
+  with_piece-sized later q count c (close taken) is p more = (omega (arith, length-drop taken c.rest), joins.none)
+  with_piece-sized later q count c piece is p more = tt
+
+  pub pieces-sized : (q : Quote) → ((rest : List ℕ) → PieceHas P (piece_at q rest)) → (most count : ℕ) (c : Cursor) → Sized P c (pieces_for most q limit count c)
+  unfolding pieces_for
+  pieces-sized q each zero count c = tt
+  pieces-sized q each (suc most) count c =
+      with_piece-sized (λ n d. pieces_for most q limit n d) q count c (piece_at q c.rest) (piece-is q c.rest) (each c.rest) (λ n d. pieces-sized q each most n d)
+
+  pub segment-sized : (q : Quote) → ((rest : List ℕ) → PieceHas P (piece_at q rest)) → (count : ℕ) (c : Cursor) → Sized P c (segment_at q limit count c)
+  unfolding segment_at
+  segment-sized q each count c =
+      if-then (SizedAt P c) _ (pieces_for (suc (length c.rest)) q limit count c) _ (pieces-sized q each (suc (length c.rest)) count c)
+      (λ x s. if-passed _ (not (q.in_clob || is_utf8 x.0)) BadText (Ok x) (λ _. s))
+
+  with_segments-sized : (later : Cursor → Result (List ℕ × Cursor) Reason) (c : Cursor) (s : List ℕ × Cursor) (o : Option Cursor) → SizedAt P c s → WithinIf s.1 o
+      → ((d : Cursor) → Sized P d (later d)) → Sized P c (quoted.with_segments later s o)
+  with_segments-sized later c s None le w more = le
+  with_segments-sized later c s (Some d) le w more = behind-sized c d s.0 (later d) (omega (arith, le.0, w)) le.1 (more d)
+
+  segments-sized : (q : Quote) → ((count : ℕ) (c : Cursor) → Sized P c (segment_at q limit count c)) → (most count : ℕ) (c : Cursor) → Sized P c (segments_for most q limit count c)
+  unfolding segments_for
+  segments-sized q each zero count c = tt
+  segments-sized q each (suc most) count c =
+      if-then (SizedAt P c) _ (segment_at q limit count c) _ (each count c)
+      (λ s le. with_segments-sized (λ d. segments_for most q limit (count + length s.0) d) c s (quoted.next_segment q s.1) le (next-within q s.1 q.is_long)
+      (λ d. segments-sized q each most (count + length s.0) d))
+
+  -- a text is so where each of its segments is
+  pub text-sized : (q : Quote) → ((count : ℕ) (c : Cursor) → Sized P c (segment_at q limit count c)) → (c : Cursor) → Sized P c (text_at q limit c)
+  text-sized q each c = segments-sized q each (suc (length c.rest)) 0 c
+
+-- whatever the bytes are
+abbrev pub Any : List ℕ → Type 0
+Any bytes = Unit {0}
+
+any-joins : Joins Any
+any-joins = record { none = tt; join = λ xs ys h k. tt }
+
+any-piece : (piece : Piece) → PieceHas Any piece
+any-piece (char bytes taken) = tt
+any-piece piece = tt
+
+pub any-pieces : (q : Quote) (limit : Option ℕ) (count : ℕ) (c : Cursor) → Sized Any c (pieces_for (suc (length c.rest)) q limit count c)
+any-pieces q limit count c = pieces-sized Any any-joins limit q (λ rest. any-piece (piece_at q rest)) (suc (length c.rest)) count c
+
+pub any-segment : (q : Quote) (limit : Option ℕ) (count : ℕ) (c : Cursor) → Sized Any c (segment_at q limit count c)
+any-segment q limit count c = segment-sized Any any-joins limit q (λ rest. any-piece (piece_at q rest)) count c
+
+any-text : (q : Quote) (limit : Option ℕ) (c : Cursor) → Sized Any c (text_at q limit c)
+any-text q limit c = text-sized Any any-joins limit q (any-segment q limit) c
 
 -- ---- lobs
 
@@ -368,61 +402,74 @@ closed-within c = by (lob.braces c.rest)
     by (Ok x) = skip-within 2 c
     by (Err reason) = tt
 
-last_group-sized : (c d : Cursor) (group : List ℕ) → NoLonger c d → Sized c (lob.last_group group d)
-last_group-sized c d [] le = if-then (NoLonger d) _ (lob.closed_at d) _ (closed-within d) (λ e less. omega (arith, le, less))
-last_group-sized c d (b ∷ group) le = by (lob.closed_at d)
-  where
-    by : (o : Result Cursor Reason) → Sized c (o >> Err BadLob)
-    by (Ok e) = tt
-    by (Err reason) = tt
+-- a clob or blob, of whose bytes something holds
+abbrev pub LobOf : (List ℕ → Type 0) → Scalar SymbolAt → Type 0
+LobOf P (value.clob bytes) = P bytes
+LobOf P (value.blob bytes) = P bytes
+LobOf P body = ⊥
 
-groups-sized : (most : ℕ) (limit : Option ℕ) (count : ℕ) (padded : Bool) (c : Cursor) → Sized c (groups_for most limit count padded c)
-unfolding groups_for
-groups-sized zero limit count padded c = tt
-groups-sized (suc most) limit count padded c =
-    let g : List ℕ × List ℕ = group_of 4 c.rest in
-    let d : Cursor = lob.behind_to c g.1 in
-    let all = group-counts 4 c.rest in
-    chosen-sized c (nat_lt (length g.0) 4) _ _ (last_group-sized c d g.0 (omega (arith, all)))
-    (λ many. let four : length g.0 ≡ 4 = (let up = ltb-false (length g.0) 4 many in let down = group-most 4 c.rest in omega (arith, up, down)) in
-    if-then (λ bytes. length bytes ≤ 3) _ (lob.group_bytes padded g.0) _ (group_bytes-most padded g.0 four)
-    (λ bytes short. sized-append c d bytes limit count (groups_for most limit (count + length bytes) (nat_lt (length bytes) 3) d) (omega (arith, short, all, four))
-    (groups-sized most limit (count + length bytes) (nat_lt (length bytes) 3) d)))
-  where
-    chosen-sized : (c : Cursor) (few : Bool) (x y : Result (List ℕ × Cursor) Reason) → Sized c x → (few ≡ false → Sized c y) → Sized c (if few then x else y)
-    chosen-sized c true x y sx sy = sx
-    chosen-sized c false x y sx sy = sy refl
+-- it counts no more bytes than are taken
+abbrev LobAt : (List ℕ → Type 0) → ℕ → Cursor → Scalar SymbolAt × Cursor → Type 0
+LobAt P p c x = (counts (plain x.0) p x.1.place + length x.1.rest ≤ length c.rest) × LobOf P x.0
 
--- a scalar that begins at a place counts no more bytes than are taken
-abbrev ScalarIs : ℕ → Cursor → Result (Scalar SymbolAt × Cursor) Reason → Type 0
-ScalarIs p c o = IfOk o (λ x. counts (plain x.0) p x.1.place + length x.1.rest ≤ length c.rest)
+abbrev clob_quote : Bool → Quote
+clob_quote is_long = if is_long then quoted.long_quote true else quoted.short_quote true
 
-clob-is : (p : ℕ) (limit : Option ℕ) (is_long : Bool) (c : Cursor) → ScalarIs p c (lob.clob_at limit is_long c)
-clob-is p limit is_long c =
-    let q : Quote = if is_long then quoted.long_quote true else quoted.short_quote true in
-    if-then (λ t. length t.0 + length t.1.rest ≤ length c.rest) _ (text_at q limit c) _ (text-sized q limit c)
-    (λ t s. let d : Cursor = behind_run (first_is blanks.is_white) t.1 in
-    let w = skip-within (length (run_of (first_is blanks.is_white) t.1.rest).0) t.1 in
-    if-then (NoLonger d) _ (lob.clob_closed_at is_long d) _ (if-passed (NoLonger d) (is_long && lob.are_cut_quotes d.rest) Truncated (lob.closed_at d) (λ _. closed-within d))
-    (λ e less. omega (arith, s, w, less)))
+module _ (P : List ℕ → Type 0) (joins : Joins P) (limit : Option ℕ) (each_piece : (is_long : Bool) (rest : List ℕ) → PieceHas P (piece_at (clob_quote is_long) rest))
+    (each_group : (padded : Bool) (group : List ℕ) → length group ≡ 4 → IfOk (group_bytes padded group) P) where
+  last_group-sized : (c d : Cursor) (group : List ℕ) → NoLonger c d → Sized P c (lob.last_group group d)
+  last_group-sized c d [] le = if-then (NoLonger d) _ (lob.closed_at d) _ (closed-within d) (λ e less. (omega (arith, le, less), joins.none))
+  last_group-sized c d (b ∷ group) le = by (lob.closed_at d)
+    where
+      by : (o : Result Cursor Reason) → Sized P c (o >> Err BadLob)
+      by (Ok e) = tt
+      by (Err reason) = tt
 
-blob-is : (p : ℕ) (limit : Option ℕ) (c : Cursor) → ScalarIs p c (lob.blob_at limit c)
-blob-is p limit c =
-    if-then (λ b. length b.0 + length b.1.rest ≤ length c.rest) _ (groups_for (suc (length c.rest)) limit 0 false c) _ (groups-sized (suc (length c.rest)) limit 0 false c) (λ b s. omega (arith, s))
+  groups-sized : (most count : ℕ) (padded : Bool) (c : Cursor) → Sized P c (groups_for most limit count padded c)
+  unfolding groups_for
+  groups-sized zero count padded c = tt
+  groups-sized (suc most) count padded c =
+      let g : List ℕ × List ℕ = group_of 4 c.rest in
+      let d : Cursor = lob.behind_to c g.1 in
+      let all = group-counts 4 c.rest in
+      chosen-sized (nat_lt (length g.0) 4) _ _ (last_group-sized c d g.0 (omega (arith, all)))
+      (λ many. let four : length g.0 ≡ 4 = (let up = ltb-false (length g.0) 4 many in let down = group-most 4 c.rest in omega (arith, up, down)) in
+      if-then (λ bytes. (length bytes ≤ 3) × P bytes) _ (lob.group_bytes padded g.0) _ (if-both (λ bytes. length bytes ≤ 3) P _ (group_bytes-most padded g.0 four) (each_group padded g.0 four))
+      (λ bytes short. sized-append P joins limit c d bytes count (groups_for most limit (count + length bytes) (nat_lt (length bytes) 3) d) (omega (arith, short.0, all, four)) short.1
+      (groups-sized most (count + length bytes) (nat_lt (length bytes) 3) d)))
+    where
+      chosen-sized : (few : Bool) (x y : Result (List ℕ × Cursor) Reason) → Sized P c x → (few ≡ false → Sized P c y) → Sized P c (if few then x else y)
+      chosen-sized true x y sx sy = sx
+      chosen-sized false x y sx sy = sy refl
 
-lob-is : (p : ℕ) (limit : Option ℕ) (c : Cursor) → ScalarIs p c (lob_at limit c)
-unfolding lob_at
-lob-is p limit c =
-    let n : ℕ = length (run_of (first_is blanks.is_white) c.rest).0 in
-    let d : Cursor = skip n c in
-    let w = skip-within n c in
-    if-either _ (begins_with (34 ∷ []) d.rest) _ _ (fewer (skip 1 d) (lob.clob_at limit false (skip 1 d)) (let v = skip-within 1 d in omega (arith, w, v)) (clob-is p limit false (skip 1 d)))
-    (if-either _ (begins_with (39 ∷ 39 ∷ 39 ∷ []) d.rest) _ _
-    (fewer (skip 3 d) (lob.clob_at limit true (skip 3 d)) (let v = skip-within 3 d in omega (arith, w, v)) (clob-is p limit true (skip 3 d)))
-    (fewer d (lob.blob_at limit d) w (blob-is p limit d)))
-  where
-    fewer : (d : Cursor) (o : Result (Scalar SymbolAt × Cursor) Reason) → NoLonger c d → ScalarIs p d o → ScalarIs p c o
-    fewer d o le is = if-more (λ (x : Scalar SymbolAt × Cursor). counts (plain x.0) p x.1.place + length x.1.rest ≤ length d.rest) _ o is (λ x all. omega (arith, le, all))
+  clob-is : (p : ℕ) (is_long : Bool) (c : Cursor) → IfOk (lob.clob_at limit is_long c) (LobAt P p c)
+  clob-is p is_long c =
+      if-then (SizedAt P c) _ (text_at (clob_quote is_long) limit c) _ (text-sized P joins limit (clob_quote is_long) (segment-sized P joins limit (clob_quote is_long) (each_piece is_long)) c)
+      (λ t s. let d : Cursor = behind_run (first_is blanks.is_white) t.1 in
+      let w = skip-within (length (run_of (first_is blanks.is_white) t.1.rest).0) t.1 in
+      if-then (NoLonger d) _ (lob.clob_closed_at is_long d) _ (if-passed (NoLonger d) (is_long && lob.are_cut_quotes d.rest) Truncated (lob.closed_at d) (λ _. closed-within d))
+      (λ e less. (omega (arith, s.0, w, less), s.1)))
+
+  blob-is : (p : ℕ) (c : Cursor) → IfOk (lob.blob_at limit c) (LobAt P p c)
+  blob-is p c =
+      if-then (SizedAt P c) _ (groups_for (suc (length c.rest)) limit 0 false c) _ (groups-sized (suc (length c.rest)) 0 false c) (λ b s. (omega (arith, s.0), s.1))
+
+  pub lob-is : (p : ℕ) (c : Cursor) → IfOk (lob_at limit c) (LobAt P p c)
+  unfolding lob_at
+  lob-is p c =
+      let n : ℕ = length (run_of (first_is blanks.is_white) c.rest).0 in
+      let d : Cursor = skip n c in
+      let w = skip-within n c in
+      if-either _ (begins_with (34 ∷ []) d.rest) _ _ (fewer (skip 1 d) (lob.clob_at limit false (skip 1 d)) (let v = skip-within 1 d in omega (arith, w, v)) (clob-is p false (skip 1 d)))
+      (if-either _ (begins_with (39 ∷ 39 ∷ 39 ∷ []) d.rest) _ _
+      (fewer (skip 3 d) (lob.clob_at limit true (skip 3 d)) (let v = skip-within 3 d in omega (arith, w, v)) (clob-is p true (skip 3 d)))
+      (fewer d (lob.blob_at limit d) w (blob-is p d)))
+    where
+      fewer : (d : Cursor) (o : Result (Scalar SymbolAt × Cursor) Reason) → NoLonger c d → IfOk o (LobAt P p d) → IfOk o (LobAt P p c)
+      fewer d o le is = if-more (LobAt P p d) (LobAt P p c) o is (λ x all. (omega (arith, le, all.0), all.1))
+
+pub any-lob : (p : ℕ) (limit : Option ℕ) (c : Cursor) → IfOk (lob_at limit c) (LobAt Any p c)
+any-lob p limit c = lob-is Any any-joins limit (λ is_long rest. any-piece (piece_at (clob_quote is_long) rest)) (λ padded group four. any-ok (group_bytes padded group)) p c
 
 -- ---- runs of bytes
 
@@ -542,11 +589,11 @@ between-is : (limit : Option ℕ) (first : First) (n : ℕ) (c : Cursor) (q : Qu
     → ((bytes : List ℕ) (d : Cursor) → length bytes + length d.rest ≤ length c.rest → NameTaken c (k bytes) d)
     → IfOk (text_at q limit (skip n c) >>= (λ t. Ok (k t.0, t.1))) (TokenIs first c)
 between-is limit first n c q k some counted named =
-    if-then (λ t. length t.0 + length t.1.rest ≤ length (skip n c).rest) _ (text_at q limit (skip n c)) _ (text-sized q limit (skip n c))
+    if-then (SizedAt Any (skip n c)) _ (text_at q limit (skip n c)) _ (any-text q limit (skip n c))
     (λ t s. record {
-      past = λ there. omega (arith, some, there, s, length-drop n c.rest);
-      fits = λ _. omega (arith, s, length-drop n c.rest, counted t.0 c.place t.1.place);
-      named = named t.0 t.1 (omega (arith, s, length-drop n c.rest));
+      past = λ there. omega (arith, some, there, s.0, length-drop n c.rest);
+      fits = λ _. omega (arith, s.0, length-drop n c.rest, counted t.0 c.place t.1.place);
+      named = named t.0 t.1 (omega (arith, s.0, length-drop n c.rest));
     })
 
 pub token-is : (limit : Option ℕ) (first : First) (c : Cursor) → IfOk (token_of limit first c) (TokenIs first c)
@@ -558,8 +605,8 @@ token-is limit a_quoted c = between-is limit a_quoted 1 c quoted.symbol_quote (�
 token-is limit a_short c = between-is limit a_short 1 c (quoted.short_quote false) text (omega arith) (λ bytes p r. refl) (λ bytes d le. tt)
 token-is limit a_long c = between-is limit a_long 3 c (quoted.long_quote false) text (omega arith) (λ bytes p r. refl) (λ bytes d le. tt)
 token-is limit a_lob c =
-    if-then (λ l. counts (plain l.0) c.place l.1.place + length l.1.rest ≤ length (skip 2 c).rest) _ (lob_at limit (skip 2 c)) _ (lob-is c.place limit (skip 2 c))
-    (λ l s. record { past = λ there. omega (arith, there, s, length-drop 2 c.rest); fits = λ _. omega (arith, s, length-drop 2 c.rest); named = tt })
+    if-then (LobAt Any c.place (skip 2 c)) _ (lob_at limit (skip 2 c)) _ (any-lob c.place limit (skip 2 c))
+    (λ l s. record { past = λ there. omega (arith, there, s.0, length-drop 2 c.rest); fits = λ _. omega (arith, s.0, length-drop 2 c.rest); named = tt })
 token-is limit an_operator c =
     counted-is limit an_operator (bytes_of in_operator c.rest) c (λ bytes. Ok (operator bytes)) (bytes_of-counts in_operator c.rest) (bytes_of-some in_operator c.rest) (λ p r. refl) tt
 token-is limit an_infinity c =

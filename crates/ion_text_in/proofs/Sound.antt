@@ -1,12 +1,11 @@
 -- A reading goes along paths of the bytes to a step that ends or stops it, and so does another with it, whose limits are wider.
 -- So what is read is a path, and a stream where reading finishes.
 use Rattle.std.proofs.Common.{◌≡◌, ℕ, zero, suc, ◌<◌, Bool, false, List, [], ◌∷◌, ◌++◌, None, refl, sym, ap, subst, ◌∙◌, append-nil, arith}
-use Rattle.ion_meter.specs.declared.fault.Reason.{Reason}
 use Rattle.ion_meter.specs.declared.limits.Limits.{Limits}
 use Rattle.ion_value.specs.declared.ion_type.Kind.{Kind}
 use Rattle.ion_value.specs.Value.{SymbolAt, Top}
 use Rattle.ion_value.specs.Path.{Path, closed, path_items}
-use Rattle.ion_value.specs.Reading.{Reading, Finished, Stopped, More, items_of, Step, Ends, Stops, Gives, GoesOn, next_reading, reading_by, behind}
+use Rattle.ion_value.specs.Reading.{Reading, Finished, More, items_of, Step, Ends, Stops, Gives, GoesOn, next_reading, reading_by, behind}
 use Rattle.ion_meter.specs.Sources.{Cursor}
 use Rattle.ion_value.proofs.ReadingLaws.{ending_of-behind}
 use Rattle.ion_value.proofs.Readings.{behind-append, reading_by-step, reading_by-gives, reading_by-goes_on, items_of-behind}

@@ -13,9 +13,8 @@ use Rattle.ion_value.specs.declared.ion_type.Kind.{Kind}
 use Rattle.ion_value.specs.declared.ion_type.Kind.TheVariants as kind
 use Rattle.ion_value.specs.declared.timestamp.Timestamp.{Timestamp}
 use Rattle.ion_value.specs.Decimal.{decimal_of_text}
-use Rattle.ion_value.specs.Digits.{first_is}
 use Rattle.ion_value.specs.Int.{int_of_text}
-use Rattle.ion_value.specs.Name.{Keyword, a_null, begins_with, keyword, is_id, id_of}
+use Rattle.ion_value.specs.Name.{Keyword, a_null, keyword, is_id, id_of}
 use Rattle.ion_value.specs.Parts.{◌>>=◌}
 use Rattle.ion_value.specs.Scalar.{scalar_of_run, scalar_of_readings}
 use Rattle.ion_value.specs.Standing.{in_struct}
@@ -23,12 +22,10 @@ use Rattle.ion_value.specs.Timestamp.{timestamp_of_text}
 use Rattle.ion_value.specs.Value as value
 use Rattle.ion_value.specs.Value.{Symbol, SymbolAt, Scalar, Value, Members, scalar, Top, version, tree}
 use Rattle.ion_value.specs.Writable.{field_symbols, scalar_symbols, value_symbols, members_symbols, IsWritable, AreWritable, ValueHasBytes, MembersHaveBytes, SymbolIsText, IsRaw}
-use Rattle.ion_text_in.specs.Blanks.{is_white}
 use Rattle.ion_text_in.specs.Grammar.{Tok, Annotations, Field, Txt, Inside, Tops}
 use Rattle.ion_text_in.specs.Laws.{StreamsAreRaw}
-use Rattle.ion_text_in.specs.Lob.{blob_at, clob_at, clob_closed_at, groups_for, lob_at}
+use Rattle.ion_text_in.specs.Lob.{lob_at}
 use Rattle.ion_text_in.specs.Meaning.{counts}
-use Rattle.ion_text_in.specs.Places.{behind_run}
 use Rattle.ion_text_in.specs.Positions.{at, first_place}
 use Rattle.ion_text_in.specs.Quoted.{long_quote, short_quote, symbol_quote, text_at}
 use Rattle.ion_text_in.specs.ReadWithin.{SymbolIsWithin, ScalarIsWithin, AnnotationsAreWithin, ValueIsWithin, MembersAreWithin, TopIsWithin, WhatIsReadIsWithin, ValuesReadAreWithin}
@@ -36,9 +33,10 @@ use Rattle.ion_text_in.specs.Token.{First, a_run, a_word, a_quoted, a_short, a_l
 use Rattle.ion_text_in.specs.Within.{TokenWithin, AnnotationsWithin, NamesWithin, FieldWithin, TxtWithin, InsideWithin, TopsWithin}
 use Rattle.ion_text_in.proofs.Allowing.{tops-allowed}
 use Rattle.ion_text_in.proofs.RawTokens.{tokens-are_raw}
+use Rattle.ion_text_in.proofs.Shrinking.{Any, LobOf, any-lob}
 use Rattle.ion_text_in.proofs.TokenLimits.{CountsAll, run_token-counts, word_token-counts}
 use Rattle.ion_text_in.proofs.Tokens.{tok-stands}
-use Rattle.ion_text_in.proofs.WentWell.{if-then, if-either, any-ok}
+use Rattle.ion_text_in.proofs.WentWell.{if-then, any-ok}
 
 all-append : {A : Type 0} (P : A → Type 0) (xs ys : List A) → AllByRecursion P xs → AllByRecursion P ys → AllByRecursion P (xs ++ ys)
 all-append P [] ys h k = k
@@ -99,24 +97,10 @@ module _ (limits : Limits) where
       by (Ok t) all within = λ le. within (omega (arith, le, all c.place (c.place + length bytes)))
       by (Err reason) all within = tt
 
-  -- the scalar of a lob
-  abbrev LobCounted : ℕ → Scalar SymbolAt × Cursor → Type 0
-  LobCounted p x = counts (plain x.0) p x.1.place ≤ limits.scalar → ScalarIsWithin limits x.0
-
-  clob-within : (p : ℕ) (is_long : Bool) (c : Cursor) → IfOk (clob_at None is_long c) (LobCounted p)
-  clob-within p is_long c =
-      if-then (λ t. Unit {0}) _ (text_at (if is_long then long_quote true else short_quote true) None c) _ (any-ok _)
-      (λ t h. if-then (λ d. Unit {0}) _ (clob_closed_at is_long (behind_run (first_is is_white) t.1)) _ (any-ok _) (λ d k le. le))
-
-  blob-within : (p : ℕ) (c : Cursor) → IfOk (blob_at None c) (LobCounted p)
-  blob-within p c = if-then (λ b. Unit {0}) _ (groups_for (suc (length c.rest)) None 0 false c) _ (any-ok _) (λ b h le. le)
-
-  lob-within : (p : ℕ) (c : Cursor) → IfOk (lob_at None c) (LobCounted p)
-  unfolding lob_at
-  lob-within p c =
-      let d : Cursor = behind_run (first_is is_white) c in
-      if-either _ (begins_with (34 ∷ []) d.rest) _ _ (clob-within p false (skip 1 d))
-      (if-either _ (begins_with (39 ∷ 39 ∷ 39 ∷ []) d.rest) _ _ (clob-within p true (skip 3 d)) (blob-within p d))
+  lob-within : (p : ℕ) (c d : Cursor) (v : Scalar SymbolAt) → LobOf Any v → counts (plain v) p d.place ≤ limits.scalar → ScalarIsWithin limits v
+  lob-within p c d (value.clob bytes) is le = le
+  lob-within p c d (value.blob bytes) is le = le
+  lob-within p c d v is le = absurd is
 
   token-means : (f : First) (c : Cursor) → IfOk (token_of None f c) (Counted c)
   unfolding token_of
@@ -125,7 +109,7 @@ module _ (limits : Limits) where
   token-means a_quoted c = if-then (λ t. Unit {0}) _ (text_at symbol_quote None (skip 1 c)) _ (any-ok _) (λ t h le. le)
   token-means a_short c = if-then (λ t. Unit {0}) _ (text_at (short_quote false) None (skip 1 c)) _ (any-ok _) (λ t h le. le)
   token-means a_long c = if-then (λ t. Unit {0}) _ (text_at (long_quote false) None (skip 3 c)) _ (any-ok _) (λ t h le. le)
-  token-means a_lob c = if-then (LobCounted c.place) _ (lob_at None (skip 2 c)) _ (lob-within c.place (skip 2 c)) (λ l h le. h le)
+  token-means a_lob c = if-then _ _ (lob_at None (skip 2 c)) _ (any-lob c.place None (skip 2 c)) (λ l h le. lob-within c.place c l.1 l.0 h.1 le)
   token-means an_operator c = counted-within (bytes_of in_operator c.rest) c (λ bytes. Ok (operator bytes)) (λ p q. refl) (λ le. le)
   token-means an_infinity c = λ le. tt
   token-means no_token c = tt

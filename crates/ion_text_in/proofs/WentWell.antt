@@ -27,6 +27,10 @@ pub if-more : {A E : Type 0} (P Q : A → Type 0) (o : Result A E) → IfOk o P 
 if-more P Q (Ok x) h more = more x h
 if-more P Q (Err reason) h more = tt
 
+pub if-both : {A E : Type 0} (P Q : A → Type 0) (o : Result A E) → IfOk o P → IfOk o Q → IfOk o (λ x. P x × Q x)
+if-both P Q (Ok x) h k = (h, k)
+if-both P Q (Err reason) h k = tt
+
 -- a test that may refuse, and a step
 pub passed : {B : Type 0} (b : Bool) (reason : Reason) (o : Result B Reason) (y : B) → (refuse b reason >> o) ≡ Ok y → (b ≡ false) × (o ≡ Ok y)
 passed true reason o y e = absurd (cc e)

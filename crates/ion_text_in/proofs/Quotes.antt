@@ -10,12 +10,18 @@ use Rattle.ion_text_in.specs.Quotes.{quote_of, mark_of, one_mark}
 
 pub quote_of-is : (q : CodeQuote) → IsQuote (quote_of q)
 quote_of-is code.Symbol = (omega arith, omega arith)
-quote_of-is q = (omega arith, omega arith)
+quote_of-is code.Short = (omega arith, omega arith)
+quote_of-is code.ShortClob = (omega arith, omega arith)
+quote_of-is code.Long = (omega arith, omega arith)
+quote_of-is code.LongClob = (omega arith, omega arith)
 
 -- which bytes are plain the first mark says
 pub plain-mark : (q : CodeQuote) (b : ℕ) → is_plain_byte (quote_of q) b ≡ is_plain_byte (one_mark (mark_of q) (quote_of q).is_long (quote_of q).in_clob) b
 plain-mark code.Symbol b = refl
-plain-mark q b = refl
+plain-mark code.Short b = refl
+plain-mark code.ShortClob b = refl
+plain-mark code.Long b = refl
+plain-mark code.LongClob b = refl
 
 pub all_are-same : (f g : ℕ → Bool) (xs : List ℕ) → ((b : ℕ) → f b ≡ g b) → all_are f xs ≡ all_are g xs
 all_are-same f g [] e = refl

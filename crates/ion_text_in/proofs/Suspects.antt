@@ -41,7 +41,10 @@ suspect mark in_clob x h = beside (eqb mark x) (eqb x 92) (stands in_clob x) (le
 
 spared : (m e g c w l : Bool) → (not m && not e && (g && c)) ≡ true → (not m && not e && (((g || w) && c) || l)) ≡ true
 spared false false true true w l e = refl
-spared m e' g c w l e = absurd (cc e)
+spared false false true false w l e = absurd (cc e)
+spared false false false c w l e = absurd (cc e)
+spared false true g c w l e = absurd (cc e)
+spared true e' g c w l e = absurd (cc e)
 
 sure-plain : (mark : ℕ) (lines in_clob : Bool) (b : ℕ) → is_sure mark in_clob b ≡ true → is_plain_byte (one_mark mark lines in_clob) b ≡ true
 sure-plain mark lines in_clob b e =
@@ -115,13 +118,18 @@ over-one test bytes n there before one =
 -- ---- a text of ASCII alone, in one block
 
 clob-sure : (m e g c : Bool) (in_clob : Bool) → (not m && not e && (g && (false || c))) ≡ true → (not m && not e && (g && (not in_clob || c))) ≡ true
+clob-sure true e' g c in_clob e = absurd (cc e)
+clob-sure false true g c in_clob e = absurd (cc e)
+clob-sure false false false c in_clob e = absurd (cc e)
+clob-sure false false true false in_clob e = absurd (cc e)
 clob-sure false false true true true e = refl
 clob-sure false false true true false e = refl
-clob-sure m e' g c in_clob e = absurd (cc e)
 
 clob-low : (m e g c : Bool) → (not m && not e && (g && (false || c))) ≡ true → c ≡ true
+clob-low true e' g c e = absurd (cc e)
+clob-low false true g c e = absurd (cc e)
+clob-low false false false c e = absurd (cc e)
 clob-low false false true c e = e
-clob-low m e' g c e = absurd (cc e)
 
 all-clob : (mark : ℕ) (in_clob : Bool) (xs : List ℕ) → all_are (is_sure mark true) xs ≡ true → (all_are (is_sure mark in_clob) xs ≡ true) × (all_are (λ b. nat_lt b 128) xs ≡ true)
 all-clob mark in_clob [] e = (refl, refl)

@@ -32,18 +32,7 @@ by_quote quote in_clob = record { closer = quote ∷ []; is_long = false; in_clo
 escape-read : (quote : ℕ) (in_clob : Bool) (letter b : ℕ) (more : List ℕ) → (quote == 92) ≡ false → Escape letter b → piece_at (by_quote quote in_clob) (92 ∷ letter ∷ more) ≡ texts.char (b ∷ []) 2
 unfolding piece_at
 escape-read quote in_clob _ _ more other Escape.bell = rw (piece_at, other) refl
-escape-read quote in_clob _ _ more other Escape.backspace = rw (piece_at, other) refl
-escape-read quote in_clob _ _ more other Escape.tab = rw (piece_at, other) refl
-escape-read quote in_clob _ _ more other Escape.line_feed = rw (piece_at, other) refl
-escape-read quote in_clob _ _ more other Escape.form_feed = rw (piece_at, other) refl
-escape-read quote in_clob _ _ more other Escape.carriage_return = rw (piece_at, other) refl
-escape-read quote in_clob _ _ more other Escape.vertical_tab = rw (piece_at, other) refl
-escape-read quote in_clob _ _ more other Escape.nul = rw (piece_at, other) refl
-escape-read quote in_clob _ _ more other Escape.question_mark = rw (piece_at, other) refl
-escape-read quote in_clob _ _ more other Escape.double_quote = rw (piece_at, other) refl
-escape-read quote in_clob _ _ more other Escape.single_quote = rw (piece_at, other) refl
-escape-read quote in_clob _ _ more other Escape.backslash = rw (piece_at, other) refl
-escape-read quote in_clob _ _ more other Escape.slash = rw (piece_at, other) refl
+escape-read quote in_clob _ _ more other letter = rw (piece_at, other) refl
 
 by-ascii : (n taken : ℕ) → n < 128 → by_code n taken ≡ texts.char (n ∷ []) taken
 by-ascii n taken small =

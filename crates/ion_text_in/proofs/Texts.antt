@@ -26,18 +26,7 @@ word-ends rest ends = not-true (first_is is_identifier_byte rest) (ends-from end
 
 null-ends : (t : IonType) (rest : List ℕ) → EndsNull t rest → behind_null t rest ≡ false
 null-ends type.Null rest ends = ap (λ (word : Bool). word || first_is (λ b. b == 46) rest) (word-ends rest ends.0) ∙ no-first 46 rest ends.1
-null-ends type.Bool rest ends = word-ends rest ends
-null-ends type.Int rest ends = word-ends rest ends
-null-ends type.Float rest ends = word-ends rest ends
-null-ends type.Decimal rest ends = word-ends rest ends
-null-ends type.Timestamp rest ends = word-ends rest ends
-null-ends type.Symbol rest ends = word-ends rest ends
-null-ends type.String rest ends = word-ends rest ends
-null-ends type.Clob rest ends = word-ends rest ends
-null-ends type.Blob rest ends = word-ends rest ends
-null-ends type.List rest ends = word-ends rest ends
-null-ends type.Sexp rest ends = word-ends rest ends
-null-ends type.Struct rest ends = word-ends rest ends
+null-ends t rest ends = word-ends rest ends
 
 pub null-read : NullTextIsRead
 null-read t = means-where _ (behind_null t) (EndsNull t) _ _ (null-ends t) (null-means t)

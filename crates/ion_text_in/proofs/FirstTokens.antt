@@ -128,7 +128,15 @@ number_of (tokens.a_begin kind.Sexp) = 6
 number_of (tokens.an_end kind.Struct) = 7
 number_of (tokens.an_end kind.List) = 8
 number_of (tokens.an_end kind.Sexp) = 9
-number_of first = 0
+number_of (tokens.a_begin kind.Struct) = 0
+number_of tokens.a_quoted = 0
+number_of tokens.a_long = 0
+number_of tokens.a_lob = 0
+number_of tokens.an_operator = 0
+number_of tokens.an_infinity = 0
+number_of tokens.a_colon = 0
+number_of tokens.two_colons = 0
+number_of tokens.no_token = 0
 
 numbered-of : (f : First) → 0 < number_of f → numbered (number_of f) ≡ f
 unfolding number_of
@@ -141,7 +149,15 @@ numbered-of (tokens.a_begin kind.Sexp) some = refl
 numbered-of (tokens.an_end kind.Struct) some = refl
 numbered-of (tokens.an_end kind.List) some = refl
 numbered-of (tokens.an_end kind.Sexp) some = refl
-numbered-of first some = absurd (omega (arith, some))
+numbered-of (tokens.a_begin kind.Struct) some = absurd (omega (arith, some))
+numbered-of tokens.a_quoted some = absurd (omega (arith, some))
+numbered-of tokens.a_long some = absurd (omega (arith, some))
+numbered-of tokens.a_lob some = absurd (omega (arith, some))
+numbered-of tokens.an_operator some = absurd (omega (arith, some))
+numbered-of tokens.an_infinity some = absurd (omega (arith, some))
+numbered-of tokens.a_colon some = absurd (omega (arith, some))
+numbered-of tokens.two_colons some = absurd (omega (arith, some))
+numbered-of tokens.no_token some = absurd (omega (arith, some))
 
 -- the table has 0 for a byte, or the number of what begins with it
 agrees : Bool → List ℕ → ℕ → Bool

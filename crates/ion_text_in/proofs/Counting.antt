@@ -9,7 +9,7 @@ use Rattle.ion_text_in.specs.Token.{First, an_infinity, first_at, Token, token_o
 use Rattle.ion_text_in.proofs.Shrinking.{Long, NameTaken, TokenIs, token-is}
 use Rattle.ion_text_in.proofs.TokenBegins.{what-begins}
 use Rattle.ion_text_in.proofs.WentWell.{if-more}
-pub use Rattle.ion_text_in.proofs.Shrinking.{group-most, name_length}
+pub use Rattle.ion_text_in.proofs.Shrinking.{name_length}
 
 infinity-long : {bytes : List ℕ} → BeginsInfinity bytes → 4 ≤ length bytes
 infinity-long (BeginsInfinity.plus _) = omega arith

@@ -11,16 +11,17 @@ use Rattle.ion_value.specs.Value.{Symbol, SymbolAt}
 use Rattle.ion_value.specs.Reading.{Step, Ends, Stops, Gives, GoesOn, Leaves, behind_item, behind_nothing, Shrinks}
 use Rattle.ion_value.specs.ReadingLaws.{AreWithin}
 use Rattle.ion_value.proofs.Faults.{Blames, is_limit, Free, free}
-use Rattle.ion_meter.specs.Sources.{Cursor, skip}
+use Rattle.ion_meter.specs.Sources.{Cursor}
 use Rattle.ion_value.specs.Parts.{Placed, part, refuse, ◌>>=◌, ◌>>◌}
 use Rattle.ion_text_in.specs.Blanks.{blanks}
 use Rattle.ion_text_in.specs.Grammar.{Tok}
 use Rattle.ion_text_in.specs.Laws.{Passes}
-use Rattle.ion_text_in.specs.Token.{First, a_colon, two_colons, first_at, Token, plain, name, text, operator, no_number, begin, end, comma, token_of, next_token}
+use Rattle.ion_text_in.specs.Token.{First, a_colon, first_at, Token, plain, name, text, operator, no_number, begin, end, comma, colons, token_of, next_token}
 use Rattle.ion_text_in.specs.Reading as reading
 use Rattle.ion_text_in.specs.Positions.{at, Wants, a_value, a_field, a_separator, State, innermost, in_sexp}
 use Rattle.ion_text_in.specs.Reading.{cost, may_come, behind_colons, tells_version, step, step_of, take, part_at, size}
-use Rattle.ion_text_in.proofs.Shrinking.{NoLonger, Passed, Past, skip-within, blanks-pass, blanks-within, token-past}
+use Rattle.ion_text_in.proofs.Advancing.{tok-advances}
+use Rattle.ion_text_in.proofs.Shrinking.{Passed, Past, skip-within, blanks-pass, blanks-within, token-past}
 use Rattle.ion_text_in.proofs.Steps.{tok-read, colons-behind}
 use Rattle.ion_text_in.proofs.TokenCuts.{Cut, same, limit, bind-Cut, Short, token_counts, token-cut}
 use Rattle.ion_text_in.proofs.WentWell.{part-known}
@@ -63,17 +64,6 @@ bare-less : (field : Option SymbolAt) (annotations : List SymbolAt) (kinds : Lis
     → Less (suc (length c.rest)) (part p (reading.bare_end_step field annotations kinds top k p c))
 bare-less None [] kinds top k p c = closed-less kinds top k p c
 bare-less field annotations kinds top k p c = fault _ p reason.BadToken refl
-
-colons-at : (c d : Cursor) (first : First) → reading.colons_at first c ≡ Some d → NoLonger c d
-colons-at c d two_colons e = let same : skip 2 c ≡ d = cc e in subst (λ d. NoLonger c d) same (skip-within 2 c)
-colons-at c d first e = absurd (cc e)
-
-colons-blank : (sexp : Bool) (c d : Cursor) (o : Placed Cursor) → blanks c ≡ o → reading.colons_behind sexp o ≡ Some d → NoLonger c d
-colons-blank sexp c d (Ok b) blank e =
-    let first = blanks-within c b blank in
-    let then = colons-at b d (first_at sexp b.rest) e in
-    omega (arith, first.0, then)
-colons-blank sexp c d (Err fault) blank e = absurd (cc e)
 
 told-less : (kinds : List Kind) (top : ℕ) (field : Option SymbolAt) (annotations : List SymbolAt) (a : SymbolAt) (p : ℕ) (c : Cursor) (told : Bool)
     → Less (suc (length c.rest)) (part p (reading.value_or_version kinds top field annotations a c told))
@@ -146,7 +136,7 @@ module _ (limits wide : Limits) (within : AreWithin limits wide) where
     symbol-Cut field annotations quoted symbol p d are tok (Some e) found =
         let cost_is : ℕ = sum_by cost (annotations ++ at symbol p ∷ []) in
         let after = colons-behind sexp d e found in
-        let le = colons-blank sexp d e (blanks d) refl found in
+        let le = tok-advances sexp d e colons after.0 after.1 in
         refused-Cut limits s (suc (length d.rest)) p (nat_lt limits.scalar cost_is) (nat_lt wide.scalar cost_is) reason.AnnotationLimit _ (scalar-passed cost_is)
         (λ more. Passes.annotations field annotations quoted symbol after.0 d e are tok after.1 (ltb-true limits.scalar cost_is more)) (omega (arith, le))
 

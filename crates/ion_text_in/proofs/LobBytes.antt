@@ -1,6 +1,7 @@
 -- What clobs and blobs mean is bytes.
 use Rattle.std.proofs.Common.{◌≡◌, ℕ, ◌+◌, ◌*◌, ◌<◌, ◌≤◌, Bool, true, false, ◌&&◌, ◌||◌, ◌==◌, nat_lt, nat_le, if◌then◌else◌, List, [], ◌∷◌, ◌++◌, length, Option, None, Some, Result, Ok, Err, refl, arith}
 use Rattle.std.specs.Bool.{⊤}
+use Rattle.std.specs.List.{AllByRecursion}
 use Rattle.std.specs.Result.{IfOk}
 use Rattle.std.proofs.lemmas.Bool.{and_parts, ltb-true}
 use Rattle.std.proofs.lemmas.Bool.Decides.{nat_tests}
@@ -111,12 +112,12 @@ piece-bytes closer is_long (b ∷ bytes) =
 
 -- ---- lobs
 
+pub all-append : {A : Type 0} (P : A → Type 0) (xs ys : List A) → AllByRecursion P xs → AllByRecursion P ys → AllByRecursion P (xs ++ ys)
+all-append P [] ys h k = k
+all-append P (x ∷ xs) ys h k = (h.0, all-append P xs ys h.1 k)
+
 bytes-join : Joins AreBytes
-bytes-join = record { none = tt; join = joined }
-  where
-    joined : (xs ys : List ℕ) → AreBytes xs → AreBytes ys → AreBytes (xs ++ ys)
-    joined [] ys h k = k
-    joined (x ∷ xs) ys h k = (h.0, joined xs ys h.1 k)
+bytes-join = record { none = tt; join = all-append (λ b. b < 256) }
 
 group-bytes : (padded : Bool) (group : List ℕ) → length group ≤ 4 → IfOk (group_bytes padded group) AreBytes
 group-bytes padded group few = by (decoded_of standard group) refl

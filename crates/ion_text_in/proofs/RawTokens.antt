@@ -31,12 +31,12 @@ use Rattle.ion_text_in.specs.Meaning.{IsRawScalar, IsRawToken, TokensAreRaw}
 use Rattle.ion_text_in.specs.Places.{run_of}
 use Rattle.ion_text_in.specs.Quoted.{Quote, symbol_quote, short_quote, long_quote, pieces_for, segment_at, text_at}
 use Rattle.ion_text_in.specs.Token.{First, a_run, a_word, a_quoted, a_short, a_long, a_lob, an_operator, an_infinity, first_at, Token, name, counted, bytes_of, in_run, in_word, in_operator, with_type, word_of, word_token, run_token, by_keyword, token_of}
-use Rattle.ion_text_in.proofs.LobBytes.{lob-raw}
+use Rattle.ion_text_in.proofs.LobBytes.{all-append, lob-raw}
 use Rattle.ion_text_in.proofs.NumberEnds.{one_of-from}
 use Rattle.ion_text_in.proofs.Shrinking.{Any, SizedAt, Sized, any-pieces, text-sized}
 use Rattle.ion_text_in.proofs.TokenBegins.{what-begins}
 use Rattle.ion_text_in.proofs.Tokens.{tok-stands}
-use Rattle.ion_text_in.proofs.WentWell.{if-then, if-passed, if-either, if-more}
+use Rattle.ion_text_in.proofs.WentWell.{if-any, if-then, if-passed, if-either, if-more}
 
 -- ---- runs
 
@@ -93,10 +93,6 @@ run-raw run =
 abbrev Ascii : List ℕ → Type 0
 Ascii bytes = AllByRecursion (λ b. b < 128) bytes
 
-ascii-joins : (xs ys : List ℕ) → Ascii xs → Ascii ys → Ascii (xs ++ ys)
-ascii-joins [] ys h k = k
-ascii-joins (x ∷ xs) ys h k = (h.0, ascii-joins xs ys h.1 k)
-
 ascii-utf8 : (bytes : List ℕ) → Ascii bytes → IsUtf8 bytes
 ascii-utf8 bytes h = IsUtf8-from_ascii bytes (λ i. at bytes i h)
   where
@@ -146,7 +142,7 @@ typed-ascii : (word behind : List ℕ) → Ascii word → Ascii (with_type word 
 typed-ascii word behind h = by (bytes_eq (codes "null") word && first_is (λ b. b == 46) behind)
   where
     by : (b : Bool) → Ascii (if b then word ++ 46 ∷ (run_of in_word (drop 1 behind)).0 else word)
-    by true = ascii-joins word (46 ∷ (run_of in_word (drop 1 behind)).0) h (omega arith, run-ascii in_word word-small (drop 1 behind))
+    by true = all-append (λ b. b < 128) word (46 ∷ (run_of in_word (drop 1 behind)).0) h (omega arith, run-ascii in_word word-small (drop 1 behind))
     by false = h
 
 word-ascii : (rest : List ℕ) → FirstSmall rest → Ascii (word_of rest)
@@ -200,9 +196,7 @@ counted-is P limit bytes c h = if-passed _ (passes limit (length bytes)) ScalarL
 
 token-raw : (limit : Option ℕ) (f : First) (c : Cursor) → (f ≡ a_word ⊎ f ≡ an_operator → FirstSmall c.rest) → IfRaw (token_of limit f c)
 unfolding token_of
-token-raw limit a_run c small =
-    if-then (λ r. Unit {0}) _ (counted limit (bytes_of in_run c.rest) c) _ (counted-is (λ bytes. Unit {0}) limit (bytes_of in_run c.rest) c tt)
-    (λ r h. if-then IsRawToken _ (run_token r.0) _ (run-raw r.0) (λ t h. h))
+token-raw limit a_run c small = if-any _ (counted limit (bytes_of in_run c.rest) c) _ (λ r. if-then IsRawToken _ (run_token r.0) _ (run-raw r.0) (λ t h. h))
 token-raw limit a_word c small =
     if-then (λ r. Ascii r.0) _ (counted limit (word_of c.rest) c) _
     (counted-is Ascii limit (word_of c.rest) c (word-ascii c.rest (small (inl refl))))

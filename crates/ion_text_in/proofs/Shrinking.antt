@@ -336,33 +336,24 @@ any-text q limit c = text-sized Any any-joins limit q (any-segment q limit) c
 
 -- ---- lobs
 
-abbrev chosen : Bool → Bool → ℕ → List ℕ → List ℕ × List ℕ → List ℕ × List ℕ → List ℕ × List ℕ
-chosen skips ends b bytes x y = elim skips [ true ↦ x | false ↦ elim ends [ true ↦ ([], b ∷ bytes) | false ↦ (b ∷ y.0, y.1) ] ]
+-- the characters of a group and what stands behind it are no more than there are, and the group has so many at most
+abbrev GroupIs : ℕ → List ℕ → List ℕ × List ℕ → Type 0
+GroupIs n bytes g = (length g.0 + length g.1 ≤ length bytes) × (length g.0 ≤ n)
 
-chosen-counts : (b n : ℕ) (bytes : List ℕ) (skips ends : Bool) (x y : List ℕ × List ℕ) → length x.0 + length x.1 ≤ n → length y.0 + length y.1 ≤ n → length bytes ≤ n
-    → length (chosen skips ends b bytes x y).0 + length (chosen skips ends b bytes x y).1 ≤ suc n
-chosen-counts b n bytes true ends x y lx ly lb = omega (arith, lx)
-chosen-counts b n bytes false true x y lx ly lb = omega (arith, lb)
-chosen-counts b n bytes false false x y lx ly lb = omega (arith, ly)
+group-is : (n : ℕ) (bytes : List ℕ) → GroupIs n bytes (group_of n bytes)
+unfolding group_of
+group-is zero bytes = (omega arith, omega arith)
+group-is (suc n) [] = (omega arith, omega arith)
+group-is (suc n) (b ∷ bytes) = by (blanks.is_white b) (b == 125) (group_of (suc n) bytes) (group_of n bytes) (group-is (suc n) bytes) (group-is n bytes)
+  where
+    by : (skips ends : Bool) (x y : List ℕ × List ℕ) → GroupIs (suc n) bytes x → GroupIs n bytes y
+        → GroupIs (suc n) (b ∷ bytes) (elim skips [ true ↦ x | false ↦ elim ends [ true ↦ ([], b ∷ bytes) | false ↦ (b ∷ y.0, y.1) ] ])
+    by true ends x y gx gy = (omega (arith, gx.0), gx.1)
+    by false true x y gx gy = (omega arith, omega arith)
+    by false false x y gx gy = (omega (arith, gy.0), omega (arith, gy.1))
 
 pub group-counts : (n : ℕ) (bytes : List ℕ) → length (group_of n bytes).0 + length (group_of n bytes).1 ≤ length bytes
-unfolding group_of
-group-counts zero bytes = omega arith
-group-counts (suc n) [] = omega arith
-group-counts (suc n) (b ∷ bytes) =
-    chosen-counts b (length bytes) bytes (blanks.is_white b) (b == 125) (group_of (suc n) bytes) (group_of n bytes) (group-counts (suc n) bytes) (group-counts n bytes) (omega arith)
-
-chosen-most : (b n : ℕ) (bytes : List ℕ) (skips ends : Bool) (x y : List ℕ × List ℕ) → length x.0 ≤ suc n → length y.0 ≤ n → length (chosen skips ends b bytes x y).0 ≤ suc n
-chosen-most b n bytes true ends x y lx ly = lx
-chosen-most b n bytes false true x y lx ly = omega arith
-chosen-most b n bytes false false x y lx ly = omega (arith, ly)
-
-pub group-most : (n : ℕ) (bytes : List ℕ) → length (group_of n bytes).0 ≤ n
-unfolding group_of
-group-most zero bytes = omega arith
-group-most (suc n) [] = omega arith
-group-most (suc n) (b ∷ bytes) =
-    chosen-most b n bytes (blanks.is_white b) (b == 125) (group_of (suc n) bytes) (group_of n bytes) (group-most (suc n) bytes) (group-most n bytes)
+group-counts n bytes = (group-is n bytes).0
 
 -- four characters encode three bytes at most
 suffix-most : (dec : List ℕ) (pad at : ℕ) (s : List ℕ) → length (suffix_bytes dec pad at s) ≤ 3
@@ -431,11 +422,11 @@ module _ (P : List ℕ → Type 0) (joins : Joins P) (limit : Option ℕ) (each_
   groups-sized (suc most) count padded c =
       let g : List ℕ × List ℕ = group_of 4 c.rest in
       let d : Cursor = lob.behind_to c g.1 in
-      let all = group-counts 4 c.rest in
-      chosen-sized (nat_lt (length g.0) 4) _ _ (last_group-sized c d g.0 (omega (arith, all)))
-      (λ many. let four : length g.0 ≡ 4 = (let up = ltb-false (length g.0) 4 many in let down = group-most 4 c.rest in omega (arith, up, down)) in
+      let all = group-is 4 c.rest in
+      chosen-sized (nat_lt (length g.0) 4) _ _ (last_group-sized c d g.0 (omega (arith, all.0)))
+      (λ many. let four : length g.0 ≡ 4 = (let up = ltb-false (length g.0) 4 many in omega (arith, up, all.1)) in
       if-then (λ bytes. (length bytes ≤ 3) × P bytes) _ (lob.group_bytes padded g.0) _ (if-both (λ bytes. length bytes ≤ 3) P _ (group_bytes-most padded g.0 four) (each_group padded g.0 four))
-      (λ bytes short. sized-append P joins limit c d bytes count (groups_for most limit (count + length bytes) (nat_lt (length bytes) 3) d) (omega (arith, short.0, all, four)) short.1
+      (λ bytes short. sized-append P joins limit c d bytes count (groups_for most limit (count + length bytes) (nat_lt (length bytes) 3) d) (omega (arith, short.0, all.0, four)) short.1
       (groups-sized most (count + length bytes) (nat_lt (length bytes) 3) d)))
     where
       chosen-sized : (few : Bool) (x y : Result (List ℕ × Cursor) Reason) → Sized P c x → (few ≡ false → Sized P c y) → Sized P c (if few then x else y)
@@ -484,38 +475,30 @@ unfolding run_of
 run-counts test [] = omega arith
 run-counts test (b ∷ bytes) = run-either b bytes (test (b ∷ bytes)) (run_of test bytes) (run-counts test bytes)
 
-bytes_of-counts : (test : List ℕ → Bool) (bytes : List ℕ) → length (bytes_of test bytes) ≤ length bytes
-bytes_of-counts test [] = omega arith
-bytes_of-counts test (b ∷ bytes) = let all = run-counts test bytes in omega (arith, all)
+-- some of them, where there are any
+abbrev Front : List ℕ → List ℕ → Type 0
+Front bytes front = (length front ≤ length bytes) × (0 < length bytes → 0 < length front)
 
-typed-counts : (n : ℕ) (word behind : List ℕ) (typed : Bool) → (typed ≡ true → 1 ≤ length behind) → length word + length behind ≤ n
-    → length (if typed then word ++ 46 ∷ (run_of in_word (drop 1 behind)).0 else word) ≤ n
-typed-counts n word behind true some le =
-    let all = run-counts in_word (drop 1 behind) in
-    let more = some refl in
-    omega (arith, le, all, more, length-append word (46 ∷ (run_of in_word (drop 1 behind)).0), length-drop 1 behind)
-typed-counts n word behind false some le = omega (arith, le)
+bytes_of-front : (test : List ℕ → Bool) (bytes : List ℕ) → Front bytes (bytes_of test bytes)
+bytes_of-front test [] = (omega arith, λ some. some)
+bytes_of-front test (b ∷ bytes) = let all = run-counts test bytes in (omega (arith, all), λ _. omega arith)
 
-word_of-counts : (bytes : List ℕ) → length (word_of bytes) ≤ length bytes
-word_of-counts [] = omega arith
-word_of-counts (b ∷ bytes) =
-    let word : List ℕ = b ∷ (run_of in_word bytes).0 in
-    let behind : List ℕ = (run_of in_word bytes).1 in
+word_of-front : (bytes : List ℕ) → Front bytes (word_of bytes)
+word_of-front [] = (omega arith, λ some. some)
+word_of-front (b ∷ bytes) =
     let all = run-counts in_word bytes in
-    typed-counts (suc (length bytes)) word behind (bytes_eq (codes "null") word && first_is (λ b. b == 46) behind)
-    (λ is. first-some (λ b. b == 46) behind ((and_parts (bytes_eq (codes "null") word) (first_is (λ b. b == 46) behind) is).1)) (omega (arith, all))
-
-bytes_of-some : (test : List ℕ → Bool) (bytes : List ℕ) → 0 < length bytes → 0 < length (bytes_of test bytes)
-bytes_of-some test [] some = absurd (omega (arith, some))
-bytes_of-some test (b ∷ bytes) some = omega arith
-
-word_of-some : (bytes : List ℕ) → 0 < length bytes → 0 < length (word_of bytes)
-word_of-some [] some = absurd (omega (arith, some))
-word_of-some (b ∷ bytes) some = by (bytes_eq (codes "null") (b ∷ (run_of in_word bytes).0) && first_is (λ b. b == 46) (run_of in_word bytes).1)
+    by (b ∷ (run_of in_word bytes).0) (run_of in_word bytes).1 (bytes_eq (codes "null") (b ∷ (run_of in_word bytes).0)) (first_is (λ b. b == 46) (run_of in_word bytes).1) (omega arith)
+    (λ point. first-some (λ b. b == 46) (run_of in_word bytes).1 point) (omega (arith, all))
   where
-    by : (typed : Bool) → 0 < length (if typed then (b ∷ (run_of in_word bytes).0) ++ 46 ∷ (run_of in_word (drop 1 (run_of in_word bytes).1)).0 else b ∷ (run_of in_word bytes).0)
-    by true = omega arith
-    by false = omega arith
+    by : (word behind : List ℕ) (null point : Bool) → 0 < length word → (point ≡ true → 1 ≤ length behind) → length word + length behind ≤ suc (length bytes)
+        → Front (b ∷ bytes) (if null && point then word ++ 46 ∷ (run_of in_word (drop 1 behind)).0 else word)
+    by word behind true true some there le =
+        let all = run-counts in_word (drop 1 behind) in
+        let more = there refl in
+        let long = length-append word (46 ∷ (run_of in_word (drop 1 behind)).0) in
+        (omega (arith, le, all, more, long, length-drop 1 behind), λ _. omega (arith, some, long))
+    by word behind true false some there le = (omega (arith, le), λ _. some)
+    by word behind false point some there le = (omega (arith, le), λ _. some)
 
 -- ---- tokens
 
@@ -549,18 +532,18 @@ pub record TokenIs (first : First) (c : Cursor) (x : Token × Cursor) : Type 0 w
   pub named : NameTaken c x.0 x.1
 
 -- bytes that are counted, and what they mean
-counted-is : (limit : Option ℕ) (first : First) (bytes : List ℕ) (c : Cursor) (means : List ℕ → Result Token Reason) → length bytes ≤ length c.rest → (0 < length c.rest → 0 < length bytes)
+counted-is : (limit : Option ℕ) (first : First) (bytes : List ℕ) (c : Cursor) (means : List ℕ → Result Token Reason) → Front c.rest bytes
     → IfOk (means bytes) CountsAll → IfOk (means bytes) (NameWithin (length bytes)) → IfOk (counted limit bytes c >>= (λ r. means r.0 >>= (λ t. Ok (t, r.1)))) (TokenIs first c)
-counted-is limit first bytes c means le some all within =
+counted-is limit first bytes c means front all within =
     if-then (λ r. ◌≡◌ {A = List ℕ × Cursor} r (bytes, skip (length bytes) c)) _ (counted limit bytes c) _ (if-passed _ (passes limit (length bytes)) ScalarLimit _ (λ _. refl))
     (λ r e. rw e (by (means bytes) all within))
   where
     by : (o : Result Token Reason) → IfOk o CountsAll → IfOk o (NameWithin (length bytes)) → IfOk (o >>= (λ t. Ok (t, skip (length bytes) c))) (TokenIs first c)
     by (Err reason) all within = tt
     by (Ok t) all within = record {
-      past = λ there. let long = some there in omega (arith, le, long, length-drop (length bytes) c.rest);
-      fits = λ _. omega (arith, le, all c.place (c.place + length bytes));
-      named = name-taken (length bytes) c t le within;
+      past = λ there. let long = front.1 there in omega (arith, front.0, long, length-drop (length bytes) c.rest);
+      fits = λ _. omega (arith, front.0, all c.place (c.place + length bytes));
+      named = name-taken (length bytes) c t front.0 within;
     }
 
 run-named : (run : List ℕ) → IfOk (run_token run) (NameWithin (length run))
@@ -599,8 +582,8 @@ between-is limit first n c q k some counted named =
 pub token-is : (limit : Option ℕ) (first : First) (c : Cursor) → IfOk (token_of limit first c) (TokenIs first c)
 unfolding token_of
 token-is limit a_run c =
-    counted-is limit a_run (bytes_of in_run c.rest) c run_token (bytes_of-counts in_run c.rest) (bytes_of-some in_run c.rest) (run_token-counts (bytes_of in_run c.rest)) (run-named (bytes_of in_run c.rest))
-token-is limit a_word c = counted-is limit a_word (word_of c.rest) c word_token (word_of-counts c.rest) (word_of-some c.rest) (word_token-counts (word_of c.rest)) (word-named (word_of c.rest))
+    counted-is limit a_run (bytes_of in_run c.rest) c run_token (bytes_of-front in_run c.rest) (run_token-counts (bytes_of in_run c.rest)) (run-named (bytes_of in_run c.rest))
+token-is limit a_word c = counted-is limit a_word (word_of c.rest) c word_token (word_of-front c.rest) (word_token-counts (word_of c.rest)) (word-named (word_of c.rest))
 token-is limit a_quoted c = between-is limit a_quoted 1 c quoted.symbol_quote (λ bytes. name true (value.Text bytes)) (omega arith) (λ bytes p r. refl) (λ bytes d le. le)
 token-is limit a_short c = between-is limit a_short 1 c (quoted.short_quote false) text (omega arith) (λ bytes p r. refl) (λ bytes d le. tt)
 token-is limit a_long c = between-is limit a_long 3 c (quoted.long_quote false) text (omega arith) (λ bytes p r. refl) (λ bytes d le. tt)
@@ -608,7 +591,7 @@ token-is limit a_lob c =
     if-then (LobAt Any c.place (skip 2 c)) _ (lob_at limit (skip 2 c)) _ (any-lob c.place limit (skip 2 c))
     (λ l s. record { past = λ there. omega (arith, there, s.0, length-drop 2 c.rest); fits = λ _. omega (arith, s.0, length-drop 2 c.rest); named = tt })
 token-is limit an_operator c =
-    counted-is limit an_operator (bytes_of in_operator c.rest) c (λ bytes. Ok (operator bytes)) (bytes_of-counts in_operator c.rest) (bytes_of-some in_operator c.rest) (λ p r. refl) tt
+    counted-is limit an_operator (bytes_of in_operator c.rest) c (λ bytes. Ok (operator bytes)) (bytes_of-front in_operator c.rest) (λ p r. refl) tt
 token-is limit an_infinity c =
     if-passed _ (passes limit 4) ScalarLimit _ (λ _. record { past = λ there. omega (arith, there, length-drop 4 c.rest); fits = λ long. omega (arith, long); named = tt })
 token-is limit no_token c = tt

@@ -15,7 +15,7 @@ use Rattle.ion_value.specs.Reading.{Step, Gives, GoesOn}
 use Rattle.ion_meter.specs.Sources.{Cursor, skip}
 use Rattle.ion_value.specs.Parts.{Placed, part, refuse, ◌>>=◌, ◌>>◌}
 use Rattle.ion_text_in.specs.Blanks.{blanks}
-use Rattle.ion_text_in.specs.Token.{First, a_word, a_quoted, a_short, a_long, a_run, a_lob, an_operator, an_infinity, a_begin, an_end, a_comma, a_colon, two_colons, no_token, first_at, Token, plain, name, text, operator, no_number, begin, end, comma, colon, colons, token_of, next_token}
+use Rattle.ion_text_in.specs.Token.{First, a_colon, two_colons, first_at, Token, plain, name, text, operator, begin, end, comma, colon, colons, token_of, next_token}
 use Rattle.ion_text_in.specs.Reading as reading
 use Rattle.ion_text_in.specs.Positions.{Wants, a_value, a_field, a_separator, State, innermost, in_sexp, has_commas, at, first_place}
 use Rattle.ion_text_in.specs.Reading.{at_member, behind_member, may_come, top_of, item_of, tells_version, is_marker, behind_colons, step, step_of, take, part_at}

@@ -35,7 +35,7 @@ use Rattle.ion_text_in.specs.Meaning.{counts}
 use Rattle.ion_text_in.specs.Token as tokens
 use Rattle.ion_text_in.specs.Token.{First, a_word, a_quoted, a_short, a_long, a_run, a_lob, an_operator, an_infinity, no_token, Token, plain, name, text, operator, bytes_of, in_run, in_operator, word_of, counted, token_of, run_token, word_token}
 use Rattle.ion_text_in.proofs.TokenLimits.{got, CountsAll, run_token-counts, word_token-counts}
-use Rattle.ion_text_in.proofs.WentWell.{if-then, if-passed, if-more, any-ok}
+use Rattle.ion_text_in.proofs.WentWell.{if-any, if-passed, if-more}
 
 -- ---- a result, or a limit's fault in its place
 
@@ -243,7 +243,7 @@ module _ (limits wide : Option ℕ) (within : (n : ℕ) → passes wide n ≡ tr
       → Short (behind count) (refuse (passes limits (count + length bytes)) reason.ScalarLimit >> (r >>= (λ others. Ok (bytes ++ others.0, others.1))))
       (refuse (passes wide (count + length bytes)) reason.ScalarLimit >> (w >>= (λ others. Ok (bytes ++ others.0, others.1))))
   join-cut count bytes r w h =
-      passed-cut (behind count) (count + length bytes) _ _ (if-then (λ x. Unit {0}) _ w _ (any-ok w) (λ x _. omega (arith, length-append bytes x.0)))
+      passed-cut (behind count) (count + length bytes) _ _ (if-any _ w _ (λ x. omega (arith, length-append bytes x.0)))
       (λ kept. map-cut (behind (count + length bytes)) (behind count) r w (λ others. (bytes ++ others.0, others.1)) (λ x. omega (arith, length-append bytes x.0)) (h kept))
 
   -- ---- texts
@@ -284,7 +284,7 @@ module _ (limits wide : Option ℕ) (within : (n : ℕ) → passes wide n ≡ tr
 
   with_segments-more : (more : Cursor → Result (List ℕ × Cursor) Reason) (count : ℕ) (s : List ℕ × Cursor) (o : Option Cursor) → IfOk (with_segments more s o) (λ y. count + length s.0 ≤ count + length y.0)
   with_segments-more more count s None = omega arith
-  with_segments-more more count s (Some d) = if-then (λ x. Unit {0}) _ (more d) _ (any-ok (more d)) (λ x _. omega (arith, length-append s.0 x.0))
+  with_segments-more more count s (Some d) = if-any _ (more d) _ (λ x. omega (arith, length-append s.0 x.0))
 
   segments-cut : (most : ℕ) (q : Quote) (count : ℕ) (c : Cursor) → passes limits count ≡ false → Short (behind count) (segments_for most q limits count c) (segments_for most q wide count c)
   unfolding segments_for
@@ -319,7 +319,7 @@ module _ (limits wide : Option ℕ) (within : (n : ℕ) → passes wide n ≡ tr
   clob-cut p is_long c =
       let q : Quote = if is_long then long_quote true else short_quote true in
       onward (behind 0) (scalar_counts p) (text_at q limits c) (text_at q wide c) _ _ (text-cut q c)
-      (λ t. if-then (λ d. Unit {0}) _ (lob.clob_closed_at is_long (behind_run (first_is is_white) t.1)) _ (any-ok _) (λ d _. omega arith))
+      (λ t. if-any _ (lob.clob_closed_at is_long (behind_run (first_is is_white) t.1)) _ (λ d. omega arith))
       (λ t kept. let d : Cursor = behind_run (first_is is_white) t.1 in
       before-cut (scalar_counts p) (lob.clob_closed_at is_long d) _ _ (then_blames Free (refuse _ reason.Truncated) (lob.closed_at d) (refuse_free _ reason.Truncated refl) (closed-free d))
       (λ e. same _ (passes-fewer limits (length t.0) (0 + length t.0) (omega arith) kept)))

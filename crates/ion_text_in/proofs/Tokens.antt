@@ -1,17 +1,18 @@
 -- A token that stands at a place is the next that a reading takes there.
 use Rattle.std.proofs.Common.{◌≡◌, ℕ, ◌<◌, nat_lt, ◌||◌, if◌then◌else◌, Bool, true, false, List, [], ◌∷◌, Option, Some, None, Result, Ok, Err, refl, sym, ap, subst, ◌∙◌}
 use Rattle.std.proofs.lemmas.Bool.{false≢true, le-ltb, lt-ltb}
+use Rattle.std.proofs.lemmas.Result.{IfOk-at_ok}
+use Rattle.std.specs.Result.{IfOk}
 use Rattle.ion_meter.specs.declared.fault.Reason.{Reason}
 use Rattle.ion_meter.specs.declared.fault.Reason.TheVariants.{ScalarLimit}
 use Rattle.ion_meter.specs.declared.limits.Limits.{Limits}
 use Rattle.ion_value.specs.declared.ion_type.Kind.{Kind}
-use Rattle.ion_value.specs.Name.{Keyword, a_null, a_bool, a_nan, keyword, is_id, id_of}
+use Rattle.ion_value.specs.Name.{Keyword, a_null, keyword}
 use Rattle.ion_value.specs.Reading.{Stops}
 use Rattle.ion_value.specs.Scalar.{scalar_of_run}
-use Rattle.ion_value.specs.Value as value
 use Rattle.ion_value.specs.Value.{SymbolAt, Scalar}
 use Rattle.ion_meter.specs.Sources.{Cursor, skip}
-use Rattle.ion_value.specs.Parts.{part, refuse, ◌>>=◌, ◌>>◌}
+use Rattle.ion_value.specs.Parts.{part, ◌>>=◌}
 use Rattle.ion_text_in.specs.Limit.{passes}
 use Rattle.ion_text_in.specs.Blanks.{blanks}
 use Rattle.ion_text_in.specs.Meaning.{counts, TokensWithinAreRead}
@@ -27,7 +28,7 @@ use Rattle.ion_text_in.specs.Reading.{is_punctuation, names_field, may_come, ste
 use Rattle.ion_text_in.specs.Grammar.{Tok}
 use Rattle.ion_text_in.proofs.TokenCuts.{token-exact}
 use Rattle.ion_text_in.proofs.TokenLimits.{got}
-use Rattle.ion_text_in.proofs.WentWell.{went, part-known}
+use Rattle.ion_text_in.proofs.WentWell.{went, part-known, if-any, if-passed}
 
 -- ---- what a token's first bytes told
 
@@ -48,56 +49,42 @@ pub record Told (first : First) (t : Token) : Type 0 where
   pub mark : is_mark t ≡ is_punctuation first
   pub naming : is_naming t ≡ true → names_field first ≡ true
 
-told-by : {A : Type 0} (first : First) (t : Token) (d : Cursor) (o : Result A Reason) (f : A → Result (Token × Cursor) Reason) → ((x : A) → f x ≡ got t d → Told first t)
-    → (o >>= f) ≡ got t d → Told first t
-told-by first t d (Ok x) f told e = told x e
-told-by first t d (Err reason) f told e = absurd (cc e)
-
--- a token and what is behind it are those that are given
-told-same : (first : First) (t u : Token) (c d : Cursor) → got u c ≡ got t d → Told first u → Told first t
-told-same first t u c d e told =
-    let both : ◌≡◌ {A = Token × Cursor} (u, c) (t, d) = cc e in
-    subst (λ t. Told first t) (ap (λ (z : Token × Cursor). z.0) both) told
-
 bare : (first : First) (t : Token) → is_mark t ≡ is_punctuation first → is_naming t ≡ false → Told first t
 bare first t mark none = record { mark = mark; naming = λ e. absurd (false≢true (sym none ∙ e)) }
 
-keyword-told : (t : Token) (c d : Cursor) (k : Option Keyword) (word : List ℕ) → (tokens.by_keyword k word >>= (λ t. got t c)) ≡ got t d → Told a_word t
-keyword-told t c d (Some (a_null (Some type))) word e = told-same a_word t (plain (value.null type)) c d e (bare a_word _ refl refl)
-keyword-told t c d (Some (a_null None)) word e = absurd (cc e)
-keyword-told t c d (Some (a_bool truth)) word e = told-same a_word t (plain (value.bool truth)) c d e (bare a_word _ refl refl)
-keyword-told t c d (Some a_nan) word e = told-same a_word t no_number c d e (bare a_word _ refl refl)
-keyword-told t c d None word e = told-same a_word t (name false (if is_id word then value.Id (id_of word) else value.Text word)) c d e (record { mark = refl; naming = λ _. refl })
+names : (first : First) (t : Token) → is_mark t ≡ is_punctuation first → names_field first ≡ true → Told first t
+names first t mark may = record { mark = mark; naming = λ _. may }
 
-word-told : (t : Token) (c d : Cursor) (word : List ℕ) → (word_token word >>= (λ t. got t c)) ≡ got t d → Told a_word t
+word-told : (c : Cursor) (word : List ℕ) → IfOk (word_token word >>= (λ t. got t c)) (λ x. Told a_word x.0)
 unfolding word_token
-word-told t c d word e = keyword-told t c d (keyword word) word e
+word-told c word = by (keyword word)
+  where
+    by : (k : Option Keyword) → IfOk (tokens.by_keyword k word >>= (λ t. got t c)) (λ x. Told a_word x.0)
+    by None = names a_word _ refl refl
+    by (Some (a_null None)) = tt
+    by (Some (a_null (Some type))) = bare a_word _ refl refl
+    by k = bare a_word _ refl refl
 
-run-told : (t : Token) (c d : Cursor) (o : Result (Scalar SymbolAt) Reason) → ((o >>= (λ v. Ok (plain v))) >>= (λ t. got t c)) ≡ got t d → Told a_run t
-run-told t c d (Ok v) e = told-same a_run t (plain v) c d e (bare a_run _ refl refl)
-run-told t c d (Err reason) e = absurd (cc e)
+run-told : (c : Cursor) (o : Result (Scalar SymbolAt) Reason) → IfOk ((o >>= (λ v. Ok (plain v))) >>= (λ t. got t c)) (λ x. Told a_run x.0)
+run-told c (Ok v) = bare a_run _ refl refl
+run-told c (Err reason) = tt
+
+if-told : (limit : Option ℕ) (first : First) (c : Cursor) → IfOk (token_of limit first c) (λ x. Told first x.0)
+unfolding token_of
+if-told limit a_run c = if-any _ (counted limit (bytes_of in_run c.rest) c) _ (λ r. run-told r.1 (scalar_of_run r.0))
+if-told limit a_word c = if-any _ (counted limit (word_of c.rest) c) _ (λ r. word-told r.1 r.0)
+if-told limit a_quoted c = if-any _ (text_at quoted.symbol_quote limit (skip 1 c)) _ (λ r. names a_quoted _ refl refl)
+if-told limit a_short c = if-any _ (text_at (quoted.short_quote false) limit (skip 1 c)) _ (λ r. names a_short _ refl refl)
+if-told limit a_long c = if-any _ (text_at (quoted.long_quote false) limit (skip 3 c)) _ (λ r. names a_long _ refl refl)
+if-told limit a_lob c = if-any _ (lob_at limit (skip 2 c)) _ (λ r. bare a_lob _ refl refl)
+if-told limit an_operator c = if-any _ (counted limit (bytes_of in_operator c.rest) c) _ (λ r. bare an_operator _ refl refl)
+if-told limit an_infinity c = if-passed _ (passes limit 4) ScalarLimit _ (λ _. bare an_infinity _ refl refl)
+if-told limit no_token c = tt
+if-told limit mark c = bare mark _ refl refl
 
 -- a token is of the kind that its first bytes told
 pub token-told : (limit : Option ℕ) (first : First) (b d : Cursor) (t : Token) → token_of limit first b ≡ got t d → Told first t
-unfolding token_of
-token-told limit a_run b d t e = told-by a_run t d (counted limit (bytes_of in_run b.rest) b) _ (λ r e. run-told t r.1 d (scalar_of_run r.0) e) e
-token-told limit a_word b d t e = told-by a_word t d (counted limit (word_of b.rest) b) _ (λ r e. word-told t r.1 d r.0 e) e
-token-told limit a_quoted b d t e =
-    told-by a_quoted t d (text_at quoted.symbol_quote limit (skip 1 b)) _ (λ r e. told-same a_quoted t (name true (value.Text r.0)) r.1 d e (record { mark = refl; naming = λ _. refl })) e
-token-told limit a_short b d t e =
-    told-by a_short t d (text_at (quoted.short_quote false) limit (skip 1 b)) _ (λ r e. told-same a_short t (text r.0) r.1 d e (record { mark = refl; naming = λ _. refl })) e
-token-told limit a_long b d t e =
-    told-by a_long t d (text_at (quoted.long_quote false) limit (skip 3 b)) _ (λ r e. told-same a_long t (text r.0) r.1 d e (record { mark = refl; naming = λ _. refl })) e
-token-told limit a_lob b d t e = told-by a_lob t d (lob_at limit (skip 2 b)) _ (λ r e. told-same a_lob t (plain r.0) r.1 d e (bare a_lob _ refl refl)) e
-token-told limit an_operator b d t e =
-    told-by an_operator t d (counted limit (bytes_of in_operator b.rest) b) _ (λ r e. told-same an_operator t (operator r.0) r.1 d e (bare an_operator _ refl refl)) e
-token-told limit an_infinity b d t e = infinity (passes limit 4) e
-  where
-    infinity : (long : Bool) → (refuse long ScalarLimit >> got no_number (skip 4 b)) ≡ got t d → Told an_infinity t
-    infinity true e = absurd (cc e)
-    infinity false e = told-same an_infinity t no_number (skip 4 b) d e (bare an_infinity _ refl refl)
-token-told limit no_token b d t e = absurd (cc e)
-token-told limit first b d t e = told-same first t _ _ d e (bare first _ refl refl)
+token-told limit first b d t e = IfOk-at_ok (λ (x : Token × Cursor). Told first x.0) e (if-told limit first b)
 
 -- ---- where a token stands
 

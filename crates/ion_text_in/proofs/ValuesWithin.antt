@@ -32,15 +32,12 @@ use Rattle.ion_text_in.specs.ReadWithin.{SymbolIsWithin, ScalarIsWithin, Annotat
 use Rattle.ion_text_in.specs.Token.{First, a_run, a_word, a_quoted, a_short, a_long, a_lob, an_operator, an_infinity, no_token, Token, plain, name, text, operator, first_at, by_keyword, bytes_of, in_operator, in_run, run_token, token_of, word_of, word_token}
 use Rattle.ion_text_in.specs.Within.{TokenWithin, AnnotationsWithin, NamesWithin, FieldWithin, TxtWithin, InsideWithin, TopsWithin}
 use Rattle.ion_text_in.proofs.Allowing.{tops-allowed}
+use Rattle.ion_text_in.proofs.LobBytes.{all-append}
 use Rattle.ion_text_in.proofs.RawTokens.{tokens-are_raw}
 use Rattle.ion_text_in.proofs.Shrinking.{Any, LobOf, any-lob}
 use Rattle.ion_text_in.proofs.TokenLimits.{CountsAll, run_token-counts, word_token-counts}
 use Rattle.ion_text_in.proofs.Tokens.{tok-stands}
-use Rattle.ion_text_in.proofs.WentWell.{if-then, any-ok}
-
-all-append : {A : Type 0} (P : A → Type 0) (xs ys : List A) → AllByRecursion P xs → AllByRecursion P ys → AllByRecursion P (xs ++ ys)
-all-append P [] ys h k = k
-all-append P (x ∷ xs) ys h k = (h.0, all-append P xs ys h.1 k)
+use Rattle.ion_text_in.proofs.WentWell.{if-then, if-any}
 
 all-more : {A : Type 0} (P Q : A → Type 0) → ((x : A) → P x → Q x) → (xs : List A) → AllByRecursion P xs → AllByRecursion Q xs
 all-more P Q more [] h = tt
@@ -106,9 +103,9 @@ module _ (limits : Limits) where
   unfolding token_of
   token-means a_run c = counted-within (bytes_of in_run c.rest) c run_token (run_token-counts (bytes_of in_run c.rest)) (run-within (bytes_of in_run c.rest))
   token-means a_word c = counted-within (word_of c.rest) c word_token (word_token-counts (word_of c.rest)) (word-within (word_of c.rest))
-  token-means a_quoted c = if-then (λ t. Unit {0}) _ (text_at symbol_quote None (skip 1 c)) _ (any-ok _) (λ t h le. le)
-  token-means a_short c = if-then (λ t. Unit {0}) _ (text_at (short_quote false) None (skip 1 c)) _ (any-ok _) (λ t h le. le)
-  token-means a_long c = if-then (λ t. Unit {0}) _ (text_at (long_quote false) None (skip 3 c)) _ (any-ok _) (λ t h le. le)
+  token-means a_quoted c = if-any _ (text_at symbol_quote None (skip 1 c)) _ (λ t le. le)
+  token-means a_short c = if-any _ (text_at (short_quote false) None (skip 1 c)) _ (λ t le. le)
+  token-means a_long c = if-any _ (text_at (long_quote false) None (skip 3 c)) _ (λ t le. le)
   token-means a_lob c = if-then _ _ (lob_at None (skip 2 c)) _ (any-lob c.place None (skip 2 c)) (λ l h le. lob-within c.place c l.1 l.0 h.1 le)
   token-means an_operator c = counted-within (bytes_of in_operator c.rest) c (λ bytes. Ok (operator bytes)) (λ p q. refl) (λ le. le)
   token-means an_infinity c = λ le. tt

@@ -23,6 +23,11 @@ pub any-ok : {A E : Type 0} (o : Result A E) → IfOk o (λ x. Unit {0})
 any-ok (Ok x) = tt
 any-ok (Err reason) = tt
 
+-- whatever the first gives
+pub if-any : {A B E : Type 0} (Q : B → Type 0) (o : Result A E) (f : A → Result B E) → ((x : A) → IfOk (f x) Q) → IfOk (o >>= f) Q
+if-any Q (Ok x) f h = h x
+if-any Q (Err reason) f h = tt
+
 pub if-more : {A E : Type 0} (P Q : A → Type 0) (o : Result A E) → IfOk o P → ((x : A) → P x → Q x) → IfOk o Q
 if-more P Q (Ok x) h more = more x h
 if-more P Q (Err reason) h more = tt

@@ -20,7 +20,7 @@ use Rattle.ion_text_in.specs.Token.{First, a_colon, first_at, Token, plain, name
 use Rattle.ion_text_in.specs.Reading as reading
 use Rattle.ion_text_in.specs.Positions.{at, Wants, a_value, a_field, a_separator, State, innermost, in_sexp}
 use Rattle.ion_text_in.specs.Reading.{cost, may_come, behind_colons, tells_version, step, step_of, take, part_at, size}
-use Rattle.ion_text_in.proofs.Advancing.{tok-advances}
+use Rattle.ion_text_in.proofs.Advancing.{tok-took}
 use Rattle.ion_text_in.proofs.Shrinking.{Passed, Past, skip-within, blanks-pass, blanks-within, token-past}
 use Rattle.ion_text_in.proofs.Steps.{tok-read, colons-behind}
 use Rattle.ion_text_in.proofs.TokenCuts.{Cut, same, limit, bind-Cut, Short, token_counts, token-cut}
@@ -136,7 +136,7 @@ module _ (limits wide : Limits) (within : AreWithin limits wide) where
     symbol-Cut field annotations quoted symbol p d are tok (Some e) found =
         let cost_is : ℕ = sum_by cost (annotations ++ at symbol p ∷ []) in
         let after = colons-behind sexp d e found in
-        let le = tok-advances sexp d e colons after.0 after.1 in
+        let le = (tok-took sexp d e colons after.0 after.1).less in
         refused-Cut limits s (suc (length d.rest)) p (nat_lt limits.scalar cost_is) (nat_lt wide.scalar cost_is) reason.AnnotationLimit _ (scalar-passed cost_is)
         (λ more. Passes.annotations field annotations quoted symbol after.0 d e are tok after.1 (ltb-true limits.scalar cost_is more)) (omega (arith, le))
 

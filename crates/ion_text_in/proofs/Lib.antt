@@ -7,12 +7,10 @@ mod WentWell
 mod TokenLimits
 mod Tokens
 mod Advancing
-mod Allowing
 mod AsciiTexts
 mod Complete
 mod ReadWithin
 mod TokenCuts
-mod Counting
 mod One
 mod Going
 mod Meaning

@@ -31,7 +31,7 @@ use Rattle.ion_text_in.specs.Quoted.{long_quote, short_quote, symbol_quote, text
 use Rattle.ion_text_in.specs.ReadWithin.{SymbolIsWithin, ScalarIsWithin, AnnotationsAreWithin, ValueIsWithin, MembersAreWithin, TopIsWithin, WhatIsReadIsWithin, ValuesReadAreWithin}
 use Rattle.ion_text_in.specs.Token.{First, a_run, a_word, a_quoted, a_short, a_long, a_lob, an_operator, an_infinity, no_token, Token, plain, name, text, operator, first_at, by_keyword, bytes_of, in_operator, in_run, run_token, token_of, word_of, word_token}
 use Rattle.ion_text_in.specs.Within.{TokenWithin, AnnotationsWithin, NamesWithin, FieldWithin, TxtWithin, InsideWithin, TopsWithin}
-use Rattle.ion_text_in.proofs.Allowing.{tops-allowed}
+use Rattle.ion_text_in.proofs.Advancing.{tops-allowed}
 use Rattle.ion_text_in.proofs.LobBytes.{all-append}
 use Rattle.ion_text_in.proofs.RawTokens.{tokens-are_raw}
 use Rattle.ion_text_in.proofs.Shrinking.{Any, LobOf, any-lob}

@@ -12,9 +12,7 @@ mod Complete
 mod ReadWithin
 mod TokenCuts
 mod One
-mod Going
 mod Meaning
-mod Texts
 mod Blobs
 mod Strings
 mod DecodedBytes

@@ -112,7 +112,10 @@ four-number n front back m ds long all first second =
     spelled : (n : ℕ) (ds : List ℕ) → 4 ≤ length ds
         → number_after (n * 10000 + (((get_or ds 0 0 - 48) * 10 + (get_or ds 1 0 - 48)) * 100 + ((get_or ds 2 0 - 48) * 10 + (get_or ds 3 0 - 48)))) (drop 4 ds) ≡ number_after n ds
     spelled n (a ∷ b ∷ c ∷ d ∷ ds) long = ap (λ (k : ℕ). number_after k ds) (omega arith)
-    spelled n ds long = absurd (omega (arith, long))
+    spelled n [] long = absurd (omega (arith, long))
+    spelled n (a ∷ []) long = absurd (omega (arith, long))
+    spelled n (a ∷ b ∷ []) long = absurd (omega (arith, long))
+    spelled n (a ∷ b ∷ c ∷ []) long = absurd (omega (arith, long))
 
 pub four-digits : (m : ℕ) (ds : List ℕ) → length ds ≤ m → all_are is_digit ds ≡ true → all_are is_digit (take (m - 4) (drop 4 ds)) ≡ true
 four-digits m ds all e = rw (four-behind m ds all) (cut-digits 4 ds e).1

@@ -26,7 +26,7 @@ use Rattle.ion_text_in.specs.Paths.{open_in, Spells, IsTop}
 use Rattle.ion_text_in.specs.Laws.{Complete, StreamsAreRead, PathsWithinAreRead, StreamsWithinAreRead}
 use Rattle.ion_text_in.specs.Meaning.{counts}
 use Rattle.ion_text_in.specs.Within.{TokenWithin, NamesWithin, AnnotationsWithin, FieldWithin, TxtWithin, InsideWithin, TopsWithin, PathWithin}
-use Rattle.ion_text_in.proofs.Allowing.{tops-allowed, path-allowed}
+use Rattle.ion_text_in.proofs.Advancing.{tops-allowed, path-allowed}
 use Rattle.ion_text_in.proofs.Growing.{Fits}
 use Rattle.ion_text_in.proofs.Steps.{colons-none, version-none, fits}
 use Rattle.ion_text_in.proofs.Falling.{each_step_falls}

@@ -1,200 +1,227 @@
--- Each step of a reading takes a byte.
-use Rattle.std.proofs.Common.{◌≡◌, ℕ, ◌<◌, ◌≤◌, Bool, true, false, not, List, [], ◌∷◌, ◌++◌, length, Option, Some, None, Result, Ok, Err, nat_le, nat_lt, sum_by, refl, subst, ap, arith}
+-- Each step of a reading takes a byte; under narrower limits it is the same step, which no limit stops, or a limit that is
+-- passed stops it.
+use Rattle.std.proofs.Common.{◌≡◌, ℕ, suc, ◌<◌, ◌≤◌, Bool, true, false, not, List, [], ◌∷◌, ◌++◌, length, Option, Some, None, Result, Ok, Err, nat_le, nat_lt, sum_by, refl, subst, ap, ◌∙◌, arith}
+use Rattle.std.proofs.lemmas.Bool.{ltb-true, leb-true, lt-ltb, le-leb}
 use Rattle.ion_meter.specs.declared.fault.Reason.{Reason}
-use Rattle.ion_meter.specs.declared.fault.Reason.TheVariants.{BadToken, BadVersion, DepthLimit, AnnotationLimit}
+use Rattle.ion_meter.specs.declared.fault.Reason.TheVariants as reason
 use Rattle.ion_meter.specs.declared.limits.Limits.{Limits}
 use Rattle.ion_value.specs.declared.ion_type.Kind.{Kind}
 use Rattle.ion_value.specs.Value as value
-use Rattle.ion_value.specs.Value.{Symbol, SymbolAt, Scalar}
+use Rattle.ion_value.specs.Value.{Symbol, SymbolAt}
 use Rattle.ion_value.specs.Reading.{Step, Ends, Stops, Gives, GoesOn, Leaves, behind_item, behind_nothing, Shrinks}
-use Rattle.ion_meter.specs.Sources.{Cursor, skip}
+use Rattle.ion_value.specs.ReadingLaws.{AreWithin}
+use Rattle.ion_value.proofs.Faults.{Blames, is_limit, Free, free}
+use Rattle.ion_meter.specs.Sources.{Cursor}
 use Rattle.ion_value.specs.Parts.{Placed, part, refuse, ◌>>=◌, ◌>>◌}
 use Rattle.ion_text_in.specs.Blanks.{blanks}
-use Rattle.ion_text_in.specs.Token.{First, a_word, a_quoted, a_short, a_long, a_run, a_lob, an_operator, an_infinity, a_begin, an_end, a_comma, a_colon, two_colons, no_token, first_at, Token, plain, name, text, operator, no_number, begin, end, comma, colon, colons, token_of}
+use Rattle.ion_text_in.specs.Grammar.{Tok}
+use Rattle.ion_text_in.specs.Laws.{Passes}
+use Rattle.ion_text_in.specs.Token.{First, a_colon, first_at, Token, plain, name, text, operator, no_number, begin, end, comma, colons, token_of, next_token}
 use Rattle.ion_text_in.specs.Reading as reading
 use Rattle.ion_text_in.specs.Positions.{at, Wants, a_value, a_field, a_separator, State, innermost, in_sexp}
-use Rattle.ion_text_in.specs.Reading.{may_come, behind_colons, step, step_of, take, part_at, size}
-use Rattle.ion_text_in.proofs.Shrinking.{NoLonger, Past, stays, skip-within, blanks-within, token-past}
+use Rattle.ion_text_in.specs.Reading.{cost, may_come, behind_colons, tells_version, step, step_of, take, part_at, size}
+use Rattle.ion_text_in.proofs.Advancing.{tok-took}
+use Rattle.ion_text_in.proofs.Shrinking.{Passed, Past, skip-within, blanks-pass, blanks-within, token-past}
+use Rattle.ion_text_in.proofs.Steps.{tok-read, colons-behind}
+use Rattle.ion_text_in.proofs.TokenCuts.{Cut, same, limit, bind-Cut, Short, token_counts, token-cut}
+use Rattle.ion_text_in.proofs.WentWell.{part-known}
 
--- a step leaves no more than so many bytes
-abbrev Leaves_most : ℕ → Step State → Type 0
-Leaves_most n Ends = Unit {0}
-Leaves_most n (Stops reason place) = Unit {0}
-Leaves_most n (Gives item after) = length after.cursor.rest ≤ n
-Leaves_most n (GoesOn after) = length after.cursor.rest ≤ n
+-- ---- what a step leaves
 
-abbrev Most : ℕ → Placed (Step State) → Type 0
-Most n o = Leaves_most n (step_of o)
+-- less than so many bytes, or no limit stops it
+abbrev pub LeavesLess : ℕ → Step State → Type 0
+LeavesLess n Ends = Unit {0}
+LeavesLess n (Stops why place) = Free why
+LeavesLess n (Gives item after) = length after.cursor.rest < n
+LeavesLess n (GoesOn after) = length after.cursor.rest < n
 
-most-refuse : (n p : ℕ) (b : Bool) (reason : Reason) (o : Result (Step State) Reason) → Most n (part p o) → Most n (part p (refuse b reason >> o))
-most-refuse n p true reason o m = tt
-most-refuse n p false reason o m = m
+record Less (n : ℕ) (r : Placed (Step State)) : Type 0 where
+  so : LeavesLess n (step_of r)
 
-most-more : (n m : ℕ) (o : Step State) → n ≤ m → Leaves_most n o → Leaves_most m o
-most-more n m Ends le most = tt
-most-more n m (Stops reason place) le most = tt
-most-more n m (Gives item after) le most = omega (arith, le, most)
-most-more n m (GoesOn after) le most = omega (arith, le, most)
+less-more : (n m : ℕ) (r : Placed (Step State)) → n ≤ m → Less n r → Less m r
+less-more n m r le less = record { so = by (step_of r) less.so }
+  where
+    by : (o : Step State) → LeavesLess n o → LeavesLess m o
+    by Ends less = tt
+    by (Stops why place) less = less
+    by (Gives item after) less = omega (arith, le, less)
+    by (GoesOn after) less = omega (arith, le, less)
 
-closed-most : (kinds : List Kind) (top : ℕ) (k : Kind) (p : ℕ) (c : Cursor) → Most (length c.rest) (part p (reading.end_step kinds top k p c))
-closed-most [] top k p c = tt
-closed-most (j ∷ kinds) top k p c = most-refuse (length c.rest) p (not (reading.is_same j k)) BadToken _ (stays c)
+fault : (n place : ℕ) (why : Reason) → is_limit why ≡ false → Less n (Err (why, place))
+fault n place why e = record { so = free why e }
 
-bare-most : (field : Option SymbolAt) (annotations : List SymbolAt) (kinds : List Kind) (top : ℕ) (k : Kind) (p : ℕ) (c : Cursor)
-    → Most (length c.rest) (part p (reading.bare_end_step field annotations kinds top k p c))
-bare-most None [] kinds top k p c = closed-most kinds top k p c
-bare-most None (a ∷ annotations) kinds top k p c = tt
-bare-most (Some a) annotations kinds top k p c = tt
+refused-less : (n place : ℕ) (b : Bool) (why : Reason) (o : Step State) → is_limit why ≡ false → LeavesLess n o → Less n (part place (refuse b why >> Ok o))
+refused-less n place true why o e less = fault n place why e
+refused-less n place false why o e less = record { so = less }
 
-colons-at : (c d : Cursor) (first : First) → reading.colons_at first c ≡ Some d → NoLonger c d
-colons-at c d two_colons e = let same : skip 2 c ≡ d = cc e in subst (λ d. NoLonger c d) same (skip-within 2 c)
-colons-at c d a_run e = absurd (cc e)
-colons-at c d a_word e = absurd (cc e)
-colons-at c d a_quoted e = absurd (cc e)
-colons-at c d a_short e = absurd (cc e)
-colons-at c d a_long e = absurd (cc e)
-colons-at c d a_lob e = absurd (cc e)
-colons-at c d an_operator e = absurd (cc e)
-colons-at c d an_infinity e = absurd (cc e)
-colons-at c d (a_begin k) e = absurd (cc e)
-colons-at c d (an_end k) e = absurd (cc e)
-colons-at c d a_comma e = absurd (cc e)
-colons-at c d a_colon e = absurd (cc e)
-colons-at c d no_token e = absurd (cc e)
+-- ---- what no limit has a part in
 
-colons-blank : (sexp : Bool) (c d : Cursor) (o : Placed Cursor) → blanks c ≡ o → reading.colons_behind sexp o ≡ Some d → NoLonger c d
-colons-blank sexp c d (Ok b) blank e =
-    let first = blanks-within c b blank in
-    let then = colons-at b d (first_at sexp b.rest) e in
-    omega (arith, first.0, then)
-colons-blank sexp c d (Err fault) blank e = absurd (cc e)
+closed-less : (kinds : List Kind) (top : ℕ) (k : Kind) (p : ℕ) (c : Cursor) → Less (suc (length c.rest)) (part p (reading.end_step kinds top k p c))
+closed-less [] top k p c = fault _ p reason.BadToken refl
+closed-less (j ∷ kinds) top k p c = refused-less (suc (length c.rest)) p (not (reading.is_same j k)) reason.BadToken _ refl (omega arith)
 
-told-most : (kinds : List Kind) (top : ℕ) (field : Option SymbolAt) (annotations : List SymbolAt) (a : SymbolAt) (p : ℕ) (c : Cursor) (told : Bool)
-    → Most (length c.rest) (part p (reading.value_or_version kinds top field annotations a c told))
-told-most kinds top field annotations a p c true = most-refuse (length c.rest) p (not (reading.is_marker a.symbol)) BadVersion _ (stays c)
-told-most kinds top field annotations a p c false = stays c
+bare-less : (field : Option SymbolAt) (annotations : List SymbolAt) (kinds : List Kind) (top : ℕ) (k : Kind) (p : ℕ) (c : Cursor)
+    → Less (suc (length c.rest)) (part p (reading.bare_end_step field annotations kinds top k p c))
+bare-less None [] kinds top k p c = closed-less kinds top k p c
+bare-less field annotations kinds top k p c = fault _ p reason.BadToken refl
 
-symbol-most : (limits : Limits) (kinds : List Kind) (top : ℕ) (field : Option SymbolAt) (annotations : List SymbolAt) (quoted : Bool) (a : SymbolAt) (p : ℕ) (c : Cursor) (o : Option Cursor)
-    → behind_colons (in_sexp (innermost kinds)) c ≡ o → Most (length c.rest) (part p (reading.symbol_step limits kinds top field annotations quoted a c o))
-symbol-most limits kinds top field annotations quoted a p c None e = told-most kinds top field annotations a p c (reading.tells_version (innermost kinds) annotations quoted a.symbol)
-symbol-most limits kinds top field annotations quoted a p c (Some d) e =
-    most-refuse (length c.rest) p (nat_lt limits.scalar (sum_by reading.cost (annotations ++ a ∷ []))) AnnotationLimit _ (colons-blank (in_sexp (innermost kinds)) c d (blanks c) refl e)
+told-less : (kinds : List Kind) (top : ℕ) (field : Option SymbolAt) (annotations : List SymbolAt) (a : SymbolAt) (p : ℕ) (c : Cursor) (told : Bool)
+    → Less (suc (length c.rest)) (part p (reading.value_or_version kinds top field annotations a c told))
+told-less kinds top field annotations a p c true = refused-less (suc (length c.rest)) p (not (reading.is_marker a.symbol)) reason.BadVersion _ refl (omega arith)
+told-less kinds top field annotations a p c false = record { so = omega arith }
 
-colon-most : (kinds : List Kind) (top : ℕ) (a : SymbolAt) (c : Cursor) (first : First) → Most (length c.rest) (reading.colon_of kinds top a c first)
-colon-most kinds top a c a_colon = skip-within 1 c
-colon-most kinds top a c a_run = tt
-colon-most kinds top a c a_word = tt
-colon-most kinds top a c a_quoted = tt
-colon-most kinds top a c a_short = tt
-colon-most kinds top a c a_long = tt
-colon-most kinds top a c a_lob = tt
-colon-most kinds top a c an_operator = tt
-colon-most kinds top a c an_infinity = tt
-colon-most kinds top a c (a_begin k) = tt
-colon-most kinds top a c (an_end k) = tt
-colon-most kinds top a c a_comma = tt
-colon-most kinds top a c two_colons = tt
-colon-most kinds top a c no_token = tt
+colon-less : (kinds : List Kind) (top : ℕ) (a : SymbolAt) (c : Cursor) (rest : List ℕ) → Less (suc (length c.rest)) (reading.colon_from kinds top a c rest)
+colon-less kinds top a c [] = fault _ c.place reason.Truncated refl
+colon-less kinds top a c (b ∷ rest) = by (first_at false (b ∷ rest))
+  where
+    by : (first : First) → Less (suc (length c.rest)) (reading.colon_of kinds top a c first)
+    by a_colon = let le = skip-within 1 c in record { so = omega (arith, le) }
+    by first = fault _ c.place reason.BadToken refl
 
-from-most : (kinds : List Kind) (top : ℕ) (a : SymbolAt) (c : Cursor) (rest : List ℕ) → Most (length c.rest) (reading.colon_from kinds top a c rest)
-from-most kinds top a c [] = tt
-from-most kinds top a c (b ∷ rest) = colon-most kinds top a c (first_at false (b ∷ rest))
+named-less : (kinds : List Kind) (top : ℕ) (a : SymbolAt) (c : Cursor) → Less (suc (length c.rest)) (reading.field_step kinds top a c)
+named-less kinds top a c = by (blanks c) (blanks-pass c)
+  where
+    by : (o : Placed Cursor) → Passed (length c.rest) o → Less (suc (length c.rest)) (o >>= (λ d. reading.colon_from kinds top a d d.rest))
+    by (Ok d) passed = let le = passed.0 in less-more (suc (length d.rest)) (suc (length c.rest)) (reading.colon_from kinds top a d d.rest) (omega (arith, le)) (colon-less kinds top a d d.rest)
+    by (Err fault) passed = record { so = passed }
 
-named-blank : (kinds : List Kind) (top : ℕ) (a : SymbolAt) (c : Cursor) (o : Placed Cursor) → blanks c ≡ o → Most (length c.rest) (o >>= (λ d. reading.colon_from kinds top a d d.rest))
-named-blank kinds top a c (Ok d) e = most-more (length d.rest) (length c.rest) (step_of (reading.colon_from kinds top a d d.rest)) ((blanks-within c d e).0) (from-most kinds top a d d.rest)
-named-blank kinds top a c (Err fault) e = tt
+ended-less : (n : ℕ) (kinds : List Kind) (wants : Wants) (p : ℕ) → Less n (reading.final_step kinds wants p)
+ended-less n [] (a_value None []) p = record { so = tt }
+ended-less n kinds wants p = fault n p reason.Truncated refl
 
-take-most : (limits : Limits) (kinds : List Kind) (top : ℕ) (wants : Wants) (p : ℕ) (t : Token) (c : Cursor) → Most (length c.rest) (take limits kinds top wants p t c)
-unfolding take
-take-most limits kinds top a_separator p (end k) c = closed-most kinds top k p c
-take-most limits kinds top a_separator p comma c = stays c
-take-most limits kinds top a_separator p (plain v) c = tt
-take-most limits kinds top a_separator p (name quoted symbol) c = tt
-take-most limits kinds top a_separator p (text t) c = tt
-take-most limits kinds top a_separator p (operator t) c = tt
-take-most limits kinds top a_separator p no_number c = tt
-take-most limits kinds top a_separator p (begin k) c = tt
-take-most limits kinds top a_separator p colon c = tt
-take-most limits kinds top a_separator p colons c = tt
-take-most limits kinds top a_field p (end k) c = closed-most kinds top k p c
-take-most limits kinds top a_field p (name quoted symbol) c = named-blank kinds top (at symbol p) c (blanks c) refl
-take-most limits kinds top a_field p (text t) c = named-blank kinds top (at (value.Text t) p) c (blanks c) refl
-take-most limits kinds top a_field p (plain v) c = tt
-take-most limits kinds top a_field p (operator t) c = tt
-take-most limits kinds top a_field p no_number c = tt
-take-most limits kinds top a_field p (begin k) c = tt
-take-most limits kinds top a_field p comma c = tt
-take-most limits kinds top a_field p colon c = tt
-take-most limits kinds top a_field p colons c = tt
-take-most limits kinds top (a_value field annotations) p (end k) c = bare-most field annotations kinds top k p c
-take-most limits kinds top (a_value field annotations) p (plain v) c = stays c
-take-most limits kinds top (a_value field annotations) p (text t) c = stays c
-take-most limits kinds top (a_value field annotations) p (operator t) c = stays c
-take-most limits kinds top (a_value field annotations) p (name quoted symbol) c =
-    symbol-most limits kinds top field annotations quoted (at symbol p) p c (behind_colons (in_sexp (innermost kinds)) c) refl
-take-most limits kinds top (a_value field annotations) p (begin k) c = most-refuse (length c.rest) p (nat_le limits.depth (length kinds)) DepthLimit _ (stays c)
-take-most limits kinds top (a_value field annotations) p no_number c = tt
-take-most limits kinds top (a_value field annotations) p comma c = tt
-take-most limits kinds top (a_value field annotations) p colon c = tt
-take-most limits kinds top (a_value field annotations) p colons c = tt
+-- ---- a step, or a limit's fault in its place
 
--- ---- a step
+-- the fault of a limit that is passed at its place
+abbrev pub PassesAt : {A : Type 0} → Limits → State → Reason × ℕ → Placed A → Type 0
+PassesAt limits s fault w = Passes limits s fault.1 fault.0
 
--- a step leaves less than so many bytes
-abbrev Leaves_less : ℕ → Step State → Type 0
-Leaves_less n Ends = Unit {0}
-Leaves_less n (Stops reason place) = Unit {0}
-Leaves_less n (Gives item after) = length after.cursor.rest < n
-Leaves_less n (GoesOn after) = length after.cursor.rest < n
+pub data StepCut (limits : Limits) (s : State) : Step State → Step State → Type 0 where
+  same_step : (o : Step State) → LeavesLess (size s) o → StepCut limits s o o
+  limit_step : (why : Reason) (place : ℕ) (o : Step State) → Passes limits s place why → StepCut limits s (Stops why place) o
 
-less-from : (n m : ℕ) (o : Step State) → n < m → Leaves_most n o → Leaves_less m o
-less-from n m Ends lt most = tt
-less-from n m (Stops reason place) lt most = tt
-less-from n m (Gives item after) lt most = omega (arith, lt, most)
-less-from n m (GoesOn after) lt most = omega (arith, lt, most)
+-- the first is the second, which leaves less than so many bytes, or the fault of a limit
+abbrev Steps : Limits → State → ℕ → Placed (Step State) → Placed (Step State) → Type 0
+Steps limits s n r w = Cut (λ r. Less n r) (PassesAt limits s) r w
 
-cut-less : (limits : Limits) (s : State) (b : Cursor) (first : First) → 0 < length b.rest → (o : Result (Token × Cursor) Reason) → token_of (Some limits.scalar) first b ≡ o
-    → Leaves_less (length b.rest) (step_of (part b.place o >>= (λ t. take limits s.kinds s.top s.wants b.place t.0 t.1)))
-cut-less limits s b first some (Err reason) e = tt
-cut-less limits s b first some (Ok t) e =
-    let less : length t.1.rest < length b.rest = subst (λ o. Past b o) e (token-past (Some limits.scalar) first b some) in
-    less-from (length t.1.rest) (length b.rest) (step_of (take limits s.kinds s.top s.wants b.place t.0 t.1)) less (take-most limits s.kinds s.top s.wants b.place t.0 t.1)
+steps-more : (limits : Limits) (s : State) (n m : ℕ) (r w : Placed (Step State)) → n ≤ m → Steps limits s n r w → Steps limits s m r w
+steps-more limits s n m _ _ le (same r less) = same r (less-more n m r le less)
+steps-more limits s n m _ _ le (limit e w is) = limit e w is
 
-coming-less : (limits : Limits) (s : State) (b : Cursor) (first : First) (may : Bool) → 0 < length b.rest → Leaves_less (length b.rest) (step_of (reading.next_part limits s b first may))
-coming-less limits s b first false some = tt
-coming-less limits s b first true some = cut-less limits s b first some (token_of (Some limits.scalar) first b) refl
+-- a test that holds wherever the wider one does
+refused-Cut : (limits : Limits) (s : State) (n p : ℕ) (b c : Bool) (why : Reason) (o : Step State) → (c ≡ true → b ≡ true) → (b ≡ true → Passes limits s p why) → LeavesLess n o
+    → Steps limits s n (part p (refuse b why >> Ok o)) (part p (refuse c why >> Ok o))
+refused-Cut limits s n p true c why o h passes less = limit (why, p) (part p (refuse c why >> Ok o)) (passes refl)
+refused-Cut limits s n p false true why o h passes less = absurd (cc (h refl))
+refused-Cut limits s n p false false why o h passes less = same (Ok o) (record { so = less })
 
-ended-less : (n : ℕ) (kinds : List Kind) (wants : Wants) (p : ℕ) → Leaves_less n (step_of (reading.final_step kinds wants p))
-ended-less n [] (a_value None []) p = tt
-ended-less n [] (a_value None (a ∷ annotations)) p = tt
-ended-less n [] (a_value (Some a) annotations) p = tt
-ended-less n [] a_field p = tt
-ended-less n [] a_separator p = tt
-ended-less n (k ∷ kinds) wants p = tt
+module _ (limits wide : Limits) (within : AreWithin limits wide) where
+  -- what passes the wider limit passes the narrower one
+  scalar-passed : (n : ℕ) → nat_lt wide.scalar n ≡ true → nat_lt limits.scalar n ≡ true
+  scalar-passed n h = let narrow = within.scalar in let more = ltb-true wide.scalar n h in lt-ltb limits.scalar n (omega arith)
 
-behind-less : (limits : Limits) (s : State) (b : Cursor) (rest : List ℕ) → b.rest ≡ rest → Leaves_less (length b.rest) (step_of (reading.part_behind limits s b rest))
-behind-less limits s b [] e = ended-less (length b.rest) s.kinds s.wants b.place
-behind-less limits s b (x ∷ rest) e =
-    coming-less limits s b (first_at (in_sexp (innermost s.kinds)) (x ∷ rest)) (may_come s.wants (first_at (in_sexp (innermost s.kinds)) (x ∷ rest))) (omega (arith, ap length e))
+  depth-reached : (n : ℕ) → nat_le wide.depth n ≡ true → nat_le limits.depth n ≡ true
+  depth-reached n h = let narrow = within.depth in let more = leb-true wide.depth n h in le-leb limits.depth n (omega arith)
 
-less-more : (n m : ℕ) (o : Step State) → n ≤ m → Leaves_less n o → Leaves_less m o
-less-more n m Ends le less = tt
-less-more n m (Stops reason place) le less = tt
-less-more n m (Gives item after) le less = omega (arith, le, less)
-less-more n m (GoesOn after) le less = omega (arith, le, less)
+  module _ (s : State) where
+    abbrev sexp : Bool
+    sexp = in_sexp (innermost s.kinds)
 
-part-less : (limits : Limits) (s : State) (o : Placed Cursor) → blanks s.cursor ≡ o → Leaves_less (size s) (step_of (o >>= (λ c. reading.part_behind limits s c c.rest)))
-part-less limits s (Err fault) e = tt
-part-less limits s (Ok b) e =
-    less-more (length b.rest) (size s) (step_of (reading.part_behind limits s b b.rest)) ((blanks-within s.cursor b e).0) (behind-less limits s b b.rest refl)
+    -- an annotation
+    symbol-Cut : (field : Option SymbolAt) (annotations : List SymbolAt) (quoted : Bool) (symbol : Symbol) (p : ℕ) (d : Cursor) → s.wants ≡ a_value field annotations
+        → Tok sexp s.cursor (name quoted symbol) p d → (o : Option Cursor) → behind_colons sexp d ≡ o
+        → Steps limits s (suc (length d.rest)) (part p (reading.symbol_step limits s.kinds s.top field annotations quoted (at symbol p) d o))
+        (part p (reading.symbol_step wide s.kinds s.top field annotations quoted (at symbol p) d o))
+    symbol-Cut field annotations quoted symbol p d are tok None found =
+        same _ (told-less s.kinds s.top field annotations (at symbol p) p d (tells_version (innermost s.kinds) annotations quoted symbol))
+    symbol-Cut field annotations quoted symbol p d are tok (Some e) found =
+        let cost_is : ℕ = sum_by cost (annotations ++ at symbol p ∷ []) in
+        let after = colons-behind sexp d e found in
+        let le = (tok-took sexp d e colons after.0 after.1).less in
+        refused-Cut limits s (suc (length d.rest)) p (nat_lt limits.scalar cost_is) (nat_lt wide.scalar cost_is) reason.AnnotationLimit _ (scalar-passed cost_is)
+        (λ more. Passes.annotations field annotations quoted symbol after.0 d e are tok after.1 (ltb-true limits.scalar cost_is more)) (omega (arith, le))
 
-step-less : (limits : Limits) (s : State) → Leaves_less (size s) (step limits s)
-unfolding step part_at
-step-less limits s = part-less limits s (blanks s.cursor) refl
+    -- a container: its depth alone is held against a limit
+    begun-Cut : (field : Option SymbolAt) (annotations : List SymbolAt) (k : Kind) (p : ℕ) (d : Cursor) → Tok sexp s.cursor (begin k) p d
+        → Steps limits s (suc (length d.rest)) (part p (reading.begin_step limits s.kinds s.top field annotations k p d)) (part p (reading.begin_step wide s.kinds s.top field annotations k p d))
+    begun-Cut field annotations k p d tok =
+        refused-Cut limits s (suc (length d.rest)) p (nat_le limits.depth (length s.kinds)) (nat_le wide.depth (length s.kinds)) reason.DepthLimit _ (depth-reached (length s.kinds))
+        (λ full. Passes.container k d tok (leb-true limits.depth (length s.kinds) full)) (omega arith)
 
-leaves-less : (n : ℕ) (o : Step State) (after : State) → Leaves_less n o → Leaves o after → size after < n
+    take-Cut : (wants : Wants) (p : ℕ) (t : Token) (d : Cursor) → s.wants ≡ wants → Tok sexp s.cursor t p d
+        → Steps limits s (suc (length d.rest)) (take limits s.kinds s.top wants p t d) (take wide s.kinds s.top wants p t d)
+    unfolding take
+    take-Cut a_separator p (end k) d are tok = same _ (closed-less s.kinds s.top k p d)
+    take-Cut a_separator p comma d are tok = same _ (record { so = omega arith })
+    take-Cut a_field p (end k) d are tok = same _ (closed-less s.kinds s.top k p d)
+    take-Cut a_field p (name quoted symbol) d are tok = same _ (named-less s.kinds s.top (at symbol p) d)
+    take-Cut a_field p (text t) d are tok = same _ (named-less s.kinds s.top (at (value.Text t) p) d)
+    take-Cut (a_value field annotations) p (end k) d are tok = same _ (bare-less field annotations s.kinds s.top k p d)
+    take-Cut (a_value field annotations) p (plain v) d are tok = same _ (record { so = omega arith })
+    take-Cut (a_value field annotations) p (text t) d are tok = same _ (record { so = omega arith })
+    take-Cut (a_value field annotations) p (operator t) d are tok = same _ (record { so = omega arith })
+    take-Cut (a_value field annotations) p (name quoted symbol) d are tok = symbol-Cut field annotations quoted symbol p d are tok (behind_colons (in_sexp (innermost s.kinds)) d) refl
+    take-Cut (a_value field annotations) p (begin k) d are tok = begun-Cut field annotations k p d tok
+    take-Cut (a_value field annotations) p no_number d are tok = same _ (fault _ p reason.Float refl)
+    take-Cut wants p t d are tok = same _ (fault _ p reason.BadToken refl)
+
+    abbrev FreeAt : Reason × ℕ → Type 0
+    FreeAt fault = Free fault.0
+
+    abbrev TokenShort : Cursor → Result (Token × Cursor) Reason → Result (Token × Cursor) Reason → Type 0
+    TokenShort c r w = Short (Some limits.scalar) (Some wide.scalar) scalar-passed (token_counts c.place) r w
+
+    -- the token itself
+    token-Cut : (c : Cursor) (r w : Result (Token × Cursor) Reason) → blanks s.cursor ≡ Ok c → token_of (Some limits.scalar) (first_at sexp c.rest) c ≡ r
+        → TokenShort c r w → Cut (λ r. Blames FreeAt r) (PassesAt limits s) (part c.place r) (part c.place w)
+    unfolding next_token
+    token-Cut c _ _ blank is (same (Ok t) kept) = same (Ok t) (record { so = tt })
+    token-Cut c _ _ blank is (same (Err why) free) = same (Err (why, c.place)) (record { so = free })
+    token-Cut c _ _ blank is (limit e w long) =
+        limit (e, c.place) (part c.place w) (rw long.0 (Passes.token (rw (blank, is, long.0) refl)))
+
+    coming-Cut : (c : Cursor) (first : First) (may : Bool) → blanks s.cursor ≡ Ok c → 0 < length c.rest → first_at sexp c.rest ≡ first
+        → Steps limits s (size s) (reading.next_part limits s c first may) (reading.next_part wide s c first may)
+    coming-Cut c first false blank some is = same _ (fault _ c.place reason.BadToken refl)
+    coming-Cut c first true blank some is =
+        bind-Cut (λ r. Blames FreeAt r) (λ r. Less (size s) r) (PassesAt limits s) (PassesAt limits s) (part c.place (token_of (Some limits.scalar) first c)) (part c.place (token_of (Some wide.scalar) first c)) _ _
+        (λ e free. record { so = free.so }) (λ e w passes. passes)
+        (token-Cut c _ _ blank (ap (λ first. token_of (Some limits.scalar) first c) is) (token-cut (Some limits.scalar) (Some wide.scalar) scalar-passed first c))
+        (λ t known _.
+        let token : token_of (Some limits.scalar) first c ≡ Ok t = part-known c.place _ t known in
+        let past : length t.1.rest < length c.rest = subst (λ o. Past c o) token (token-past (Some limits.scalar) first c some) in
+        let before = blanks-within s.cursor c blank in
+        steps-more limits s (suc (length t.1.rest)) (size s) _ _ (omega (arith, past, before.0))
+        (take-Cut s.wants c.place t.0 t.1 refl
+        (tok-read (Some limits.scalar) sexp s.cursor c t.1 t.0 blank (ap (λ first. token_of (Some limits.scalar) first c) is ∙ token))))
+
+    behind-Cut : (c : Cursor) (rest : List ℕ) → blanks s.cursor ≡ Ok c → c.rest ≡ rest → Steps limits s (size s) (reading.part_behind limits s c rest) (reading.part_behind wide s c rest)
+    behind-Cut c [] blank is = same _ (ended-less (size s) s.kinds s.wants c.place)
+    behind-Cut c (b ∷ rest) blank is = coming-Cut c (first_at sexp (b ∷ rest)) (may_come s.wants (first_at sexp (b ∷ rest))) blank (omega (arith, ap length is)) (ap (first_at sexp) is)
+
+    pub step-Cut : StepCut limits s (step limits s) (step wide s)
+    unfolding step part_at
+    step-Cut = by (part_at limits s) (part_at wide s)
+        (bind-Cut (λ r. Blames FreeAt r) (λ r. Less (size s) r) (PassesAt limits s) (PassesAt limits s) (blanks s.cursor) (blanks s.cursor) _ _ (λ e free. record { so = free.so }) (λ e w passes. passes)
+        (same _ (free-blanks (blanks s.cursor) (blanks-pass s.cursor))) (λ c blank _. behind-Cut c c.rest blank refl))
+      where
+        free-blanks : (o : Placed Cursor) → Passed (size s) o → Blames FreeAt o
+        free-blanks (Ok c) passed = record { so = tt }
+        free-blanks (Err fault) passed = record { so = passed }
+
+        by : (r w : Placed (Step State)) → Steps limits s (size s) r w → StepCut limits s (step_of r) (step_of w)
+        by _ _ (same r less) = same_step (step_of r) less.so
+        by _ _ (limit e w is) = limit_step e.0 e.1 (step_of w) is
+
+-- ---- each step takes a byte
+
+leaves-less : (n : ℕ) (o : Step State) (after : State) → LeavesLess n o → Leaves o after → size after < n
 leaves-less n _ _ less (behind_item item after) = less
 leaves-less n _ _ less (behind_nothing after) = less
 
+cut-falls : (limits : Limits) (s after : State) (o w : Step State) → StepCut limits s o w → Leaves o after → size after < size s
+cut-falls limits s after _ _ (same_step o less) leaves = leaves-less (size s) o after less leaves
+cut-falls limits s after _ _ (limit_step why place w passes) leaves = elim leaves [ ]
+
 pub each_step_falls : (limits : Limits) → Shrinks (step limits) size
-each_step_falls limits s after leaves = leaves-less (size s) (step limits s) after (step-less limits s) leaves
+each_step_falls limits s after leaves =
+    cut-falls limits s after (step limits s) (step limits s) (step-Cut limits limits (record { depth = omega arith; scalar = omega arith }) s) leaves

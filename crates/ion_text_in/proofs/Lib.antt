@@ -7,27 +7,20 @@ mod WentWell
 mod TokenLimits
 mod Tokens
 mod Advancing
-mod Allowing
 mod Complete
 mod ReadWithin
 mod TokenCuts
-mod Counting
 mod One
-mod Going
 mod Meaning
-mod Texts
 mod Blobs
 mod Strings
 mod DecodedBytes
 mod DigitNumbers
 mod LobBytes
 mod RawTokens
-mod RawStreams
 mod ValuesWithin
 mod Narrow
 mod Refused
-mod TokenFaults
-mod ExactLimits
 pub mod Behind
 pub mod NumberEnds
 pub mod TokenBegins

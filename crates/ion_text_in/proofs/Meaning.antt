@@ -1,6 +1,6 @@
--- The texts of scalars that are runs or words are tokens that mean them.
+-- The texts of scalars that are runs or words are tokens that mean them, where something ends them.
 use Rattle.std.proofs.Common.{◌≡◌, ℕ, zero, suc, ◌+◌, ◌/◌, ◌%◌, ◌^◌, ◌<◌, ◌≤◌, inl, inr, ℤ, pos, negsuc, Bool, true, false, ◌&&◌, ◌||◌, ◌==◌, nat_lt, if◌then◌else◌, List, [], ◌∷◌, ◌++◌, length, drop, map, codes, decimal, Option, Some, None, Result, Ok, refl, sym, ap, subst, ◌∙◌, append-nil, arith, is_none, not}
-use Rattle.std.proofs.lemmas.Bool.{cases_Bool, le-ltb, lt-ltb, and_from, and_parts, or_parts, eqb-true, false≢true}
+use Rattle.std.proofs.lemmas.Bool.{cases_Bool, le-ltb, lt-ltb, and_from, and_parts, eqb-true, false≢true, not-true}
 use Rattle.std.proofs.lemmas.Bool.Decides.{nat_tests}
 use Rattle.std.proofs.lemmas.Int.{ints}
 use Rattle.std.proofs.Math.Nat.{div-le_self}
@@ -36,8 +36,10 @@ use Rattle.ion_text_in.specs.Places.{run_of}
 use Rattle.ion_text_in.specs.Blanks.{is_white}
 use Rattle.ion_text_in.specs.Token as tokens
 use Rattle.ion_text_in.specs.Token.{First, a_run, a_word, first_at, begins_run, in_run, in_word, bytes_of, with_type, word_of, word_token, counted, run_token, Token, plain, token_of}
-use Rattle.ion_text_in.specs.Meaning.{Limit, Allows, at}
-use Rattle.ion_text_in.proofs.Going.{MeansIf, behind_null, NullIf, BoolIf, PlainSymbolIf, IdWordIf, IdIf, IntIf, DecimalIf, TimestampIf}
+use Rattle.ion_text_in.specs.Beginnings.{EndsIdentifier, EndsNumber}
+use Rattle.ion_text_in.specs.Meaning.{Limit, Allows, at, Means, EndsNull, NullTextIsRead, BoolTextIsRead, PlainSymbolIsRead, IdWordIsRead, IdIsRead, IntTextIsRead, DecimalTextIsRead, TimestampTextIsRead}
+use Rattle.ion_text_in.proofs.NumberEnds.{numbers-end}
+use Rattle.ion_text_in.proofs.TokenBegins.{ends-from, no-first}
 
 -- ---- limits and cursors
 
@@ -75,12 +77,14 @@ unfolding run_of
 run-none test [] e = refl
 run-none test (b ∷ bytes) e = rw (run_of, e) refl
 
-run-all : (text rest : List ℕ) → all_are is_run_byte text ≡ true → in_run rest ≡ false → run_of in_run (text ++ rest) ≡ (text, rest)
-run-all [] rest all ends = run-none in_run rest ends
-run-all (b ∷ text) rest all ends =
-    let parts = and_parts (is_run_byte b) (all_are is_run_byte text) all in
-    run-more in_run b (text ++ rest) (run-byte b (text ++ rest) parts.0)
-    ∙ ap (λ (z : List ℕ × List ℕ). (b ∷ z.0, z.1)) (run-all text rest parts.1 ends)
+-- bytes each of which goes on
+run-all : (one : ℕ → Bool) (test : List ℕ → Bool) → ((b : ℕ) (bytes : List ℕ) → one b ≡ true → test (b ∷ bytes) ≡ true) → (text rest : List ℕ) → all_are one text ≡ true → test rest ≡ false
+    → run_of test (text ++ rest) ≡ (text, rest)
+run-all one test goes_on [] rest all ends = run-none test rest ends
+run-all one test goes_on (b ∷ text) rest all ends =
+    let parts = and_parts (one b) (all_are one text) all in
+    run-more test b (text ++ rest) (goes_on b (text ++ rest) parts.0)
+    ∙ ap (λ (z : List ℕ × List ℕ). (b ∷ z.0, z.1)) (run-all one test goes_on text rest parts.1 ends)
 
 -- a text that begins as a run does, and all of whose bytes go on with it
 pub record IsRun (text : List ℕ) : Type 0 where
@@ -106,7 +110,7 @@ first-run sexp b xs e = rw (begins-no_word b xs e, e) refl
 
 run-bytes : (text rest : List ℕ) → IsRun text → in_run rest ≡ false → bytes_of in_run (text ++ rest) ≡ text
 run-bytes text rest run ends =
-    let e : bytes_of in_run ((run.first ∷ run.others) ++ rest) ≡ run.first ∷ run.others = rw (run-all run.others rest run.goes_on ends) refl in
+    let e : bytes_of in_run ((run.first ∷ run.others) ++ rest) ≡ run.first ∷ run.others = rw (run-all is_run_byte in_run run-byte run.others rest run.goes_on ends) refl in
     subst (λ (xs : List ℕ). bytes_of in_run (xs ++ rest) ≡ xs) (sym run.text_is) e
 
 run-first : (sexp : Bool) (text rest : List ℕ) → IsRun text → first_at sexp (text ++ rest) ≡ a_run
@@ -117,16 +121,16 @@ run-first sexp text rest run =
 abbrev token_behind : Token → Cursor → Result (Token × Cursor) Reason
 token_behind t c = Ok (t, c)
 
-counted-run : (limit : Limit) (place : ℕ) (text bytes rest : List ℕ) (v : Scalar SymbolAt) → bytes ≡ text → passes limit (length text) ≡ false → scalar_of_run text ≡ Ok v
-    → (counted limit bytes (at place (text ++ rest)) >>= (λ r. run_token r.0 >>= (λ t. token_behind t r.1))) ≡ Ok (plain v, at (place + length text) rest)
-counted-run limit place text bytes rest v is fits means =
-    rw (is, fits, means, skip-prefix place text rest) refl
+counted-means : (limit : Limit) (place : ℕ) (text bytes rest : List ℕ) (means : List ℕ → Result Token Reason) (t : Token) → bytes ≡ text → passes limit (length text) ≡ false → means text ≡ Ok t
+    → (counted limit bytes (at place (text ++ rest)) >>= (λ r. means r.0 >>= (λ t. token_behind t r.1))) ≡ Ok (t, at (place + length text) rest)
+counted-means limit place text bytes rest means t is fits e = rw (is, fits, e, skip-prefix place text rest) refl
 
-pub run-means : (text : List ℕ) (v : Scalar SymbolAt) → IsRun text → scalar_of_run text ≡ Ok v → MeansIf (length text) in_run text (plain v)
+pub run-means : (text : List ℕ) (v : Scalar SymbolAt) → IsRun text → scalar_of_run text ≡ Ok v → Means (length text) EndsNumber text (plain v)
 unfolding token_of
 run-means text v run means limit sexp place rest allows ends =
     ap (λ (f : First). token_of limit f (at place (text ++ rest))) (run-first sexp text rest run)
-    ∙ counted-run limit place text (bytes_of in_run (text ++ rest)) rest v (run-bytes text rest run ends) (allowed limit (length text) allows) means
+    ∙ counted-means limit place text (bytes_of in_run (text ++ rest)) rest run_token (plain v) (run-bytes text rest run ((numbers-end rest).1 ends)) (allowed limit (length text) allows)
+    (ap (λ (o : Result (Scalar SymbolAt) Reason). o >>= (λ v. Ok (plain v))) means)
 
 -- ---- digits and what stands between them
 
@@ -180,7 +184,7 @@ scalar-int run i e = ap (λ o. scalar_of_readings {S = SymbolAt} o (decimal_of_t
 decimal-runs : (n : ℕ) (text : List ℕ) → n < 10 ^ 64 → all_are is_run_byte text ≡ true → Runs (decimal n ++ text)
 decimal-runs n text small behind = let w = spells n small in digits-behind (decimal n) text w.some w.digits behind
 
-pub int-means : IntIf
+pub int-means : IntTextIsRead
 int-means i valid =
     let runs = subst Runs (append-nil (decimal i.magnitude)) (decimal-runs i.magnitude [] (omega (arith, valid.fits)) refl) in
     run-means (int_text i) (int i) (sign-run i.negative (decimal i.magnitude) runs) (scalar-int (int_text i) i (int_text-is_read i valid))
@@ -213,7 +217,7 @@ magnitude-runs n (negsuc e) small within = elim (cases_Bool (nat_lt e most_place
   | inr many ↦ rw many (decimal-runs n (100 ∷ integer_text (negsuc e)) small (exponent-bytes (negsuc e) within))
 ]
 
-pub decimal-means : DecimalIf
+pub decimal-means : DecimalTextIsRead
 decimal-means d valid =
     run-means (decimal_text d) (value.decimal d)
     (sign-run d.negative (magnitude_text d.coefficient d.exponent) (magnitude-runs d.coefficient d.exponent (omega (arith, valid.coefficient)) valid.exponent))
@@ -279,28 +283,24 @@ timestamp-runs : (t : Timestamp) → Runs (timestamp_text t)
 unfolding timestamp_text
 timestamp-runs t = text-runs t.precision t
 
-pub timestamp-means : TimestampIf
+pub timestamp-means : TimestampTextIsRead
 timestamp-means t valid =
     run-means (timestamp_text t) (timestamp t) (run-of_digits (timestamp_text t) (timestamp-runs t)) (scalar-timestamp (timestamp_text t) t (text-read t valid))
 
 -- ---- words
 
-word-means : (goes_on : List ℕ → Bool) (text : List ℕ) (t : Token) → ((rest : List ℕ) → goes_on rest ≡ false → word_of (text ++ rest) ≡ text)
-    → ((sexp : Bool) (rest : List ℕ) → first_at sexp (text ++ rest) ≡ a_word) → word_token text ≡ Ok t → MeansIf (length text) goes_on text t
+word-ends : (rest : List ℕ) → EndsIdentifier rest → in_word rest ≡ false
+word-ends rest ends = not-true (first_is is_identifier_byte rest) (ends-from ends)
+
+word-means : (Ends : List ℕ → Type 0) (text : List ℕ) (t : Token) → ((rest : List ℕ) → Ends rest → word_of (text ++ rest) ≡ text)
+    → ((sexp : Bool) (rest : List ℕ) → first_at sexp (text ++ rest) ≡ a_word) → word_token text ≡ Ok t → Means (length text) Ends text t
 unfolding token_of
-word-means goes_on text t word first means limit sexp place rest allows ends =
+word-means Ends text t word first means limit sexp place rest allows ends =
     ap (λ (f : First). token_of limit f (at place (text ++ rest))) (first sexp rest)
-    ∙ counted-word limit place text (word_of (text ++ rest)) rest t (word rest ends) (allowed limit (length text) allows) means
-  where
-    counted-word : (limit : Limit) (place : ℕ) (text bytes rest : List ℕ) (t : Token) → bytes ≡ text → passes limit (length text) ≡ false → word_token text ≡ Ok t
-        → (counted limit bytes (at place (text ++ rest)) >>= (λ w. word_token w.0 >>= (λ t. token_behind t w.1))) ≡ Ok (t, at (place + length text) rest)
-    counted-word limit place text bytes rest t is fits means = rw (is, fits, means, skip-prefix place text rest) refl
+    ∙ counted-means limit place text (word_of (text ++ rest)) rest word_token t (word rest ends) (allowed limit (length text) allows) means
 
 word-all : (text rest : List ℕ) → all_are is_identifier_byte text ≡ true → in_word rest ≡ false → run_of in_word (text ++ rest) ≡ (text, rest)
-word-all [] rest all ends = run-none in_word rest ends
-word-all (b ∷ text) rest all ends =
-    let parts = and_parts (is_identifier_byte b) (all_are is_identifier_byte text) all in
-    run-more in_word b (text ++ rest) parts.0 ∙ ap (λ (z : List ℕ × List ℕ). (b ∷ z.0, z.1)) (word-all text rest parts.1 ends)
+word-all text rest all ends = run-all is_identifier_byte in_word (λ b bytes e. e) text rest all ends
 
 -- a word that is not `null`, or has no point behind it
 whole-word : (b : ℕ) (text rest : List ℕ) → all_are is_identifier_byte text ≡ true → in_word rest ≡ false
@@ -309,9 +309,9 @@ whole-word b text rest all ends alone =
     ap (λ (z : List ℕ × List ℕ). with_type (b ∷ z.0) z.1) (word-all text rest all ends)
     ∙ ap (λ (typed : Bool). if typed then (b ∷ text) ++ 46 ∷ (run_of in_word (drop 1 rest)).0 else b ∷ text) alone
 
-bool-word : (truth : Bool) (rest : List ℕ) → in_word rest ≡ false → word_of (bool_text truth ++ rest) ≡ bool_text truth
-bool-word true rest ends = whole-word 116 (codes "rue") rest refl ends refl
-bool-word false rest ends = whole-word 102 (codes "alse") rest refl ends refl
+bool-word : (truth : Bool) (rest : List ℕ) → EndsIdentifier rest → word_of (bool_text truth ++ rest) ≡ bool_text truth
+bool-word true rest ends = whole-word 116 (codes "rue") rest refl (word-ends rest ends) refl
+bool-word false rest ends = whole-word 102 (codes "alse") rest refl (word-ends rest ends) refl
 
 bool-first : (truth : Bool) (sexp : Bool) (rest : List ℕ) → first_at sexp (bool_text truth ++ rest) ≡ a_word
 unfolding first_at
@@ -323,8 +323,8 @@ unfolding word_token
 bool-token true = refl
 bool-token false = refl
 
-pub bool-means : BoolIf
-bool-means truth = word-means in_word (bool_text truth) (plain (value.bool truth)) (bool-word truth) (bool-first truth) (bool-token truth)
+pub bool-means : BoolTextIsRead
+bool-means truth = word-means EndsIdentifier (bool_text truth) (plain (value.bool truth)) (bool-word truth) (bool-first truth) (bool-token truth)
 
 -- `null`, a point and a type
 typed-word : (type rest : List ℕ) → all_are is_identifier_byte type ≡ true → in_word rest ≡ false → word_of (codes "null." ++ (type ++ rest)) ≡ codes "null." ++ type
@@ -332,55 +332,22 @@ typed-word type rest all ends =
     ap (λ (z : List ℕ × List ℕ). with_type (110 ∷ z.0) z.1) (word-all (codes "ull") (46 ∷ (type ++ rest)) refl refl)
     ∙ ap (λ (z : List ℕ × List ℕ). codes "null." ++ z.0) (word-all type rest all ends)
 
-null-word : (t : IonType) (rest : List ℕ) → behind_null t rest ≡ false → word_of (null_text t ++ rest) ≡ null_text t
-null-word type.Null rest ends = let parts = or_parts (in_word rest) (first_is (λ b. b == 46) rest) ends in whole-word 110 (codes "ull") rest refl parts.0 parts.1
-null-word type.Bool rest ends = typed-word (codes "bool") rest refl ends
-null-word type.Int rest ends = typed-word (codes "int") rest refl ends
-null-word type.Float rest ends = typed-word (codes "float") rest refl ends
-null-word type.Decimal rest ends = typed-word (codes "decimal") rest refl ends
-null-word type.Timestamp rest ends = typed-word (codes "timestamp") rest refl ends
-null-word type.Symbol rest ends = typed-word (codes "symbol") rest refl ends
-null-word type.String rest ends = typed-word (codes "string") rest refl ends
-null-word type.Clob rest ends = typed-word (codes "clob") rest refl ends
-null-word type.Blob rest ends = typed-word (codes "blob") rest refl ends
-null-word type.List rest ends = typed-word (codes "list") rest refl ends
-null-word type.Sexp rest ends = typed-word (codes "sexp") rest refl ends
-null-word type.Struct rest ends = typed-word (codes "struct") rest refl ends
+null-word : (t : IonType) (rest : List ℕ) → EndsNull t rest → word_of (null_text t ++ rest) ≡ null_text t
+null-word type.Null rest ends = whole-word 110 (codes "ull") rest refl (word-ends rest ends.0) (no-first 46 rest ends.1)
+null-word t rest ends = typed-word (drop 5 (null_text t)) rest refl (word-ends rest ends)
 
 null-first : (t : IonType) (sexp : Bool) (rest : List ℕ) → first_at sexp (null_text t ++ rest) ≡ a_word
 unfolding first_at
 null-first type.Null sexp rest = refl
-null-first type.Bool sexp rest = refl
-null-first type.Int sexp rest = refl
-null-first type.Float sexp rest = refl
-null-first type.Decimal sexp rest = refl
-null-first type.Timestamp sexp rest = refl
-null-first type.Symbol sexp rest = refl
-null-first type.String sexp rest = refl
-null-first type.Clob sexp rest = refl
-null-first type.Blob sexp rest = refl
-null-first type.List sexp rest = refl
-null-first type.Sexp sexp rest = refl
-null-first type.Struct sexp rest = refl
+null-first t sexp rest = refl
 
 null-token : (t : IonType) → word_token (null_text t) ≡ Ok (plain (value.null t))
 unfolding word_token
 null-token type.Null = refl
-null-token type.Bool = refl
-null-token type.Int = refl
-null-token type.Float = refl
-null-token type.Decimal = refl
-null-token type.Timestamp = refl
-null-token type.Symbol = refl
-null-token type.String = refl
-null-token type.Clob = refl
-null-token type.Blob = refl
-null-token type.List = refl
-null-token type.Sexp = refl
-null-token type.Struct = refl
+null-token t = refl
 
-pub null-means : NullIf
-null-means t = word-means (behind_null t) (null_text t) (plain (value.null t)) (null-word t) (null-first t) (null-token t)
+pub null-means : NullTextIsRead
+null-means t = word-means (EndsNull t) (null_text t) (plain (value.null t)) (null-word t) (null-first t) (null-token t)
 
 -- ---- symbols without quotes
 
@@ -406,7 +373,7 @@ symbol-token : (word : List ℕ) (id : Bool) → keyword word ≡ None → is_id
 unfolding word_token
 symbol-token word id none is = ap (λ k. tokens.by_keyword k word) none ∙ ap (λ (id : Bool). named (if id then value.Id (id_of word) else value.Text word)) is
 
-pub plain-symbol-means : PlainSymbolIf
+pub plain-symbol-means : PlainSymbolIsRead
 unfolding first_at
 plain-symbol-means [] is = absurd (false≢true is)
 plain-symbol-means (b ∷ word) is =
@@ -416,8 +383,8 @@ plain-symbol-means (b ∷ word) is =
     let bytes = and_parts (is_identifier_start b) (all_are is_identifier_byte (b ∷ word)) one.0 in
     let others = and_parts (is_identifier_byte b) (all_are is_identifier_byte word) bytes.1 in
     let no_null : bytes_eq (codes "null") (b ∷ word) ≡ false = no-null (b ∷ word) one.1 in
-    word-means in_word (b ∷ word) (tokens.name false (value.Text (b ∷ word)))
-    (λ rest ends. whole-word b word rest others.1 ends (ap (λ (n : Bool). n && first_is (λ b. b == 46) rest) no_null))
+    word-means EndsIdentifier (b ∷ word) (tokens.name false (value.Text (b ∷ word)))
+    (λ rest ends. whole-word b word rest others.1 (word-ends rest ends) (ap (λ (n : Bool). n && first_is (λ b. b == 46) rest) no_null))
     (λ sexp rest. begins sexp (word ++ rest) bytes.0)
     (symbol-token (b ∷ word) false (none-is (keyword (b ∷ word)) one.1) (not-id (is_id (b ∷ word)) two.1))
   where
@@ -433,25 +400,25 @@ digits-identifier (d ∷ digits) e =
     let first : is_identifier_byte d ≡ true = grind (arith, nat_tests) in
     and_from (is_identifier_byte d) (all_are is_identifier_byte digits) first (digits-identifier digits parts.1)
 
-pub id_word-means : IdWordIf
+pub id_word-means : IdWordIsRead
 unfolding first_at
 id_word-means [] is = absurd (false≢true is)
 id_word-means (b ∷ word) is =
     let two = and_parts (first_is (λ b. b == 36) (b ∷ word) && nat_lt 1 (length (b ∷ word))) (all_are is_digit word) is in
     let dollar : b ≡ 36 = eqb-true b 36 (and_parts (b == 36) (nat_lt 1 (length (b ∷ word))) two.0).0 in
-    subst (λ (b : ℕ). MeansIf (length (b ∷ word)) in_word (b ∷ word) (tokens.name false (value.Id (id_of (b ∷ word))))) (sym dollar)
-    (word-means in_word (36 ∷ word) (tokens.name false (value.Id (id_of (36 ∷ word))))
-    (λ rest ends. whole-word 36 word rest (digits-identifier word two.1) ends refl) (λ sexp rest. refl)
+    subst (λ (b : ℕ). Means (length (b ∷ word)) EndsIdentifier (b ∷ word) (tokens.name false (value.Id (id_of (b ∷ word))))) (sym dollar)
+    (word-means EndsIdentifier (36 ∷ word) (tokens.name false (value.Id (id_of (36 ∷ word))))
+    (λ rest ends. whole-word 36 word rest (digits-identifier word two.1) (word-ends rest ends) refl) (λ sexp rest. refl)
     (symbol-token (36 ∷ word) true refl (subst (λ (b : ℕ). is_id (b ∷ word) ≡ true) dollar is)))
 
 id-digits : (ds : List ℕ) → 0 < length ds → all_are is_digit ds ≡ true → is_id (36 ∷ ds) ≡ true
 id-digits ds some digits = and_from (nat_lt 1 (length (36 ∷ ds))) (all_are is_digit ds) (lt-ltb 1 (length (36 ∷ ds)) (omega (arith, some))) digits
 
-pub id-means : IdIf
+pub id-means : IdIsRead
 id-means id most =
     let w = spells id (omega (arith, most)) in
     let value_is : number 10 (map digit_value (decimal id)) ≡ id
     = ap (λ (ds : List ℕ). number 10 (map digit_value ds)) (sym (all-filter (decimal id) w.digits)) ∙ sym (all-value (decimal id) w.digits) ∙ w.value in
     let id_is : id_of (36 ∷ decimal id) ≡ id = ap raw_id value_is ∙ omega (arith, most) in
-    subst (λ (n : ℕ). MeansIf (length (36 ∷ decimal id)) in_word (36 ∷ decimal id) (tokens.name false (value.Id n))) id_is
+    subst (λ (n : ℕ). Means (length (36 ∷ decimal id)) EndsIdentifier (36 ∷ decimal id) (tokens.name false (value.Id n))) id_is
     (id_word-means (36 ∷ decimal id) (id-digits (decimal id) w.some w.digits))

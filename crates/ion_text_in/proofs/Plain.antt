@@ -1,6 +1,6 @@
 -- A run of plain bytes in a text is a run of pieces.
-use Rattle.std.proofs.Common.{◌≡◌, ℕ, suc, ◌+◌, ◌≤◌, inl, inr, Bool, true, false, not, ◌&&◌, ◌||◌, ◌==◌, nat_le, nat_lt, if◌then◌else◌, List, [], ◌∷◌, ◌++◌, length, Option, Some, None, Ok, Err, refl, sym, ap, ◌∙◌, arith}
-use Rattle.std.proofs.lemmas.Bool.{cases_Bool, and_parts, not-true, eqb-true, ltb-false, le-ltb, false≢true}
+use Rattle.std.proofs.Common.{◌≡◌, ℕ, suc, ◌+◌, inl, inr, Bool, true, false, not, ◌&&◌, ◌||◌, ◌==◌, nat_le, nat_lt, if◌then◌else◌, List, [], ◌∷◌, ◌++◌, length, Option, Ok, Err, refl, sym, ap, ◌∙◌, arith}
+use Rattle.std.proofs.lemmas.Bool.{cases_Bool, and_parts, not-true, eqb-true, false≢true}
 use Rattle.std.proofs.lemmas.Bool.Decides.{nat_tests}
 use Rattle.ion_meter.specs.declared.fault.Reason.TheVariants.{ScalarLimit}
 use Rattle.ion_value.specs.Digits.{all_are}
@@ -12,6 +12,7 @@ use Rattle.ion_text_in.specs.Quoted.{Quote, Piece, char, is_raw, piece_at, with_
 use Rattle.ion_text_in.specs.Meaning.{at}
 use Rattle.ion_text_in.specs.Scanning.{Spelled, IsQuote, pieces, may_close, is_plain_byte, with_front, PlainBytesAreSpelled}
 use Rattle.ion_text_in.proofs.Fuel.{pieces-first}
+use Rattle.ion_text_in.proofs.TokenCuts.{passes-fewer}
 
 -- ---- one byte
 
@@ -66,11 +67,6 @@ plain-first : (q : Quote) (limit : Option ℕ) (count place b : ℕ) (rest : Lis
 plain-first q limit count place b rest is plain =
     pieces-first q limit count (at place (b ∷ rest)) is
     ∙ ap (λ (piece : Piece). with_piece (λ n d. pieces q limit n d) q limit count (at place (b ∷ rest)) piece) (plain-piece q b rest plain)
-
--- of fewer bytes no limit is passed that more do not pass
-pub passes-fewer : (limit : Option ℕ) (n m : ℕ) → n ≤ m → passes limit m ≡ false → passes limit n ≡ false
-passes-fewer None n m le e = refl
-passes-fewer (Some limit) n m le e = le-ltb limit n (let most = ltb-false limit m e in omega (arith, le, most))
 
 front-nothing : (o : Spelled) → o ≡ with_front [] o
 front-nothing (Ok x) = refl

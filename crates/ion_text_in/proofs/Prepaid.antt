@@ -7,15 +7,9 @@ use Rattle.ion_text_in.specs.Symbols.{prepaid_word}
 -- for a word its text at most
 pub prepaid_word-most : (text : List ℕ) (w : Word) → prepaid_word text w ≤ length text
 prepaid_word-most text (word.Null type) = omega arith
-prepaid_word-most text (word.Bool truth) = omega arith
-prepaid_word-most text word.NoNumber = omega arith
-prepaid_word-most text (word.Id id) = omega arith
-prepaid_word-most text word.Name = omega arith
+prepaid_word-most text w = omega arith
 
 -- nothing for one that is no name
 pub prepaid_word-none : (text : List ℕ) (w : Word) → (w ≡ word.Name → ⊥) → prepaid_word text w ≡ 0
-prepaid_word-none text (word.Null type) other = refl
-prepaid_word-none text (word.Bool truth) other = refl
-prepaid_word-none text word.NoNumber other = refl
-prepaid_word-none text (word.Id id) other = refl
 prepaid_word-none text word.Name other = absurd (other refl)
+prepaid_word-none text w other = refl

@@ -1,5 +1,5 @@
 -- What each token means is raw: numbers in range, texts in UTF-8, lobs of bytes.
-use Rattle.std.proofs.Common.{◌≡◌, ◌⊎◌, inl, inr, ℕ, zero, suc, ◌^◌, ◌<◌, ℤ, pos, ◌-ℤ◌, filter, Bool, true, false, not, ◌&&◌, ◌||◌, ◌==◌, nat_lt, if◌then◌else◌, List, [], ◌∷◌, ◌++◌, length, drop, slice_index, codes, Option, None, Some, Result, Ok, Err, IsUtf8, IsTrue, refl, sym, arith}
+use Rattle.std.proofs.Common.{◌≡◌, ◌⊎◌, inl, inr, ℕ, zero, suc, ◌^◌, ◌<◌, ℤ, pos, ◌-ℤ◌, filter, Bool, true, false, not, ◌&&◌, ◌||◌, ◌==◌, nat_lt, if◌then◌else◌, List, [], ◌∷◌, ◌++◌, length, drop, slice_index, codes, Option, None, Some, Result, Ok, Err, IsUtf8, refl, sym, arith}
 use Rattle.std.specs.List.{AllByRecursion}
 use Rattle.std.specs.Result.{IfOk}
 use Rattle.std.specs.Str.{is_utf8, bytes_eq}
@@ -30,26 +30,22 @@ use Rattle.ion_text_in.specs.Lob.{lob_at}
 use Rattle.ion_text_in.specs.Meaning.{IsRawScalar, IsRawToken, TokensAreRaw}
 use Rattle.ion_text_in.specs.Places.{run_of}
 use Rattle.ion_text_in.specs.Quoted.{Quote, symbol_quote, short_quote, long_quote, pieces_for, segment_at, text_at}
-use Rattle.ion_text_in.specs.Token.{First, a_run, a_word, a_quoted, a_short, a_long, a_lob, an_operator, an_infinity, a_begin, an_end, a_comma, a_colon, two_colons, no_token, first_at, Token, name, counted, bytes_of, in_run, in_word, in_operator, with_type, word_of, word_token, run_token, by_keyword, token_of}
-use Rattle.ion_text_in.proofs.LobBytes.{Joins, text-is, lob-raw}
+use Rattle.ion_text_in.specs.Token.{First, a_run, a_word, a_quoted, a_short, a_long, a_lob, an_operator, an_infinity, first_at, Token, name, counted, bytes_of, in_run, in_word, in_operator, with_type, word_of, word_token, run_token, by_keyword, token_of}
+use Rattle.ion_text_in.proofs.LobBytes.{all-append, lob-raw}
 use Rattle.ion_text_in.proofs.NumberEnds.{one_of-from}
+use Rattle.ion_text_in.proofs.Shrinking.{Any, SizedAt, Sized, any-pieces, text-sized}
 use Rattle.ion_text_in.proofs.TokenBegins.{what-begins}
 use Rattle.ion_text_in.proofs.Tokens.{tok-stands}
-use Rattle.ion_text_in.proofs.WentWell.{if-then, if-passed, if-either}
+use Rattle.ion_text_in.proofs.WentWell.{if-any, if-then, if-passed, if-either, if-more}
 
 -- ---- runs
 
 int_in_range-valid : (negative : Bool) (n : ℕ) → IfOk (int_in_range negative n) IsInt
 int_in_range-valid negative n = by (nat_lt n (2 ^ 128)) refl
   where
-    sign : (m : Bool) (k : ℕ) → IsTrue (m && nat_lt 0 k) → 0 < k
-    sign true zero h = absurd (cc h)
-    sign true (suc k) h = omega arith
-    sign false k h = absurd (false≢true h)
-
     by : (b : Bool) → nat_lt n (2 ^ 128) ≡ b
         → IfOk (if b then Ok (record { negative = negative && nat_lt 0 n; magnitude = n }) else Err Range) IsInt
-    by true e = record { positive_zero = λ h. sign negative n h; fits = ltb-true n (2 ^ 128) e }
+    by true e = record { positive_zero = λ h. ltb-true 0 n (and_parts negative (nat_lt 0 n) h).1; fits = ltb-true n (2 ^ 128) e }
     by false e = tt
 
 int-valid : (run : List ℕ) → IfOk (int_of_text run) IsInt
@@ -83,9 +79,7 @@ readings-raw : (i : Result Int Reason) (d : Result Decimal Reason) (t : Result T
 readings-raw (Ok i) d t h k l = record { in_range = h; text = tt; bytes = tt; no_symbol = refl }
 readings-raw (Err BadToken) (Ok d) t h k l = record { in_range = k; text = tt; bytes = tt; no_symbol = refl }
 readings-raw (Err BadToken) (Err BadToken) (Ok t) h k l = record { in_range = l; text = tt; bytes = tt; no_symbol = refl }
-readings-raw (Err BadToken) (Err BadToken) (Err reason) h k l = tt
-readings-raw (Err BadToken) (Err reason) t h k l = tt
-readings-raw (Err reason) d t h k l = tt
+readings-raw i d t h k l = tt
 
 run-raw : (run : List ℕ) → IfOk (run_token run) IsRawToken
 unfolding scalar_of_run
@@ -98,10 +92,6 @@ run-raw run =
 
 abbrev Ascii : List ℕ → Type 0
 Ascii bytes = AllByRecursion (λ b. b < 128) bytes
-
-ascii-joins : Joins Ascii
-ascii-joins [] ys h k = k
-ascii-joins (x ∷ xs) ys h k = (h.0, ascii-joins xs ys h.1 k)
 
 ascii-utf8 : (bytes : List ℕ) → Ascii bytes → IsUtf8 bytes
 ascii-utf8 bytes h = IsUtf8-from_ascii bytes (λ i. at bytes i h)
@@ -152,7 +142,7 @@ typed-ascii : (word behind : List ℕ) → Ascii word → Ascii (with_type word 
 typed-ascii word behind h = by (bytes_eq (codes "null") word && first_is (λ b. b == 46) behind)
   where
     by : (b : Bool) → Ascii (if b then word ++ 46 ∷ (run_of in_word (drop 1 behind)).0 else word)
-    by true = ascii-joins word (46 ∷ (run_of in_word (drop 1 behind)).0) h (omega arith, run-ascii in_word word-small (drop 1 behind))
+    by true = all-append (λ b. b < 128) word (46 ∷ (run_of in_word (drop 1 behind)).0) h (omega arith, run-ascii in_word word-small (drop 1 behind))
     by false = h
 
 word-ascii : (rest : List ℕ) → FirstSmall rest → Ascii (word_of rest)
@@ -184,20 +174,16 @@ or-second : (x y : Bool) → x ≡ false → not (x || y) ≡ false → y ≡ tr
 or-second false y e f = not-false y f
 or-second true y e f = absurd (false≢true (sym e))
 
-segment-utf8 : (q : Quote) (limit : Option ℕ) → q.in_clob ≡ false → (count : ℕ) (c : Cursor)
-    → IfOk (segment_at q limit count c) (λ s. IsUtf8 s.0)
+segment-utf8 : (q : Quote) (limit : Option ℕ) → q.in_clob ≡ false → (count : ℕ) (c : Cursor) → Sized IsUtf8 c (segment_at q limit count c)
 unfolding segment_at
 segment-utf8 q limit no_clob count c =
-    if-then (λ s. Unit {0}) _ (pieces_for (suc (length c.rest)) q limit count c) _ (any (pieces_for (suc (length c.rest)) q limit count c))
-    (λ s h. if-passed (λ (s : List ℕ × Cursor). IsUtf8 s.0) (not (q.in_clob || is_utf8 s.0)) BadText (Ok s)
-    (λ e. IsUtf8-from_is_utf8 s.0 (or-second q.in_clob (is_utf8 s.0) no_clob e)))
-  where
-    any : (o : Result (List ℕ × Cursor) Reason) → IfOk o (λ s. Unit {0})
-    any (Ok s) = tt
-    any (Err reason) = tt
+    if-then (SizedAt Any c) _ (pieces_for (suc (length c.rest)) q limit count c) _ (any-pieces q limit count c)
+    (λ s h. if-passed (SizedAt IsUtf8 c) (not (q.in_clob || is_utf8 s.0)) BadText (Ok s)
+    (λ e. (h.0, IsUtf8-from_is_utf8 s.0 (or-second q.in_clob (is_utf8 s.0) no_clob e))))
 
 text-utf8 : (q : Quote) (limit : Option ℕ) (c : Cursor) → q.in_clob ≡ false → IfOk (text_at q limit c) (λ t. IsUtf8 t.0)
-text-utf8 q limit c no_clob = text-is IsUtf8 IsUtf8-append q limit (segment-utf8 q limit no_clob) c
+text-utf8 q limit c no_clob =
+    if-more (SizedAt IsUtf8 c) _ (text_at q limit c) (text-sized IsUtf8 (record { none = ascii-utf8 [] tt; join = IsUtf8-append }) limit q (segment-utf8 q limit no_clob) c) (λ t h. h.1)
 
 -- ---- tokens
 
@@ -210,9 +196,7 @@ counted-is P limit bytes c h = if-passed _ (passes limit (length bytes)) ScalarL
 
 token-raw : (limit : Option ℕ) (f : First) (c : Cursor) → (f ≡ a_word ⊎ f ≡ an_operator → FirstSmall c.rest) → IfRaw (token_of limit f c)
 unfolding token_of
-token-raw limit a_run c small =
-    if-then (λ r. Unit {0}) _ (counted limit (bytes_of in_run c.rest) c) _ (counted-is (λ bytes. Unit {0}) limit (bytes_of in_run c.rest) c tt)
-    (λ r h. if-then IsRawToken _ (run_token r.0) _ (run-raw r.0) (λ t h. h))
+token-raw limit a_run c small = if-any _ (counted limit (bytes_of in_run c.rest) c) _ (λ r. if-then IsRawToken _ (run_token r.0) _ (run-raw r.0) (λ t h. h))
 token-raw limit a_word c small =
     if-then (λ r. Ascii r.0) _ (counted limit (word_of c.rest) c) _
     (counted-is Ascii limit (word_of c.rest) c (word-ascii c.rest (small (inl refl))))
@@ -229,12 +213,7 @@ token-raw limit an_operator c small =
     (counted-is Ascii limit (bytes_of in_operator c.rest) c (operator-ascii c.rest (small (inr refl))))
     (λ r h. ascii-utf8 r.0 h)
 token-raw limit an_infinity c small = if-passed _ (passes limit 4) ScalarLimit _ (λ _. tt)
-token-raw limit (a_begin k) c small = tt
-token-raw limit (an_end k) c small = tt
-token-raw limit a_comma c small = tt
-token-raw limit a_colon c small = tt
-token-raw limit two_colons c small = tt
-token-raw limit no_token c small = tt
+token-raw limit mark c small = tt
 
 first-small : (sexp : Bool) (rest : List ℕ) → first_at sexp rest ≡ a_word ⊎ first_at sexp rest ≡ an_operator → FirstSmall rest
 first-small sexp rest (inl e) = word-first sexp rest ((what-begins sexp rest a_word (λ no. absurd (cc no))).0 e)

@@ -1,5 +1,5 @@
 -- Where a stream is read to its end, the limits allow what stands in it: else the reading stops at the first that they do not allow.
-use Rattle.std.proofs.Common.{◌≡◌, ◌⊎◌, inl, inr, ℕ, suc, ◌<◌, arith, Bool, true, false, nat_le, nat_lt, sum_by, List, [], ◌∷◌, ◌++◌, length, Option, None, Some, Ok, Err, Result, if◌then◌else◌, refl, sym, ap, subst, ◌∙◌}
+use Rattle.std.proofs.Common.{◌≡◌, ◌⊎◌, inl, inr, ℕ, suc, arith, Bool, true, false, nat_le, nat_lt, sum_by, List, [], ◌∷◌, ◌++◌, length, Option, None, Some, Ok, Result, refl, sym, ap, subst, ◌∙◌}
 use Rattle.std.proofs.lemmas.Bool.{cases_lt, lt-ltb, lt-leb, le-leb}
 use Rattle.ion_meter.specs.declared.fault.Reason.{Reason}
 use Rattle.ion_meter.specs.declared.fault.Reason.TheVariants.{AnnotationLimit, DepthLimit, ScalarLimit}
@@ -7,7 +7,7 @@ use Rattle.ion_meter.specs.declared.limits.Limits.{Limits}
 use Rattle.ion_meter.specs.Sources.{Cursor}
 use Rattle.ion_value.specs.declared.ion_type.Kind.{Kind}
 use Rattle.ion_value.specs.Name.{version_word}
-use Rattle.ion_value.specs.Parts.{part, refuse, ◌>>=◌, ◌>>◌}
+use Rattle.ion_value.specs.Parts.{part, refuse, ◌>>◌}
 use Rattle.ion_value.specs.Path.{closed, path_items}
 use Rattle.ion_value.specs.Reading.{Finished, Stopped, behind, Step, Gives, GoesOn, Stops, next_reading, reading_by}
 use Rattle.ion_value.specs.ReadingLaws.{ending_of}
@@ -21,12 +21,11 @@ use Rattle.ion_text_in.specs.Positions.{Wants, a_value, a_field, State, innermos
 use Rattle.ion_text_in.specs.Reading as reading
 use Rattle.ion_text_in.specs.Reading.{at_member, cost, may_come, member_of, item_of, part_at, size, start, step, step_of, take, top_of}
 use Rattle.ion_text_in.specs.ReadWithin.{WhatIsReadIsWithin}
-use Rattle.ion_text_in.specs.Token.{First, Token, plain, name, text, operator, begin, colons, first_at, token_of}
+use Rattle.ion_text_in.specs.Token.{Token, plain, name, text, operator, begin, colons}
 use Rattle.ion_text_in.specs.Within.{TokenWithin, AnnotationsWithin, FieldWithin, TxtWithin, InsideWithin, TopsWithin}
 use Rattle.ion_text_in.proofs.Complete.{Reads, read_from, reading-read_from, reads-gives, annotations-read, field-read, members-read, mark-within, not-refused, tops-read}
 use Rattle.ion_text_in.proofs.Falling.{each_step_falls}
-use Rattle.ion_text_in.proofs.TokenLimits.{got, token-exact}
-use Rattle.ion_text_in.proofs.Tokens.{state, Suits, tok-stands, token-told, step-token, value-suits, naming-suits, colons-stand}
+use Rattle.ion_text_in.proofs.Tokens.{state, Suits, step-token, token-stops, value-suits, naming-suits, colons-stand}
 
 -- ---- a reading that stops
 
@@ -63,39 +62,6 @@ or-then (inr h) f = inr h
 or-later : {A : Type 0} (limits : Limits) (s t : State) (items : List PlacedItem) → Reads limits s items t → A ⊎ Halts limits t → A ⊎ Halts limits s
 or-later limits s t items read (inl a) = inl a
 or-later limits s t items read (inr h) = inr (halts-later limits s t items read h)
-
--- ---- a token
-
-module _ (limits : Limits) (kinds : List Kind) (top : ℕ) (wants : Wants) (c : Cursor) (t : Token) (d : Cursor) (suits : Suits wants t) (b : Cursor) where
-  rest-stops : (rest : List ℕ) → b.rest ≡ rest → token_of None (first_at (in_sexp (innermost kinds)) b.rest) b ≡ got t d
-      → token_of (Some limits.scalar) (first_at (in_sexp (innermost kinds)) b.rest) b ≡ Err ScalarLimit
-      → reading.part_behind limits (state kinds top wants c) b rest ≡ Err (ScalarLimit, b.place)
-  unfolding first_at token_of
-  rest-stops [] is free e =
-      let cut : token_of None (first_at (in_sexp (innermost kinds)) []) b ≡ got t d = subst (λ rest. token_of None (first_at (in_sexp (innermost kinds)) rest) b ≡ got t d) is free in
-      absurd (cc cut)
-  rest-stops (x ∷ rest) is free e =
-      let first : First = first_at (in_sexp (innermost kinds)) (x ∷ rest) in
-      let free' : token_of None first b ≡ got t d = subst (λ rest. token_of None (first_at (in_sexp (innermost kinds)) rest) b ≡ got t d) is free in
-      let e' : token_of (Some limits.scalar) first b ≡ Err ScalarLimit = subst (λ rest. token_of (Some limits.scalar) (first_at (in_sexp (innermost kinds)) rest) b ≡ Err ScalarLimit) is e in
-      let may : may_come wants first ≡ true = suits first (token-told None first b d t free') in
-      ap (λ m. reading.next_part limits (state kinds top wants c) b first m) may
-      ∙ ap (λ (o : Result (Token × Cursor) Reason). part b.place o >>= (λ t. take limits kinds top wants b.place t.0 t.1)) e'
-
--- a token that counts more than the limit is refused
-token-stops : (limits : Limits) (kinds : List Kind) (top : ℕ) (wants : Wants) (c : Cursor) (t : Token) (p : ℕ) (d : Cursor) → Suits wants t
-    → Tok (in_sexp (innermost kinds)) c t p d → limits.scalar < counts t p d.place → step limits (state kinds top wants c) ≡ Stops ScalarLimit p
-unfolding step part_at
-token-stops limits kinds top wants c t p d suits tok over =
-    let stands = tok-stands (in_sexp (innermost kinds)) c d t p tok in
-    let b : Cursor = stands.prefix in
-    let first : First = first_at (in_sexp (innermost kinds)) b.rest in
-    let long : nat_lt limits.scalar (counts t b.place d.place) ≡ true = lt-ltb limits.scalar (counts t b.place d.place) (subst (λ p. limits.scalar < counts t p d.place) (sym stands.place) over) in
-    let token : token_of (Some limits.scalar) first b ≡ Err ScalarLimit =
-    token-exact limits.scalar first b t d stands.token ∙ ap (λ (l : Bool). if l then Err ScalarLimit else got t d) long
-    in
-    ap step_of (ap (λ o. o >>= (λ b. reading.part_behind limits (state kinds top wants c) b b.rest)) stands.blank ∙ rest-stops limits kinds top wants c t d suits b b.rest refl stands.token token)
-    ∙ ap (λ p. Stops ScalarLimit p) stands.place
 
 token-or : (limits : Limits) (kinds : List Kind) (top : ℕ) (wants : Wants) (c : Cursor) (t : Token) (p : ℕ) (d : Cursor) → Suits wants t
     → Tok (in_sexp (innermost kinds)) c t p d → TokenWithin limits t p d ⊎ Halts limits (state kinds top wants c)

@@ -1,7 +1,7 @@
 -- A reading as text, in which worked rows show it: the items, and how they end. An item has its place, behind a slash that of
 -- its top-level value where this is another one, its field, its annotations and its head. A symbol has its place behind an `@`.
 -- A byte that is no printable character, a quote or a backslash is two hex digits behind a backslash.
-use Rattle.std.specs.Prelude.{codes, decimal, ℕ, ◌+◌, ◌/◌, ◌%◌, not, ◌&&◌, ◌==◌, nat_lt, if◌then◌else◌, List, [], ◌∷◌, ◌++◌, Option, Some, None}
+use Rattle.std.specs.Prelude.{◌≡◌, map, codes, decimal, ℕ, ◌+◌, ◌/◌, ◌%◌, not, ◌&&◌, ◌==◌, nat_lt, if◌then◌else◌, List, [], ◌∷◌, ◌++◌, Option, Some, None}
 use Rattle.std.specs.List.{flat_map}
 use Rattle.std.specs.Str.{is_utf8, chars}
 use Rattle.std.specs.Fmt.{digits}
@@ -90,9 +90,6 @@ reading_shown Finished = codes "done"
 reading_shown (Stopped reason place) = name_of reason ++ (codes " at " ++ decimal place)
 reading_shown (More item rest) = item_shown item ++ (codes "; " ++ reading_shown rest)
 
-abbrev pub shown : String → List ℕ
-shown text = codes text
-
 abbrev pub limits_of : ℕ → ℕ → Limits
 limits_of depth scalar =
     record { depth = depth; scalar = scalar; symbols = 1048576; value = 16777216; input = 281474976710656 }
@@ -103,5 +100,14 @@ unfolding encode_symbols groups_error scan_steps groups_bytes is_utf8 chars digi
 read_within depth scalar text =
     reading_shown (reading (limits_of depth scalar) (codes text))
 
-abbrev pub read : String → List ℕ
-read text = read_within 64 1048576 text
+-- ---- rows
+
+-- under these limits, by a name, a text, what is read of it, and what this is to be
+abbrev pub row_within : ℕ → ℕ → String → String → String → List ℕ × List ℕ
+row_within depth scalar name text shown = (read_within depth scalar text, codes shown)
+
+abbrev pub row : String → String → String → List ℕ × List ℕ
+row name text shown = row_within 64 1048576 name text shown
+
+abbrev pub AreRead : List (List ℕ × List ℕ) → Type 0
+AreRead rows = map (λ r. r.0) rows ≡ map (λ r. r.1) rows

@@ -1,20 +1,22 @@
--- What is read is a path of the bytes, and a stream where reading finishes.
-use Rattle.std.proofs.Common.{◌≡◌, ℕ, zero, suc, ◌<◌, Bool, false, List, [], ◌∷◌, ◌++◌, None, refl, sym, ap, subst, ◌∙◌, append_assoc, append-nil, arith}
-use Rattle.ion_meter.specs.declared.fault.Reason.{Reason}
+-- A reading goes along paths of the bytes to a step that ends or stops it, and so does another with it, whose limits are wider.
+-- So what is read is a path, and a stream where reading finishes.
+use Rattle.std.proofs.Common.{◌≡◌, ℕ, zero, suc, ◌<◌, Bool, false, List, [], ◌∷◌, ◌++◌, None, refl, sym, ap, subst, ◌∙◌, append-nil, arith}
 use Rattle.ion_meter.specs.declared.limits.Limits.{Limits}
 use Rattle.ion_value.specs.declared.ion_type.Kind.{Kind}
 use Rattle.ion_value.specs.Value.{SymbolAt, Top}
 use Rattle.ion_value.specs.Path.{Path, closed, path_items}
-use Rattle.ion_value.specs.Reading.{Reading, Finished, Stopped, items_of, Step, Ends, Stops, Gives, GoesOn, Leaves, behind_item, behind_nothing, next_reading, reading_for}
+use Rattle.ion_value.specs.Reading.{Reading, Finished, More, items_of, Step, Ends, Stops, Gives, GoesOn, next_reading, reading_by, behind}
 use Rattle.ion_meter.specs.Sources.{Cursor}
+use Rattle.ion_value.proofs.ReadingLaws.{ending_of-behind}
+use Rattle.ion_value.proofs.Readings.{behind-append, reading_by-step, reading_by-gives, reading_by-goes_on, items_of-behind}
 use Rattle.ion_text_in.specs.Positions.{Wants, a_value, State}
 use Rattle.ion_text_in.specs.Reading.{step, size, start, reading}
 use Rattle.ion_text_in.specs.Grammar.{Field, Annotations, Tops, Stream, start_of}
 use Rattle.ion_text_in.specs.Paths.{Spells, IsPath, Begun, at_separator, at_field, in_item, At, Follows}
-use Rattle.ion_value.specs.ReadingLaws.{ending_of}
+use Rattle.ion_value.specs.ReadingLaws.{ending_of, AreWithin}
 use Rattle.ion_text_in.specs.Laws.{Sound}
 use Rattle.ion_text_in.proofs.Steps.{annotations-none, field-none, step-follows}
-use Rattle.ion_text_in.proofs.Falling.{each_step_falls}
+use Rattle.ion_text_in.proofs.Falling.{StepCut, same_step, step-Cut, each_step_falls}
 
 abbrev pub IsWhole : List ℕ → Path SymbolAt ℕ → Type 0
 IsWhole bytes path = (tops : List (Top SymbolAt ℕ)) × (path ≡ closed tops) × Stream bytes tops
@@ -48,57 +50,84 @@ at-whole bytes path s stands ends =
       },
     )
 
--- the path that a reading leads to from a path
-record HasVerdict (bytes : List ℕ) (path : Path SymbolAt ℕ) (r : Reading) : Type 0 where
-  next : Path SymbolAt ℕ
-  place : ℕ
-  is_path : IsPath bytes place next
-  items : path_items next ≡ path_items path ++ items_of r
-  whole : ending_of r ≡ Finished → IsWhole bytes next
-
 pub at-path : (bytes : List ℕ) (path : Path SymbolAt ℕ) (s : State) (stands : At bytes path s) → IsPath bytes stands.behind.place path
 at-path bytes path s stands = record { kinds = s.kinds; full = stands.full; behind = stands.behind; place = refl; spells = stands.spells }
 
-not_finished : (reason : Reason) (place : ℕ) → Stopped reason place ≡ Finished → ⊥
-not_finished reason place e = cc e
+-- before the first byte
+at-start : (bytes : List ℕ) → At bytes (closed []) (start bytes)
+at-start bytes = record { full = false; behind = start_of bytes; spells = Spells.top Tops.nothing; begun = in_item Field.at_top Annotations.nothing; top = tt }
 
-next-has_verdict : (bytes : List ℕ) (path : Path SymbolAt ℕ) (s : State) (later : State → Reading) (o : Step State) → At bytes path s → Follows bytes path s o
-    → ((after : State) (next : Path SymbolAt ℕ) → Leaves o after → At bytes next after → HasVerdict bytes next (later after)) → HasVerdict bytes path (next_reading later o)
-next-has_verdict bytes path s later Ends stands follows more = record {
-  next = path;
-  place = stands.behind.place;
-  is_path = at-path bytes path s stands;
-  items = sym (append-nil (path_items path));
-  whole = λ _. at-whole bytes path s stands follows;
-}
-next-has_verdict bytes path s later (Stops reason place) stands follows more = record {
-  next = path;
-  place = stands.behind.place;
-  is_path = at-path bytes path s stands;
-  items = sym (append-nil (path_items path));
-  whole = λ e. absurd (not_finished reason place e);
-}
-next-has_verdict bytes path s later (Gives item after) stands follows more =
-    let c = more after follows.0 (behind_item item after) follows.1 in
-    record {
-      next = c.next;
-      place = c.place;
-      is_path = c.is_path;
-      items = c.items ∙ ap (λ items. items ++ items_of (later after)) follows.2 ∙ append_assoc (path_items path) (item ∷ []) (items_of (later after));
-      whole = c.whole;
-    }
-next-has_verdict bytes path s later (GoesOn after) stands follows more = more after path (behind_nothing after) follows
+-- ---- from path to path
 
-reading_for-has_verdict : (n : ℕ) (limits : Limits) (bytes : List ℕ) (path : Path SymbolAt ℕ) (s : State) → At bytes path s → size s < n
-    → HasVerdict bytes path (reading_for (step limits) n s)
-reading_for-has_verdict zero limits bytes path s stands fuel = absurd (omega (arith, fuel))
-reading_for-has_verdict (suc n) limits bytes path s stands fuel =
-    next-has_verdict bytes path s (λ t. reading_for (step limits) n t) (step limits s) stands (step-follows limits bytes path s stands)
-    (λ after next leaves at. let smaller : size after < size s = each_step_falls limits s after leaves in reading_for-has_verdict n limits bytes next after at (omega (arith, smaller, fuel)))
+-- a step that ends a reading or stops it
+abbrev pub IsLast : Step State → Type 0
+IsLast (Gives item after) = ⊥
+IsLast (GoesOn after) = ⊥
+IsLast o = Unit {0}
+
+-- two readings come to one state with the same items, where a step of the first is its last
+pub record Walked (limits wide : Limits) (bytes : List ℕ) : Type 0 where
+  pub path : Path SymbolAt ℕ
+  pub state : State
+  pub stands : At bytes path state
+  pub last : IsLast (step limits state)
+  pub short : reading limits bytes ≡ behind (path_items path) (reading_by (step limits) size state)
+  pub long : reading wide bytes ≡ behind (path_items path) (reading_by (step wide) size state)
+
+module _ (limits wide : Limits) (within : AreWithin limits wide) (bytes : List ℕ) where
+  -- from a state behind a path on
+  abbrev WalksFrom : Path SymbolAt ℕ → State → Type 0
+  WalksFrom path s = reading limits bytes ≡ behind (path_items path) (reading_by (step limits) size s) → reading wide bytes ≡ behind (path_items path) (reading_by (step wide) size s)
+      → Walked limits wide bytes
+
+  next-walks : (path : Path SymbolAt ℕ) (s : State) (x y : Step State) → At bytes path s → step limits s ≡ x → step wide s ≡ y → StepCut limits s x y → Follows bytes path s x
+      → ((next : Path SymbolAt ℕ) (after : State) → At bytes next after → size after < size s → WalksFrom next after) → WalksFrom path s
+  next-walks path s Ends y stands e g cut follows h r w = record { path = path; state = s; stands = stands; last = subst IsLast (sym e) tt; short = r; long = w }
+  next-walks path s (Stops why place) y stands e g cut follows h r w = record { path = path; state = s; stands = stands; last = subst IsLast (sym e) tt; short = r; long = w }
+  next-walks path s (Gives item after) _ stands e g (same_step _ less) follows h r w =
+      h follows.0 after follows.1 less
+      (r ∙ ap (behind (path_items path)) (reading_by-gives (step limits) size (each_step_falls limits) s after item e) ∙ further (reading_by (step limits) size after))
+      (w ∙ ap (behind (path_items path)) (reading_by-gives (step wide) size (each_step_falls wide) s after item g) ∙ further (reading_by (step wide) size after))
+    where
+      further : (t : Reading) → behind (path_items path) (More item t) ≡ behind (path_items follows.0) t
+      further t = sym (behind-append (path_items path) (item ∷ []) t) ∙ ap (λ items. behind items t) (sym follows.2)
+  next-walks path s (GoesOn after) _ stands e g (same_step _ less) follows h r w =
+      h path after follows less
+      (r ∙ ap (behind (path_items path)) (reading_by-goes_on (step limits) size (each_step_falls limits) s after e))
+      (w ∙ ap (behind (path_items path)) (reading_by-goes_on (step wide) size (each_step_falls wide) s after g))
+
+  steps-walk : (n : ℕ) (path : Path SymbolAt ℕ) (s : State) → At bytes path s → size s < n → WalksFrom path s
+  steps-walk zero path s stands fuel r w = absurd (omega (arith, fuel))
+  steps-walk (suc n) path s stands fuel r w =
+      next-walks path s (step limits s) (step wide s) stands refl refl (step-Cut limits wide within s) (step-follows limits bytes path s stands)
+      (λ next after at less. steps-walk n next after at (omega (arith, less, fuel))) r w
+
+  pub walk : Walked limits wide bytes
+  unfolding reading
+  walk = steps-walk (suc (size (start bytes))) (closed []) (start bytes) (at-start bytes) (omega arith) refl refl
+
+-- ---- so
+
+-- what is read from where a step ends or stops it
+pub last-read : (limits : Limits) (s : State) → reading_by (step limits) size s ≡ next_reading (reading_by (step limits) size) (step limits s)
+last-read limits s = reading_by-step (step limits) size (each_step_falls limits) s
 
 pub sound : Sound
-unfolding reading
 sound limits bytes =
-    let c = reading_for-has_verdict (suc (size (start bytes))) limits bytes (closed []) (start bytes)
-    (record { full = false; behind = start_of bytes; spells = Spells.top Tops.nothing; begun = in_item Field.at_top Annotations.nothing; top = tt }) (omega arith) in
-    record { path = c.next; place = c.place; is_path = c.is_path; items = sym c.items; whole = c.whole }
+    let w = walk limits limits (record { depth = omega arith; scalar = omega arith }) bytes in
+    let read : reading limits bytes ≡ behind (path_items w.path) (next_reading (reading_by (step limits) size) (step limits w.state)) = w.short ∙ ap (behind (path_items w.path)) (last-read limits w.state) in
+    let all = by w.path w.state w.stands (step limits w.state) w.last (step-follows limits bytes w.path w.state w.stands) in
+    record {
+      path = w.path;
+      place = w.stands.behind.place;
+      is_path = at-path bytes w.path w.state w.stands;
+      items = ap items_of read ∙ items_of-behind (path_items w.path) _ ∙ ap (λ items. path_items w.path ++ items) all.0 ∙ append-nil (path_items w.path);
+      whole = λ e. all.1 (sym (ending_of-behind (path_items w.path) _) ∙ sym (ap ending_of read) ∙ e);
+    }
+  where
+    by : (path : Path SymbolAt ℕ) (s : State) → At bytes path s → (o : Step State) → IsLast o → Follows bytes path s o
+        → (items_of (next_reading (reading_by (step limits) size) o) ≡ []) × (ending_of (next_reading (reading_by (step limits) size) o) ≡ Finished → IsWhole bytes path)
+    by path s stands Ends last follows = (refl, λ e. at-whole bytes path s stands follows)
+    by path s stands (Stops why place) last follows = (refl, λ e. absurd (cc e))
+    by path s stands (Gives item after) last follows = absurd last
+    by path s stands (GoesOn after) last follows = absurd last

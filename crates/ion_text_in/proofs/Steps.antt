@@ -15,7 +15,7 @@ use Rattle.ion_value.specs.Reading.{Step, Gives, GoesOn}
 use Rattle.ion_meter.specs.Sources.{Cursor, skip}
 use Rattle.ion_value.specs.Parts.{Placed, part, refuse, ◌>>=◌, ◌>>◌}
 use Rattle.ion_text_in.specs.Blanks.{blanks}
-use Rattle.ion_text_in.specs.Token.{First, a_word, a_quoted, a_short, a_long, a_run, a_lob, an_operator, an_infinity, a_begin, an_end, a_comma, a_colon, two_colons, no_token, first_at, Token, plain, name, text, operator, no_number, begin, end, comma, colon, colons, token_of, next_token}
+use Rattle.ion_text_in.specs.Token.{First, a_colon, two_colons, first_at, Token, plain, name, text, operator, begin, end, comma, colon, colons, token_of, next_token}
 use Rattle.ion_text_in.specs.Reading as reading
 use Rattle.ion_text_in.specs.Positions.{Wants, a_value, a_field, a_separator, State, innermost, in_sexp, has_commas, at, first_place}
 use Rattle.ion_text_in.specs.Reading.{at_member, behind_member, may_come, top_of, item_of, tells_version, is_marker, behind_colons, step, step_of, take, part_at}
@@ -45,22 +45,10 @@ abbrev Colons : Bool → Cursor → Cursor → Type 0
 Colons sexp c d = (q : ℕ) × Tok sexp c colons q d
 
 colons-first : (sexp : Bool) (c b d : Cursor) (first : First) → blanks c ≡ Ok b → first_at sexp b.rest ≡ first → reading.colons_at first b ≡ Some d → Colons sexp c d
-colons-first sexp c b d a_run blank is found = absurd (cc found)
-colons-first sexp c b d a_word blank is found = absurd (cc found)
-colons-first sexp c b d a_quoted blank is found = absurd (cc found)
-colons-first sexp c b d a_short blank is found = absurd (cc found)
-colons-first sexp c b d a_long blank is found = absurd (cc found)
-colons-first sexp c b d a_lob blank is found = absurd (cc found)
-colons-first sexp c b d an_operator blank is found = absurd (cc found)
-colons-first sexp c b d an_infinity blank is found = absurd (cc found)
-colons-first sexp c b d (a_begin k) blank is found = absurd (cc found)
-colons-first sexp c b d (an_end k) blank is found = absurd (cc found)
-colons-first sexp c b d a_comma blank is found = absurd (cc found)
-colons-first sexp c b d a_colon blank is found = absurd (cc found)
 colons-first sexp c b d two_colons blank is found =
     let same : skip 2 b ≡ d = cc found in
     (b.place, subst (λ d. Tok sexp c colons b.place d) same (colons-tok sexp c b blank is))
-colons-first sexp c b d no_token blank is found = absurd (cc found)
+colons-first sexp c b d first blank is found = absurd (cc found)
 
 colons-blank : (sexp : Bool) (c d : Cursor) (o : Placed Cursor) → blanks c ≡ o → reading.colons_behind sexp o ≡ Some d → Colons sexp c d
 colons-blank sexp c d (Ok b) blank found = colons-first sexp c b d (first_at sexp b.rest) blank refl found
@@ -190,16 +178,10 @@ module _ (limits : Limits) (bytes : List ℕ) (path : Path SymbolAt ℕ) (top : 
 
   closed-goes : (kinds : List Kind) (k : Kind) (wants : Wants) (full : Bool) (behind : Cursor) → Spells (start_of bytes) path kinds full behind
       → Tok (in_sexp (innermost kinds)) behind (end k) p d → (s : State) → Goes bytes path s (part p (reading.end_step kinds top k p d))
-  closed-goes [] k wants full behind spells tok s = tt
   closed-goes (kind.List ∷ js) kind.List wants full behind spells tok s = end-goes kind.List js wants full behind spells tok s
-  closed-goes (kind.List ∷ js) kind.Sexp wants full behind spells tok s = tt
-  closed-goes (kind.List ∷ js) kind.Struct wants full behind spells tok s = tt
-  closed-goes (kind.Sexp ∷ js) kind.List wants full behind spells tok s = tt
   closed-goes (kind.Sexp ∷ js) kind.Sexp wants full behind spells tok s = end-goes kind.Sexp js wants full behind spells tok s
-  closed-goes (kind.Sexp ∷ js) kind.Struct wants full behind spells tok s = tt
-  closed-goes (kind.Struct ∷ js) kind.List wants full behind spells tok s = tt
-  closed-goes (kind.Struct ∷ js) kind.Sexp wants full behind spells tok s = tt
   closed-goes (kind.Struct ∷ js) kind.Struct wants full behind spells tok s = end-goes kind.Struct js wants full behind spells tok s
+  closed-goes kinds k wants full behind spells tok s = tt
 
   -- no bracket closes behind a field or an annotation
   bare-goes : (kinds : List Kind) (k : Kind) (field : Option SymbolAt) (annotations : List SymbolAt) (behind b c : Cursor) → Spells (start_of bytes) path kinds false behind
@@ -269,10 +251,7 @@ record IsVersion (k : Option Kind) (annotations : List SymbolAt) (quoted : Bool)
 told-version : (k : Option Kind) (annotations : List SymbolAt) (quoted : Bool) (symbol : Symbol) → tells_version k annotations quoted symbol ≡ true → IsVersion k annotations quoted symbol
 unfolding tells_version
 told-version None [] false (value.Text word) e = record { at_top = refl; bare = refl; unquoted = refl }
-told-version None [] false (value.Id id) e = absurd (false≢true e)
-told-version None [] true symbol e = absurd (false≢true e)
-told-version None (a ∷ annotations) quoted symbol e = absurd (false≢true e)
-told-version (Some k) annotations quoted symbol e = absurd (false≢true e)
+told-version k annotations quoted symbol e = absurd (false≢true e)
 
 marker-word : (symbol : Symbol) → is_marker symbol ≡ true → symbol ≡ value.Text version_word
 marker-word (value.Text word) e = ap value.Text (same-bytes version_word word e)
@@ -349,19 +328,7 @@ module _ (limits : Limits) (bytes : List ℕ) (path : Path SymbolAt ℕ) (top : 
     begun = in_item (field e.place (skip 1 e) (colon-tok b e blank is)) Annotations.nothing;
     top = is_top;
   }
-  colon-goes kinds a behind b e spells field blank a_run is s = tt
-  colon-goes kinds a behind b e spells field blank a_word is s = tt
-  colon-goes kinds a behind b e spells field blank a_quoted is s = tt
-  colon-goes kinds a behind b e spells field blank a_short is s = tt
-  colon-goes kinds a behind b e spells field blank a_long is s = tt
-  colon-goes kinds a behind b e spells field blank a_lob is s = tt
-  colon-goes kinds a behind b e spells field blank an_operator is s = tt
-  colon-goes kinds a behind b e spells field blank an_infinity is s = tt
-  colon-goes kinds a behind b e spells field blank (a_begin k) is s = tt
-  colon-goes kinds a behind b e spells field blank (an_end k) is s = tt
-  colon-goes kinds a behind b e spells field blank a_comma is s = tt
-  colon-goes kinds a behind b e spells field blank two_colons is s = tt
-  colon-goes kinds a behind b e spells field blank no_token is s = tt
+  colon-goes kinds a behind b e spells field blank first is s = tt
 
   rest-goes : (kinds : List Kind) (a : SymbolAt) (behind b e : Cursor) → Spells (start_of bytes) path kinds false behind
       → ((q : ℕ) (f : Cursor) → Tok false b colon q f → Field (innermost kinds) behind (Some a) f) → blanks b ≡ Ok e
@@ -394,24 +361,11 @@ module _ (limits : Limits) (bytes : List ℕ) (path : Path SymbolAt ℕ) (top : 
     begun = begun-member d kinds;
     top = is_top;
   }
-  take-goes kinds _ behind _ _ (plain v) spells at_separator tok s = tt
-  take-goes kinds _ behind _ _ (name quoted symbol) spells at_separator tok s = tt
-  take-goes kinds _ behind _ _ (text t) spells at_separator tok s = tt
-  take-goes kinds _ behind _ _ (operator t) spells at_separator tok s = tt
-  take-goes kinds _ behind _ _ no_number spells at_separator tok s = tt
-  take-goes kinds _ behind _ _ (begin k) spells at_separator tok s = tt
-  take-goes kinds _ behind _ _ colon spells at_separator tok s = tt
-  take-goes kinds _ behind _ _ colons spells at_separator tok s = tt
+  take-goes kinds _ behind _ _ t spells at_separator tok s = tt
   take-goes _ _ behind _ _ (end k) spells (at_field {kinds}) tok s = closed-goes limits bytes path top is_top p d (kind.Struct ∷ kinds) k a_field false behind spells tok s
   take-goes _ _ behind _ _ (name quoted symbol) spells (at_field {kinds}) tok s = named-goes (kind.Struct ∷ kinds) (at symbol p) behind d spells (λ q f after. Field.named tok after) s
   take-goes _ _ behind _ _ (text t) spells (at_field {kinds}) tok s = named-goes (kind.Struct ∷ kinds) (at (value.Text t) p) behind d spells (λ q f after. Field.in_quotes tok after) s
-  take-goes _ _ behind _ _ (plain v) spells at_field tok s = tt
-  take-goes _ _ behind _ _ (operator t) spells at_field tok s = tt
-  take-goes _ _ behind _ _ no_number spells at_field tok s = tt
-  take-goes _ _ behind _ _ (begin k) spells at_field tok s = tt
-  take-goes _ _ behind _ _ comma spells at_field tok s = tt
-  take-goes _ _ behind _ _ colon spells at_field tok s = tt
-  take-goes _ _ behind _ _ colons spells at_field tok s = tt
+  take-goes _ _ behind _ _ t spells at_field tok s = tt
   take-goes kinds _ behind c _ (end k) spells (in_item {d = b} {field = field} {annotations = annotations} f ns) tok s = bare-goes limits bytes path top is_top p d kinds k field annotations behind b c spells f ns tok s
   take-goes kinds _ behind c _ (plain v) spells (in_item {d = b} {field = field} {annotations = annotations} f ns) tok s = value-goes limits bytes path top is_top p d kinds field annotations v behind b spells f (Txt.of_plain ns tok) s
   take-goes kinds _ behind c _ (text t) spells (in_item {d = b} {field = field} {annotations = annotations} f ns) tok s = value-goes limits bytes path top is_top p d kinds field annotations (value.string t) behind b spells f (Txt.of_text ns tok) s
@@ -420,10 +374,7 @@ module _ (limits : Limits) (bytes : List ℕ) (path : Path SymbolAt ℕ) (top : 
   take-goes kinds _ behind c _ (name quoted symbol) spells (in_item {d = b} {field = field} {annotations = annotations} f ns) tok s =
       symbol-goes kinds field annotations quoted symbol behind b c spells f ns tok (behind_colons (in_sexp (innermost kinds)) d) refl s
   take-goes kinds _ behind c _ (begin k) spells (in_item {d = b} {field = field} {annotations = annotations} f ns) tok s = begin-goes limits bytes path top is_top p d kinds k field annotations behind b c spells f ns tok s
-  take-goes kinds _ behind c _ no_number spells (in_item f ns) tok s = tt
-  take-goes kinds _ behind c _ comma spells (in_item f ns) tok s = tt
-  take-goes kinds _ behind c _ colon spells (in_item f ns) tok s = tt
-  take-goes kinds _ behind c _ colons spells (in_item f ns) tok s = tt
+  take-goes kinds _ behind c _ t spells (in_item f ns) tok s = tt
 
 -- ---- a step
 
@@ -445,11 +396,7 @@ coming-goes limits bytes path s b stands blank first is true =
 ended-goes : (limits : Limits) (bytes : List ℕ) (path : Path SymbolAt ℕ) (s : State) (b : Cursor) → blanks s.cursor ≡ Ok b → b.rest ≡ []
     → (kinds : List Kind) (wants : Wants) → s.kinds ≡ kinds → s.wants ≡ wants → Goes bytes path s (reading.final_step kinds wants b.place)
 ended-goes limits bytes path s b blank none [] (a_value None []) kinds_are wants_are = (kinds_are, wants_are, b, blank, none)
-ended-goes limits bytes path s b blank none [] (a_value None (a ∷ annotations)) kinds_are wants_are = tt
-ended-goes limits bytes path s b blank none [] (a_value (Some a) annotations) kinds_are wants_are = tt
-ended-goes limits bytes path s b blank none [] a_field kinds_are wants_are = tt
-ended-goes limits bytes path s b blank none [] a_separator kinds_are wants_are = tt
-ended-goes limits bytes path s b blank none (k ∷ kinds) wants kinds_are wants_are = tt
+ended-goes limits bytes path s b blank none kinds wants kinds_are wants_are = tt
 
 behind-goes : (limits : Limits) (bytes : List ℕ) (path : Path SymbolAt ℕ) (s : State) (b : Cursor) → At bytes path s → blanks s.cursor ≡ Ok b
     → (rest : List ℕ) → b.rest ≡ rest → Goes bytes path s (reading.part_behind limits s b rest)

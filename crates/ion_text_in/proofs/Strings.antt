@@ -16,8 +16,8 @@ use Rattle.ion_text_in.specs.Quoted as texts
 use Rattle.ion_text_in.specs.Quoted.{Quote, Piece, symbol_quote, short_quote, piece_at, pieces_for, segment_at, segments_for, text_at, with_piece, raw, by_code, byte_code, hex_behind, number}
 use Rattle.ion_text_in.specs.Token as tokens
 use Rattle.ion_text_in.specs.Token.{Token, first_at, token_of}
-use Rattle.ion_text_in.specs.Meaning.{Limit, Allows, at, Escape, Char, Chars, quoted, StringTextIsRead, ClobTextIsRead}
-use Rattle.ion_text_in.proofs.Going.{behind_symbol, QuotedSymbolIf}
+use Rattle.ion_text_in.specs.Meaning.{Limit, Allows, at, Escape, Char, Chars, quoted, EndsSymbol, QuotedSymbolIsRead, StringTextIsRead, ClobTextIsRead}
+use Rattle.ion_text_in.proofs.TokenBegins.{no-first}
 use Rattle.ion_text_in.specs.Places.{run_of, behind_run}
 use Rattle.ion_text_in.specs.Blanks.{is_white}
 use Rattle.ion_text_in.specs.Lob as lob
@@ -32,18 +32,7 @@ by_quote quote in_clob = record { closer = quote ∷ []; is_long = false; in_clo
 escape-read : (quote : ℕ) (in_clob : Bool) (letter b : ℕ) (more : List ℕ) → (quote == 92) ≡ false → Escape letter b → piece_at (by_quote quote in_clob) (92 ∷ letter ∷ more) ≡ texts.char (b ∷ []) 2
 unfolding piece_at
 escape-read quote in_clob _ _ more other Escape.bell = rw (piece_at, other) refl
-escape-read quote in_clob _ _ more other Escape.backspace = rw (piece_at, other) refl
-escape-read quote in_clob _ _ more other Escape.tab = rw (piece_at, other) refl
-escape-read quote in_clob _ _ more other Escape.line_feed = rw (piece_at, other) refl
-escape-read quote in_clob _ _ more other Escape.form_feed = rw (piece_at, other) refl
-escape-read quote in_clob _ _ more other Escape.carriage_return = rw (piece_at, other) refl
-escape-read quote in_clob _ _ more other Escape.vertical_tab = rw (piece_at, other) refl
-escape-read quote in_clob _ _ more other Escape.nul = rw (piece_at, other) refl
-escape-read quote in_clob _ _ more other Escape.question_mark = rw (piece_at, other) refl
-escape-read quote in_clob _ _ more other Escape.double_quote = rw (piece_at, other) refl
-escape-read quote in_clob _ _ more other Escape.single_quote = rw (piece_at, other) refl
-escape-read quote in_clob _ _ more other Escape.backslash = rw (piece_at, other) refl
-escape-read quote in_clob _ _ more other Escape.slash = rw (piece_at, other) refl
+escape-read quote in_clob _ _ more other letter = rw (piece_at, other) refl
 
 by-ascii : (n taken : ℕ) → n < 128 → by_code n taken ≡ texts.char (n ∷ []) taken
 by-ascii n taken small =
@@ -189,9 +178,9 @@ flip : (a b : ℕ) → (b == a) ≡ false → (a == b) ≡ false
 flip a b e = grind (arith, nat_tests)
 
 -- no long string begins at the quote
-no-long : (chars bytes rest : List ℕ) → Chars 39 false chars bytes → behind_symbol bytes rest ≡ false → begins_with (39 ∷ 39 ∷ []) (chars ++ 39 ∷ rest) ≡ false
+no-long : (chars bytes rest : List ℕ) → Chars 39 false chars bytes → EndsSymbol bytes rest → begins_with (39 ∷ 39 ∷ []) (chars ++ 39 ∷ rest) ≡ false
 no-long _ _ [] Chars.none ends = refl
-no-long _ _ (b ∷ rest) Chars.none ends = let other = flip 39 b ends in rw other refl
+no-long _ _ (b ∷ rest) Chars.none ends = let other = flip 39 b (no-first 39 (b ∷ rest) (ends refl)) in rw other refl
 no-long _ _ rest (Chars.and_then {chars = chars} char are) ends = by-char rest chars char
   where
     by-char : {b : ℕ} {text : List ℕ} (rest chars : List ℕ) → Char 39 false text b → begins_with (39 ∷ 39 ∷ []) ((text ++ chars) ++ 39 ∷ rest) ≡ false
@@ -203,7 +192,7 @@ symbol-first : (sexp : Bool) (bytes : List ℕ) → begins_with (39 ∷ 39 ∷ [
 unfolding first_at
 symbol-first sexp bytes e = ap (λ (long : Bool). if long then tokens.a_long else tokens.a_quoted) e
 
-pub symbol-means : QuotedSymbolIf
+pub symbol-means : QuotedSymbolIsRead
 unfolding token_of
 symbol-means chars bytes are utf8 limit sexp place rest allows ends =
     ap (λ (xs : List ℕ). tokens.token_at limit sexp (at place (39 ∷ xs))) (behind-quotes 39 chars rest)

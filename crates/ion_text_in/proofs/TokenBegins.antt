@@ -1,5 +1,5 @@
 -- The kind of token that is computed at a place is the one that begins there, and no other does.
-use Rattle.std.proofs.Common.{◌≡◌, ◌≢◌, ℕ, ◌≤◌, ◌⊎◌, inl, inr, Bool, true, false, not, ◌&&◌, ◌||◌, ◌==◌, nat_le, if◌then◌else◌, List, [], ◌∷◌, ◌++◌, drop, codes, refl, sym, ap, subst, ◌∙◌, arith}
+use Rattle.std.proofs.Common.{◌≡◌, ◌≢◌, ℕ, ◌≤◌, inl, inr, Bool, true, false, not, ◌&&◌, ◌||◌, ◌==◌, nat_le, if◌then◌else◌, List, [], ◌∷◌, ◌++◌, drop, codes, refl, sym, ap, subst, ◌∙◌, arith}
 use Rattle.std.proofs.lemmas.Bool.{and_cases, not-false, and_parts, and_from, or_cases, not-true, eqb-true, eq-eqb, leb-true, le-leb, false≢true}
 use Rattle.std.proofs.lemmas.Bool.Decides.{nat_tests}
 use Rattle.ion_value.specs.Digits.{is_between, is_digit, first_is}
@@ -24,17 +24,13 @@ digit-from b d = between-from 48 57 b d.0 d.1
 digit-is : (b : ℕ) → is_digit b ≡ true → IsDigit b
 digit-is b e = between-is 48 57 b e
 
-either-true : (x y : Bool) → (x ≡ true) ⊎ (y ≡ true) → (x || y) ≡ true
-either-true true y e = refl
-either-true false y (inl e) = absurd (false≢true e)
-either-true false y (inr e) = e
+is-not : (b : Bool) → (b ≡ true → ⊥) → b ≡ false
+is-not true none = absurd (none refl)
+is-not false none = refl
 
 start-from : {b : ℕ} → BeginsIdentifier b → is_identifier_start b ≡ true
-start-from (BeginsIdentifier.capital {b} l h) = let e : is_between 65 90 b ≡ true = between-from 65 90 b l h in rw e refl
-start-from (BeginsIdentifier.small {b} l h) =
-    let e : is_between 97 122 b ≡ true = between-from 97 122 b l h in
-    either-true (is_between 65 90 b || is_between 97 122 b || b == 95) (b == 36)
-    (inl (either-true (is_between 65 90 b || is_between 97 122 b) (b == 95) (inl (either-true (is_between 65 90 b) (is_between 97 122 b) (inr e)))))
+start-from (BeginsIdentifier.capital {b} l h) = grind (arith, nat_tests)
+start-from (BeginsIdentifier.small {b} l h) = grind (arith, nat_tests)
 start-from BeginsIdentifier.underscore = refl
 start-from BeginsIdentifier.dollar = refl
 
@@ -51,18 +47,14 @@ start-is b e = elim (or_cases (is_between 65 90 b || is_between 97 122 b || b ==
 ]
 
 byte-from : {b : ℕ} → InIdentifier b → is_identifier_byte b ≡ true
-byte-from (InIdentifier.start {b} s) = either-true (is_identifier_start b) (is_digit b) (inl (start-from s))
-byte-from (InIdentifier.digit {b} d) = either-true (is_identifier_start b) (is_digit b) (inr (digit-from b d))
+byte-from (InIdentifier.start {b} s) = rw (start-from s) refl
+byte-from (InIdentifier.digit {b} d) = grind (arith, nat_tests)
 
 byte-is : (b : ℕ) → is_identifier_byte b ≡ true → InIdentifier b
 byte-is b e = elim (or_cases (is_identifier_start b) (is_digit b) e) [ inl s ↦ InIdentifier.start (start-is b s) | inr d ↦ InIdentifier.digit (digit-is b d) ]
 
 no_byte : (b : ℕ) → (InIdentifier b → ⊥) → is_identifier_byte b ≡ false
-no_byte b none = from (is_identifier_byte b) refl
-  where
-    from : (is : Bool) → is_identifier_byte b ≡ is → is ≡ false
-    from true e = absurd (none (byte-is b e))
-    from false e = refl
+no_byte b none = is-not (is_identifier_byte b) (λ e. none (byte-is b e))
 
 -- ---- beginnings of several bytes
 
@@ -82,14 +74,10 @@ prefix-not : (cs bytes : List ℕ) → begins_with cs bytes ≡ false → Begins
 prefix-not cs bytes e more is = false≢true (sym e ∙ ap (begins_with cs) is ∙ prefix-from cs more)
 
 not-prefix : (cs bytes : List ℕ) → BeginsNot cs bytes → begins_with cs bytes ≡ false
-not-prefix cs bytes none = from (begins_with cs bytes) refl
-  where
-    from : (is : Bool) → begins_with cs bytes ≡ is → is ≡ false
-    from true e = (let more = prefix-is cs bytes e in absurd (none more.0 more.1))
-    from false e = refl
+not-prefix cs bytes none = is-not (begins_with cs bytes) (λ e. let more = prefix-is cs bytes e in none more.0 more.1)
 
 number-from : {b : ℕ} {bytes : List ℕ} → BeginsNumber (b ∷ bytes) → begins_run b bytes ≡ true
-number-from (BeginsNumber.digit {b} {bytes} d) = either-true (is_digit b) (b == 45 && first_is is_digit bytes) (inl (digit-from b d))
+number-from (BeginsNumber.digit {b} {bytes} d) = rw (digit-from b d) refl
 number-from (BeginsNumber.minus {b} {bytes} d) = digit-from b d
 
 number-is : (b : ℕ) (bytes : List ℕ) → begins_run b bytes ≡ true → BeginsNumber (b ∷ bytes)
@@ -120,16 +108,9 @@ identifiers-end bytes =
 operator-from : {bytes : List ℕ} → EndsOperator bytes → in_operator bytes ≡ false
 operator-from EndsOperator.end = refl
 operator-from (EndsOperator.character {b} {bytes} none) =
-    ap (λ (goes_on : Bool). goes_on && not (begins_comment (b ∷ bytes))) (no-operator_byte (is_operator_byte b) refl)
-  where
-    no-operator_byte : (is : Bool) → is_operator_byte b ≡ is → is_operator_byte b ≡ false
-    no-operator_byte true e = absurd (none (one_of-is (codes "!#%&*+-./;<=>?@^`|~") b e))
-    no-operator_byte false e = e
-operator-from (EndsOperator.comment comment) = by-comment comment
-  where
-    by-comment : {bytes : List ℕ} → BeginsComment bytes → in_operator bytes ≡ false
-    by-comment BeginsComment.line = refl
-    by-comment BeginsComment.block = refl
+    ap (λ (goes_on : Bool). goes_on && not (begins_comment (b ∷ bytes))) (is-not (is_operator_byte b) (λ e. none (one_of-is (codes "!#%&*+-./;<=>?@^`|~") b e)))
+operator-from (EndsOperator.comment BeginsComment.line) = refl
+operator-from (EndsOperator.comment BeginsComment.block) = refl
 
 operator-is : (bytes : List ℕ) → in_operator bytes ≡ false → EndsOperator bytes
 operator-is [] e = EndsOperator.end
@@ -244,10 +225,6 @@ unfolding first_at
 infinity-computed sexp _ (BeginsInfinity.plus {bytes} ends) = ap (λ (ends : Bool). if ends then an_infinity else (if sexp && true then an_operator else no_token)) (ends-from ends)
 infinity-computed sexp _ (BeginsInfinity.minus {bytes} ends) = ap (λ (ends : Bool). if ends then an_infinity else (if sexp && true then an_operator else no_token)) (ends-from ends)
 
-is-not : (b : Bool) → (b ≡ true → ⊥) → b ≡ false
-is-not true none = absurd (none refl)
-is-not false none = refl
-
 operator-computed : (b : ℕ) (bytes : List ℕ) → IsOperatorCharacter b → (BeginsNumber (b ∷ bytes) → ⊥) → (BeginsInfinity (b ∷ bytes) → ⊥) → first_at true (b ∷ bytes) ≡ an_operator
 unfolding first_at
 operator-computed b bytes is no_number no_infinity =
@@ -259,23 +236,7 @@ operator-computed b bytes is no_number no_infinity =
     let no_quote : (b == 39) ≡ false = grind (arith, nat_tests) in
     let no_other : (39 == b) ≡ false = grind (arith, nat_tests) in
     let no_brace : (123 == b) ≡ false = grind (arith, nat_tests) in
-    ap (λ (start : Bool). if start then a_word else (if begins_run b bytes then a_run else rest (b == 34))) no_start
-    ∙ ap (λ (run : Bool). if run then a_run else rest (b == 34)) no_run
-    ∙ ap (λ (string : Bool). rest string) no_string
-    ∙ ap (λ (quote : Bool). if quote && begins_with (39 ∷ 39 ∷ []) bytes then a_long else by-quote (b == 39)) no_other
-    ∙ ap (λ (quote : Bool). by-quote quote) no_quote
-    ∙ ap (λ (brace : Bool). if brace && begins_with (123 ∷ []) bytes then a_lob else by-infinity (is_infinity (b ∷ bytes))) no_brace
-    ∙ ap (λ (infinity : Bool). by-infinity infinity) no_inf
-    ∙ ap (λ (operator : Bool). if operator then an_operator else punctuation b bytes) test
-  where
-    by-infinity : Bool → First
-    by-infinity infinity = if infinity then an_infinity else (if is_operator_byte b then an_operator else punctuation b bytes)
-
-    by-quote : Bool → First
-    by-quote quote = if quote then a_quoted else (if begins_with (codes "{{") (b ∷ bytes) then a_lob else by-infinity (is_infinity (b ∷ bytes)))
-
-    rest : Bool → First
-    rest string = if string then a_short else (if begins_with (39 ∷ 39 ∷ 39 ∷ []) (b ∷ bytes) then a_long else by-quote (b == 39))
+    rw (no_start, no_run, no_string, no_other, no_quote, no_brace, no_inf, test) refl
 
 no-operator : (sexp : Bool) (f : First) → (if sexp && false then an_operator else f) ≡ f
 no-operator true f = refl
@@ -298,16 +259,10 @@ begun (TokenBegins.operator {b} {bytes} in_sexp is no_number no_infinity) = ap (
 begun {sexp} (TokenBegins.struct_begin {bytes} none) =
     ap (λ (two : Bool). if two then a_lob else (if sexp && false then an_operator else a_begin kind.Struct)) (not-prefix (codes "{") bytes none)
     ∙ no-operator sexp (a_begin kind.Struct)
-begun {sexp} TokenBegins.list_begin = no-operator sexp (a_begin kind.List)
-begun {sexp} TokenBegins.sexp_begin = no-operator sexp (a_begin kind.Sexp)
-begun {sexp} TokenBegins.struct_end = no-operator sexp (an_end kind.Struct)
-begun {sexp} TokenBegins.list_end = no-operator sexp (an_end kind.List)
-begun {sexp} TokenBegins.sexp_end = no-operator sexp (an_end kind.Sexp)
-begun {sexp} TokenBegins.comma = no-operator sexp a_comma
 begun {sexp} (TokenBegins.colon {bytes} none) =
     no-operator sexp (if first_is (λ c. c == 58) bytes then two_colons else a_colon)
     ∙ ap (λ (two : Bool). if two then two_colons else a_colon) (no-first 58 bytes none)
-begun {sexp} TokenBegins.colons = no-operator sexp two_colons
+begun {sexp} {bytes} {f} mark = no-operator sexp f
 
 pub what-begins : WhatBegins
 what-begins sexp bytes f some = (λ e. subst (λ (f : First). Told sexp bytes f) e (first-told sexp bytes) some, λ begins. begun begins)
@@ -317,41 +272,13 @@ one-begins sexp bytes f g x y = sym (begun x) ∙ begun y
 
 -- ---- where none begins
 
-some-token : {sexp : Bool} {bytes : List ℕ} {f : First} → TokenBegins sexp bytes f → f ≢ no_token
-some-token (TokenBegins.word start) e = absurd (cc e)
-some-token (TokenBegins.number number) e = absurd (cc e)
-some-token TokenBegins.short_string e = absurd (cc e)
-some-token TokenBegins.long_string e = absurd (cc e)
-some-token (TokenBegins.quoted_symbol none) e = absurd (cc e)
-some-token TokenBegins.lob e = absurd (cc e)
-some-token (TokenBegins.infinity infinity) e = absurd (cc e)
-some-token (TokenBegins.operator in_sexp is no_number no_infinity) e = absurd (cc e)
-some-token (TokenBegins.struct_begin none) e = absurd (cc e)
-some-token TokenBegins.list_begin e = absurd (cc e)
-some-token TokenBegins.sexp_begin e = absurd (cc e)
-some-token TokenBegins.struct_end e = absurd (cc e)
-some-token TokenBegins.list_end e = absurd (cc e)
-some-token TokenBegins.sexp_end e = absurd (cc e)
-some-token TokenBegins.comma e = absurd (cc e)
-some-token (TokenBegins.colon none) e = absurd (cc e)
-some-token TokenBegins.colons e = absurd (cc e)
+no-none : {sexp : Bool} {bytes : List ℕ} → TokenBegins sexp bytes no_token → ⊥
+no-none begins = elim begins [ ]
 
 none-is : (sexp : Bool) (bytes : List ℕ) (f : First) → Told sexp bytes f → ((g : First) → TokenBegins sexp bytes g → ⊥) → f ≡ no_token
-none-is sexp bytes a_run told none = absurd (none a_run (told (λ e. absurd (cc e))))
-none-is sexp bytes a_word told none = absurd (none a_word (told (λ e. absurd (cc e))))
-none-is sexp bytes a_quoted told none = absurd (none a_quoted (told (λ e. absurd (cc e))))
-none-is sexp bytes a_short told none = absurd (none a_short (told (λ e. absurd (cc e))))
-none-is sexp bytes a_long told none = absurd (none a_long (told (λ e. absurd (cc e))))
-none-is sexp bytes a_lob told none = absurd (none a_lob (told (λ e. absurd (cc e))))
-none-is sexp bytes an_operator told none = absurd (none an_operator (told (λ e. absurd (cc e))))
-none-is sexp bytes an_infinity told none = absurd (none an_infinity (told (λ e. absurd (cc e))))
-none-is sexp bytes (a_begin k) told none = absurd (none (a_begin k) (told (λ e. absurd (cc e))))
-none-is sexp bytes (an_end k) told none = absurd (none (an_end k) (told (λ e. absurd (cc e))))
-none-is sexp bytes a_comma told none = absurd (none a_comma (told (λ e. absurd (cc e))))
-none-is sexp bytes a_colon told none = absurd (none a_colon (told (λ e. absurd (cc e))))
-none-is sexp bytes two_colons told none = absurd (none two_colons (told (λ e. absurd (cc e))))
 none-is sexp bytes no_token told none = refl
+none-is sexp bytes f told none = absurd (none f (told (λ e. absurd (cc e))))
 
 pub where-none-begins : WhereNoneBegins
 where-none-begins sexp bytes =
-    (λ e f begins. some-token begins (sym (begun begins) ∙ e), λ none. none-is sexp bytes (first_at sexp bytes) (first-told sexp bytes) none)
+    (λ e f begins. no-none (subst (λ f. TokenBegins sexp bytes f) (sym (begun begins) ∙ e) begins), λ none. none-is sexp bytes (first_at sexp bytes) (first-told sexp bytes) none)

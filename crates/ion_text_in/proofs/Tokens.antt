@@ -1,16 +1,18 @@
 -- A token that stands at a place is the next that a reading takes there.
-use Rattle.std.proofs.Common.{◌≡◌, ℕ, nat_lt, ◌||◌, if◌then◌else◌, Bool, true, false, List, [], ◌∷◌, Option, Some, None, Result, Ok, Err, refl, sym, ap, subst, ◌∙◌}
-use Rattle.std.proofs.lemmas.Bool.{false≢true}
+use Rattle.std.proofs.Common.{◌≡◌, ℕ, ◌<◌, nat_lt, ◌||◌, if◌then◌else◌, Bool, true, false, List, [], ◌∷◌, Option, Some, None, Result, Ok, Err, refl, sym, ap, subst, ◌∙◌}
+use Rattle.std.proofs.lemmas.Bool.{false≢true, le-ltb, lt-ltb}
+use Rattle.std.proofs.lemmas.Result.{IfOk-at_ok}
+use Rattle.std.specs.Result.{IfOk}
 use Rattle.ion_meter.specs.declared.fault.Reason.{Reason}
 use Rattle.ion_meter.specs.declared.fault.Reason.TheVariants.{ScalarLimit}
 use Rattle.ion_meter.specs.declared.limits.Limits.{Limits}
 use Rattle.ion_value.specs.declared.ion_type.Kind.{Kind}
-use Rattle.ion_value.specs.Name.{Keyword, a_null, a_bool, a_nan, keyword, is_id, id_of}
+use Rattle.ion_value.specs.Name.{Keyword, a_null, keyword}
+use Rattle.ion_value.specs.Reading.{Stops}
 use Rattle.ion_value.specs.Scalar.{scalar_of_run}
-use Rattle.ion_value.specs.Value as value
 use Rattle.ion_value.specs.Value.{SymbolAt, Scalar}
 use Rattle.ion_meter.specs.Sources.{Cursor, skip}
-use Rattle.ion_value.specs.Parts.{Placed, part, refuse, ◌>>=◌, ◌>>◌}
+use Rattle.ion_value.specs.Parts.{part, ◌>>=◌}
 use Rattle.ion_text_in.specs.Limit.{passes}
 use Rattle.ion_text_in.specs.Blanks.{blanks}
 use Rattle.ion_text_in.specs.Meaning.{counts, TokensWithinAreRead}
@@ -24,7 +26,9 @@ use Rattle.ion_text_in.specs.Reading as reading
 use Rattle.ion_text_in.specs.Positions.{Wants, a_value, a_field, a_separator, State, innermost, in_sexp}
 use Rattle.ion_text_in.specs.Reading.{is_punctuation, names_field, may_come, step, step_of, take, part_at}
 use Rattle.ion_text_in.specs.Grammar.{Tok}
-use Rattle.ion_text_in.proofs.TokenLimits.{got, token-exact, token-within}
+use Rattle.ion_text_in.proofs.TokenCuts.{token-exact}
+use Rattle.ion_text_in.proofs.TokenLimits.{got}
+use Rattle.ion_text_in.proofs.WentWell.{went, part-known, if-any, if-passed}
 
 -- ---- what a token's first bytes told
 
@@ -34,82 +38,53 @@ is_mark (end k) = true
 is_mark comma = true
 is_mark colon = true
 is_mark colons = true
-is_mark (plain v) = false
-is_mark (name quoted symbol) = false
-is_mark (text t) = false
-is_mark (operator t) = false
-is_mark no_number = false
+is_mark t = false
 
 abbrev pub is_naming : Token → Bool
 is_naming (name quoted symbol) = true
 is_naming (text t) = true
-is_naming (plain v) = false
-is_naming (operator t) = false
-is_naming no_number = false
-is_naming (begin k) = false
-is_naming (end k) = false
-is_naming comma = false
-is_naming colon = false
-is_naming colons = false
+is_naming t = false
 
 pub record Told (first : First) (t : Token) : Type 0 where
   pub mark : is_mark t ≡ is_punctuation first
   pub naming : is_naming t ≡ true → names_field first ≡ true
 
-told-by : {A : Type 0} (first : First) (t : Token) (d : Cursor) (o : Result A Reason) (f : A → Result (Token × Cursor) Reason) → ((x : A) → f x ≡ got t d → Told first t)
-    → (o >>= f) ≡ got t d → Told first t
-told-by first t d (Ok x) f told e = told x e
-told-by first t d (Err reason) f told e = absurd (cc e)
-
--- a token and what is behind it are those that are given
-told-same : (first : First) (t u : Token) (c d : Cursor) → Told first u → got u c ≡ got t d → Told first t
-told-same first t u c d told e =
-    let both : ◌≡◌ {A = Token × Cursor} (u, c) (t, d) = cc e in
-    subst (λ t. Told first t) (ap (λ (z : Token × Cursor). z.0) both) told
-
 bare : (first : First) (t : Token) → is_mark t ≡ is_punctuation first → is_naming t ≡ false → Told first t
 bare first t mark none = record { mark = mark; naming = λ e. absurd (false≢true (sym none ∙ e)) }
 
-keyword-told : (t : Token) (c d : Cursor) (k : Option Keyword) (word : List ℕ) → (tokens.by_keyword k word >>= (λ t. got t c)) ≡ got t d → Told a_word t
-keyword-told t c d (Some (a_null (Some type))) word e = told-same a_word t (plain (value.null type)) c d (bare a_word _ refl refl) e
-keyword-told t c d (Some (a_null None)) word e = absurd (cc e)
-keyword-told t c d (Some (a_bool truth)) word e = told-same a_word t (plain (value.bool truth)) c d (bare a_word _ refl refl) e
-keyword-told t c d (Some a_nan) word e = told-same a_word t no_number c d (bare a_word _ refl refl) e
-keyword-told t c d None word e = told-same a_word t (name false (if is_id word then value.Id (id_of word) else value.Text word)) c d (record { mark = refl; naming = λ _. refl }) e
+names : (first : First) (t : Token) → is_mark t ≡ is_punctuation first → names_field first ≡ true → Told first t
+names first t mark may = record { mark = mark; naming = λ _. may }
 
-word-told : (t : Token) (c d : Cursor) (word : List ℕ) → (word_token word >>= (λ t. got t c)) ≡ got t d → Told a_word t
+word-told : (c : Cursor) (word : List ℕ) → IfOk (word_token word >>= (λ t. got t c)) (λ x. Told a_word x.0)
 unfolding word_token
-word-told t c d word e = keyword-told t c d (keyword word) word e
+word-told c word = by (keyword word)
+  where
+    by : (k : Option Keyword) → IfOk (tokens.by_keyword k word >>= (λ t. got t c)) (λ x. Told a_word x.0)
+    by None = names a_word _ refl refl
+    by (Some (a_null None)) = tt
+    by (Some (a_null (Some type))) = bare a_word _ refl refl
+    by k = bare a_word _ refl refl
 
-run-told : (t : Token) (c d : Cursor) (o : Result (Scalar SymbolAt) Reason) → ((o >>= (λ v. Ok (plain v))) >>= (λ t. got t c)) ≡ got t d → Told a_run t
-run-told t c d (Ok v) e = told-same a_run t (plain v) c d (bare a_run _ refl refl) e
-run-told t c d (Err reason) e = absurd (cc e)
+run-told : (c : Cursor) (o : Result (Scalar SymbolAt) Reason) → IfOk ((o >>= (λ v. Ok (plain v))) >>= (λ t. got t c)) (λ x. Told a_run x.0)
+run-told c (Ok v) = bare a_run _ refl refl
+run-told c (Err reason) = tt
+
+if-told : (limit : Option ℕ) (first : First) (c : Cursor) → IfOk (token_of limit first c) (λ x. Told first x.0)
+unfolding token_of
+if-told limit a_run c = if-any _ (counted limit (bytes_of in_run c.rest) c) _ (λ r. run-told r.1 (scalar_of_run r.0))
+if-told limit a_word c = if-any _ (counted limit (word_of c.rest) c) _ (λ r. word-told r.1 r.0)
+if-told limit a_quoted c = if-any _ (text_at quoted.symbol_quote limit (skip 1 c)) _ (λ r. names a_quoted _ refl refl)
+if-told limit a_short c = if-any _ (text_at (quoted.short_quote false) limit (skip 1 c)) _ (λ r. names a_short _ refl refl)
+if-told limit a_long c = if-any _ (text_at (quoted.long_quote false) limit (skip 3 c)) _ (λ r. names a_long _ refl refl)
+if-told limit a_lob c = if-any _ (lob_at limit (skip 2 c)) _ (λ r. bare a_lob _ refl refl)
+if-told limit an_operator c = if-any _ (counted limit (bytes_of in_operator c.rest) c) _ (λ r. bare an_operator _ refl refl)
+if-told limit an_infinity c = if-passed _ (passes limit 4) ScalarLimit _ (λ _. bare an_infinity _ refl refl)
+if-told limit no_token c = tt
+if-told limit mark c = bare mark _ refl refl
 
 -- a token is of the kind that its first bytes told
 pub token-told : (limit : Option ℕ) (first : First) (b d : Cursor) (t : Token) → token_of limit first b ≡ got t d → Told first t
-unfolding token_of
-token-told limit a_run b d t e = told-by a_run t d (counted limit (bytes_of in_run b.rest) b) _ (λ r e. run-told t r.1 d (scalar_of_run r.0) e) e
-token-told limit a_word b d t e = told-by a_word t d (counted limit (word_of b.rest) b) _ (λ r e. word-told t r.1 d r.0 e) e
-token-told limit a_quoted b d t e =
-    told-by a_quoted t d (text_at quoted.symbol_quote limit (skip 1 b)) _ (λ r e. told-same a_quoted t (name true (value.Text r.0)) r.1 d (record { mark = refl; naming = λ _. refl }) e) e
-token-told limit a_short b d t e =
-    told-by a_short t d (text_at (quoted.short_quote false) limit (skip 1 b)) _ (λ r e. told-same a_short t (text r.0) r.1 d (record { mark = refl; naming = λ _. refl }) e) e
-token-told limit a_long b d t e =
-    told-by a_long t d (text_at (quoted.long_quote false) limit (skip 3 b)) _ (λ r e. told-same a_long t (text r.0) r.1 d (record { mark = refl; naming = λ _. refl }) e) e
-token-told limit a_lob b d t e = told-by a_lob t d (lob_at limit (skip 2 b)) _ (λ r e. told-same a_lob t (plain r.0) r.1 d (bare a_lob _ refl refl) e) e
-token-told limit an_operator b d t e =
-    told-by an_operator t d (counted limit (bytes_of in_operator b.rest) b) _ (λ r e. told-same an_operator t (operator r.0) r.1 d (bare an_operator _ refl refl) e) e
-token-told limit an_infinity b d t e = infinity (passes limit 4) e
-  where
-    infinity : (long : Bool) → (refuse long ScalarLimit >> got no_number (skip 4 b)) ≡ got t d → Told an_infinity t
-    infinity true e = absurd (cc e)
-    infinity false e = told-same an_infinity t no_number (skip 4 b) d (bare an_infinity _ refl refl) e
-token-told limit (a_begin k) b d t e = told-same (a_begin k) t (begin k) (skip 1 b) d (bare (a_begin k) _ refl refl) e
-token-told limit (an_end k) b d t e = told-same (an_end k) t (end k) (skip 1 b) d (bare (an_end k) _ refl refl) e
-token-told limit a_comma b d t e = told-same a_comma t comma (skip 1 b) d (bare a_comma _ refl refl) e
-token-told limit a_colon b d t e = told-same a_colon t colon (skip 1 b) d (bare a_colon _ refl refl) e
-token-told limit two_colons b d t e = told-same two_colons t colons (skip 2 b) d (bare two_colons _ refl refl) e
-token-told limit no_token b d t e = absurd (cc e)
+token-told limit first b d t e = IfOk-at_ok (λ (x : Token × Cursor). Told first x.0) e (if-told limit first b)
 
 -- ---- where a token stands
 
@@ -120,26 +95,21 @@ pub record Stands (sexp : Bool) (c : Cursor) (t : Token) (p : ℕ) (d : Cursor) 
   pub token : token_of None (first_at sexp prefix.rest) prefix ≡ got t d
   pub place : prefix.place ≡ p
 
-tok-cut : (sexp : Bool) (c b d : Cursor) (t : Token) (p : ℕ) → blanks c ≡ Ok b → (o : Result (Token × Cursor) Reason) → token_of None (first_at sexp b.rest) b ≡ o
-    → (part b.place o >>= (λ t. Ok (tokens.cut t.0 b.place t.1))) ≡ Ok (tokens.cut t p d) → Stands sexp c t p d
-tok-cut sexp c b d t p blank (Ok u) token e =
-    let same : tokens.cut u.0 b.place u.1 ≡ tokens.cut t p d = cc e in
-    let is : u.0 ≡ t = ap (λ (z : tokens.Cut). z.token) same in
-    let behind : u.1 ≡ d = ap (λ (z : tokens.Cut). z.behind) same in
-    record { prefix = b; blank = blank; token = token ∙ ap Ok (pair u t d is behind); place = ap (λ (z : tokens.Cut). z.first) same }
-  where
-    pair : (u : Token × Cursor) (t : Token) (d : Cursor) → u.0 ≡ t → u.1 ≡ d → u ≡ (t, d)
-    pair u t d is behind = rw (← is, ← behind) refl
-tok-cut sexp c b d t p blank (Err reason) token e = absurd (cc e)
-
-tok-blank : (sexp : Bool) (c d : Cursor) (t : Token) (p : ℕ) (o : Placed Cursor) → blanks c ≡ o
-    → (o >>= (λ b. part b.place (token_at None sexp b) >>= (λ t. Ok (tokens.cut t.0 b.place t.1)))) ≡ Ok (tokens.cut t p d) → Stands sexp c t p d
-tok-blank sexp c d t p (Ok b) blank e = tok-cut sexp c b d t p blank (token_at None sexp b) refl e
-tok-blank sexp c d t p (Err fault) blank e = absurd (cc e)
-
 pub tok-stands : (sexp : Bool) (c d : Cursor) (t : Token) (p : ℕ) → Tok sexp c t p d → Stands sexp c t p d
 unfolding next_token
-tok-stands sexp c d t p e = tok-blank sexp c d t p (blanks c) refl e
+tok-stands sexp c d t p e =
+    let before = went (blanks c) _ _ e in
+    let b : Cursor = before.value in
+    let there = went (part b.place (token_at None sexp b)) _ _ before.second in
+    let u : Token × Cursor = there.value in
+    let same : tokens.cut u.0 b.place u.1 ≡ tokens.cut t p d = cc there.second in
+    let is : u ≡ (t, d) = ap (λ (z : tokens.Cut). (z.token, z.behind)) same in
+    record {
+      prefix = b;
+      blank = before.first;
+      token = part-known b.place (token_at None sexp b) u there.first ∙ ap Ok is;
+      place = ap (λ (z : tokens.Cut). z.first) same;
+    }
 
 -- ---- under a limit
 
@@ -184,77 +154,86 @@ unfolding may_come
 naming-suits t bare naming first told = ap (λ b. b || names_field first) (sym told.mark ∙ bare) ∙ told.naming naming
 
 module _ (limits : Limits) (kinds : List Kind) (top : ℕ) (wants : Wants) (c : Cursor) (t : Token) (d : Cursor) (suits : Suits wants t) (b : Cursor) where
-  rest-token : (rest : List ℕ) → b.rest ≡ rest → token_of (Some limits.scalar) (first_at (in_sexp (innermost kinds)) b.rest) b ≡ got t d
-      → reading.part_behind limits (state kinds top wants c) b rest ≡ take limits kinds top wants b.place t d
+  rest-token : (rest : List ℕ) → b.rest ≡ rest → token_of None (first_at (in_sexp (innermost kinds)) b.rest) b ≡ got t d
+      → reading.part_behind limits (state kinds top wants c) b rest
+      ≡ (part b.place (if nat_lt limits.scalar (counts t b.place d.place) then Err ScalarLimit else got t d) >>= (λ t. take limits kinds top wants b.place t.0 t.1))
   unfolding first_at token_of
   rest-token [] is e =
-      let cut : token_of (Some limits.scalar) (first_at (in_sexp (innermost kinds)) []) b ≡ got t d = subst (λ rest. token_of (Some limits.scalar) (first_at (in_sexp (innermost kinds)) rest) b ≡ got t d) is e in
+      let cut : token_of None (first_at (in_sexp (innermost kinds)) []) b ≡ got t d = subst (λ rest. token_of None (first_at (in_sexp (innermost kinds)) rest) b ≡ got t d) is e in
       absurd (cc cut)
   rest-token (x ∷ rest) is e =
       let first : First = first_at (in_sexp (innermost kinds)) (x ∷ rest) in
-      let e' : token_of (Some limits.scalar) first b ≡ got t d = subst (λ rest. token_of (Some limits.scalar) (first_at (in_sexp (innermost kinds)) rest) b ≡ got t d) is e in
-      let may : may_come wants first ≡ true = suits first (token-told (Some limits.scalar) first b d t e') in
+      let e' : token_of None first b ≡ got t d = subst (λ rest. token_of None (first_at (in_sexp (innermost kinds)) rest) b ≡ got t d) is e in
+      let may : may_come wants first ≡ true = suits first (token-told None first b d t e') in
       ap (λ m. reading.next_part limits (state kinds top wants c) b first m) may
-      ∙ ap (λ (o : Result (Token × Cursor) Reason). part b.place o >>= (λ t. take limits kinds top wants b.place t.0 t.1)) e'
+      ∙ ap (λ (o : Result (Token × Cursor) Reason). part b.place o >>= (λ t. take limits kinds top wants b.place t.0 t.1)) (token-exact limits.scalar first b t d e')
+
+-- where it counts no more than the limit, and else the reading stops
+step-by : (limits : Limits) (kinds : List Kind) (top : ℕ) (wants : Wants) (c : Cursor) (t : Token) (p : ℕ) (d : Cursor) → Suits wants t → Tok (in_sexp (innermost kinds)) c t p d
+    → step limits (state kinds top wants c) ≡ (if nat_lt limits.scalar (counts t p d.place) then Stops ScalarLimit p else step_of (take limits kinds top wants p t d))
+unfolding step part_at
+step-by limits kinds top wants c t p d suits tok =
+    let stands = tok-stands (in_sexp (innermost kinds)) c d t p tok in
+    let b : Cursor = stands.prefix in
+    ap step_of (ap (λ o. o >>= (λ b. reading.part_behind limits (state kinds top wants c) b b.rest)) stands.blank ∙ rest-token limits kinds top wants c t d suits b b.rest refl stands.token)
+    ∙ placed b.place (nat_lt limits.scalar (counts t b.place d.place))
+    ∙ ap (λ p. if nat_lt limits.scalar (counts t p d.place) then Stops ScalarLimit p else step_of (take limits kinds top wants p t d)) stands.place
+  where
+    placed : (p : ℕ) (long : Bool) → step_of (part p (if long then Err ScalarLimit else got t d) >>= (λ t. take limits kinds top wants p t.0 t.1))
+        ≡ (if long then Stops ScalarLimit p else step_of (take limits kinds top wants p t d))
+    placed p true = refl
+    placed p false = refl
 
 pub step-token : (limits : Limits) (kinds : List Kind) (top : ℕ) (wants : Wants) (c : Cursor) (t : Token) (p : ℕ) (d : Cursor) → Suits wants t
     → TokenWithin limits t p d → Tok (in_sexp (innermost kinds)) c t p d
     → step limits (state kinds top wants c) ≡ step_of (take limits kinds top wants p t d)
-unfolding step part_at
 step-token limits kinds top wants c t p d suits within tok =
-    let stands = tok-stands (in_sexp (innermost kinds)) c d t p tok in
-    let b : Cursor = stands.prefix in
-    let token = token-within limits.scalar (first_at (in_sexp (innermost kinds)) b.rest) b t d stands.token (subst (λ p. TokenWithin limits t p d) (sym stands.place) within) in
-    ap step_of (ap (λ o. o >>= (λ b. reading.part_behind limits (state kinds top wants c) b b.rest)) stands.blank
-    ∙ rest-token limits kinds top wants c t d suits b b.rest refl token
-    ∙ ap (λ p. take limits kinds top wants p t d) stands.place)
+    step-by limits kinds top wants c t p d suits tok
+    ∙ ap (λ (long : Bool). if long then Stops ScalarLimit p else step_of (take limits kinds top wants p t d)) (le-ltb limits.scalar (counts t p d.place) within)
+
+-- a token that counts more than the limit is refused
+pub token-stops : (limits : Limits) (kinds : List Kind) (top : ℕ) (wants : Wants) (c : Cursor) (t : Token) (p : ℕ) (d : Cursor) → Suits wants t
+    → Tok (in_sexp (innermost kinds)) c t p d → limits.scalar < counts t p d.place → step limits (state kinds top wants c) ≡ Stops ScalarLimit p
+token-stops limits kinds top wants c t p d suits tok over =
+    step-by limits kinds top wants c t p d suits tok
+    ∙ ap (λ (long : Bool). if long then Stops ScalarLimit p else step_of (take limits kinds top wants p t d)) (lt-ltb limits.scalar (counts t p d.place) over)
 
 -- ---- colons
 
-given-same : (u t : Token) (c d : Cursor) → got u c ≡ got t d → u ≡ t
-given-same u t c d e =
-    let both : ◌≡◌ {A = Token × Cursor} (u, c) (t, d) = cc e in
-    ap (λ (z : Token × Cursor). z.0) both
+-- the first bytes of a mark, and how many it has
+abbrev first_of : Token → First
+first_of (begin k) = a_begin k
+first_of (end k) = an_end k
+first_of comma = a_comma
+first_of colon = a_colon
+first_of colons = two_colons
+first_of t = no_token
 
-one-colon : (limit : Option ℕ) (first : First) (b d : Cursor) → token_of limit first b ≡ got colon d → is_punctuation first ≡ true → (first ≡ a_colon) × (d ≡ skip 1 b)
-unfolding token_of
-one-colon limit a_colon b d e is = let both : ◌≡◌ {A = Token × Cursor} (colon, skip 1 b) (colon, d) = cc e in (refl, sym (ap (λ (z : Token × Cursor). z.1) both))
-one-colon limit (a_begin k) b d e is = absurd (cc (given-same (begin k) colon (skip 1 b) d e))
-one-colon limit (an_end k) b d e is = absurd (cc (given-same (end k) colon (skip 1 b) d e))
-one-colon limit a_comma b d e is = absurd (cc (given-same comma colon (skip 1 b) d e))
-one-colon limit two_colons b d e is = absurd (cc (given-same colons colon (skip 2 b) d e))
-one-colon limit no_token b d e is = absurd (cc e)
-one-colon limit a_run b d e is = absurd (false≢true is)
-one-colon limit a_word b d e is = absurd (false≢true is)
-one-colon limit a_quoted b d e is = absurd (false≢true is)
-one-colon limit a_short b d e is = absurd (false≢true is)
-one-colon limit a_long b d e is = absurd (false≢true is)
-one-colon limit a_lob b d e is = absurd (false≢true is)
-one-colon limit an_operator b d e is = absurd (false≢true is)
-one-colon limit an_infinity b d e is = absurd (false≢true is)
+abbrev width : Token → ℕ
+width colons = 2
+width t = 1
 
-both-colons : (limit : Option ℕ) (first : First) (b d : Cursor) → token_of limit first b ≡ got colons d → is_punctuation first ≡ true → (first ≡ two_colons) × (d ≡ skip 2 b)
+mark-same : (u t : Token) (b d : Cursor) → got u (skip (width u) b) ≡ got t d → (first_of u ≡ first_of t) × (d ≡ skip (width t) b)
+mark-same u t b d e =
+    let both : ◌≡◌ {A = Token × Cursor} (u, skip (width u) b) (t, d) = cc e in
+    let is : u ≡ t = ap (λ (z : Token × Cursor). z.0) both in
+    (ap first_of is, sym (ap (λ (z : Token × Cursor). z.1) both) ∙ ap (λ t. skip (width t) b) is)
+
+marked : (limit : Option ℕ) (first : First) (b d : Cursor) (t : Token) → token_of limit first b ≡ got t d → is_punctuation first ≡ true → (first ≡ first_of t) × (d ≡ skip (width t) b)
 unfolding token_of
-both-colons limit two_colons b d e is = let both : ◌≡◌ {A = Token × Cursor} (colons, skip 2 b) (colons, d) = cc e in (refl, sym (ap (λ (z : Token × Cursor). z.1) both))
-both-colons limit a_colon b d e is = absurd (cc (given-same colon colons (skip 1 b) d e))
-both-colons limit (a_begin k) b d e is = absurd (cc (given-same (begin k) colons (skip 1 b) d e))
-both-colons limit (an_end k) b d e is = absurd (cc (given-same (end k) colons (skip 1 b) d e))
-both-colons limit a_comma b d e is = absurd (cc (given-same comma colons (skip 1 b) d e))
-both-colons limit no_token b d e is = absurd (cc e)
-both-colons limit a_run b d e is = absurd (false≢true is)
-both-colons limit a_word b d e is = absurd (false≢true is)
-both-colons limit a_quoted b d e is = absurd (false≢true is)
-both-colons limit a_short b d e is = absurd (false≢true is)
-both-colons limit a_long b d e is = absurd (false≢true is)
-both-colons limit a_lob b d e is = absurd (false≢true is)
-both-colons limit an_operator b d e is = absurd (false≢true is)
-both-colons limit an_infinity b d e is = absurd (false≢true is)
+marked limit (a_begin k) b d t e is = mark-same (begin k) t b d e
+marked limit (an_end k) b d t e is = mark-same (end k) t b d e
+marked limit a_comma b d t e is = mark-same comma t b d e
+marked limit a_colon b d t e is = mark-same colon t b d e
+marked limit two_colons b d t e is = mark-same colons t b d e
+marked limit no_token b d t e is = absurd (cc e)
+marked limit first b d t e is = absurd (false≢true is)
 
 pub colons-stand : (sexp : Bool) (c d : Cursor) (p : ℕ) → Tok sexp c colons p d → reading.behind_colons sexp c ≡ Some d
 colons-stand sexp c d p tok =
     let s = tok-stands sexp c d colons p tok in
     let told = token-told None (first_at sexp s.prefix.rest) s.prefix d colons s.token in
-    let are = both-colons None (first_at sexp s.prefix.rest) s.prefix d s.token (sym told.mark) in
+    let are = marked None (first_at sexp s.prefix.rest) s.prefix d colons s.token (sym told.mark) in
     ap (λ o. reading.colons_behind sexp o) s.blank ∙ ap (λ first. reading.colons_at first s.prefix) are.0 ∙ ap Some (sym are.1)
 
 colon-from : (kinds : List Kind) (top : ℕ) (a : SymbolAt) (b : Cursor) (rest : List ℕ) → first_at false rest ≡ a_colon
@@ -269,7 +248,7 @@ pub colon-stands : (c d : Cursor) (p : ℕ) (kinds : List Kind) (top : ℕ) (a :
 colon-stands c d p kinds top a tok =
     let s = tok-stands false c d colon p tok in
     let told = token-told None (first_at false s.prefix.rest) s.prefix d colon s.token in
-    let is = one-colon None (first_at false s.prefix.rest) s.prefix d s.token (sym told.mark) in
+    let is = marked None (first_at false s.prefix.rest) s.prefix d colon s.token (sym told.mark) in
     ap (λ o. o >>= (λ b. reading.colon_from kinds top a b b.rest)) s.blank
     ∙ colon-from kinds top a s.prefix s.prefix.rest is.0
     ∙ ap (λ d. Ok (reading.onward_step kinds top (a_value (Some a) []) d)) (sym is.1)

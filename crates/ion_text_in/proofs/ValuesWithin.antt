@@ -1,5 +1,5 @@
--- Where limits allow what stands in a text, its values are within them.
-use Rattle.std.proofs.Common.{◌≡◌, ℕ, suc, ◌+◌, ◌≤◌, arith, Bool, true, false, if◌then◌else◌, List, [], ◌∷◌, ◌++◌, length, Option, None, Some, Result, Ok, Err, refl, sym, subst}
+-- What a stream has at top level is raw, and where limits allow what stands in it, within them.
+use Rattle.std.proofs.Common.{◌≡◌, ℕ, suc, ◌+◌, ◌*◌, ◌≤◌, arith, Bool, true, false, if◌then◌else◌, List, [], ◌∷◌, ◌++◌, length, Option, None, Some, is_some, Result, Ok, Err, refl, sym, subst}
 use Rattle.std.specs.List.{AllByRecursion}
 use Rattle.std.specs.Result.{IfOk}
 use Rattle.std.proofs.lemmas.Result.{IfOk-at_ok}
@@ -10,37 +10,38 @@ use Rattle.ion_meter.specs.Sources.{Cursor, skip}
 use Rattle.ion_value.specs.declared.decimal.Decimal.{Decimal}
 use Rattle.ion_value.specs.declared.int.Int.{Int}
 use Rattle.ion_value.specs.declared.ion_type.Kind.{Kind}
+use Rattle.ion_value.specs.declared.ion_type.Kind.TheVariants as kind
 use Rattle.ion_value.specs.declared.timestamp.Timestamp.{Timestamp}
 use Rattle.ion_value.specs.Decimal.{decimal_of_text}
-use Rattle.ion_value.specs.Digits.{first_is}
 use Rattle.ion_value.specs.Int.{int_of_text}
-use Rattle.ion_value.specs.Name.{Keyword, a_null, a_bool, a_nan, begins_with, keyword, is_id, id_of}
+use Rattle.ion_value.specs.Name.{Keyword, a_null, keyword, is_id, id_of}
 use Rattle.ion_value.specs.Parts.{◌>>=◌}
 use Rattle.ion_value.specs.Scalar.{scalar_of_run, scalar_of_readings}
+use Rattle.ion_value.specs.Standing.{in_struct}
 use Rattle.ion_value.specs.Timestamp.{timestamp_of_text}
 use Rattle.ion_value.specs.Value as value
 use Rattle.ion_value.specs.Value.{Symbol, SymbolAt, Scalar, Value, Members, scalar, Top, version, tree}
-use Rattle.ion_value.specs.Writable.{field_symbols, scalar_symbols, value_symbols, members_symbols}
-use Rattle.ion_text_in.specs.Blanks.{is_white}
+use Rattle.ion_value.specs.Writable.{field_symbols, scalar_symbols, value_symbols, members_symbols, IsWritable, AreWritable, ValueHasBytes, MembersHaveBytes, SymbolIsText, IsRaw}
 use Rattle.ion_text_in.specs.Grammar.{Tok, Annotations, Field, Txt, Inside, Tops}
-use Rattle.ion_text_in.specs.Lob.{blob_at, clob_at, clob_closed_at, groups_for, lob_at}
+use Rattle.ion_text_in.specs.Laws.{StreamsAreRaw}
+use Rattle.ion_text_in.specs.Lob.{lob_at}
 use Rattle.ion_text_in.specs.Meaning.{counts}
-use Rattle.ion_text_in.specs.Places.{behind_run}
 use Rattle.ion_text_in.specs.Positions.{at, first_place}
 use Rattle.ion_text_in.specs.Quoted.{long_quote, short_quote, symbol_quote, text_at}
 use Rattle.ion_text_in.specs.ReadWithin.{SymbolIsWithin, ScalarIsWithin, AnnotationsAreWithin, ValueIsWithin, MembersAreWithin, TopIsWithin, WhatIsReadIsWithin, ValuesReadAreWithin}
-use Rattle.ion_text_in.specs.Token.{First, a_run, a_word, a_quoted, a_short, a_long, a_lob, an_operator, an_infinity, a_begin, an_end, a_comma, a_colon, two_colons, no_token, Token, plain, name, text, operator, no_number, begin, end, comma, colon, colons, first_at, by_keyword, bytes_of, in_operator, in_run, run_token, token_of, word_of, word_token}
-use Rattle.ion_text_in.specs.Within.{TokenWithin, NamesWithin, FieldWithin, TxtWithin, InsideWithin, TopsWithin}
-use Rattle.ion_text_in.proofs.RawStreams.{all-append}
+use Rattle.ion_text_in.specs.Token.{First, a_run, a_word, a_quoted, a_short, a_long, a_lob, an_operator, an_infinity, no_token, Token, plain, name, text, operator, first_at, by_keyword, bytes_of, in_operator, in_run, run_token, token_of, word_of, word_token}
+use Rattle.ion_text_in.specs.Within.{TokenWithin, AnnotationsWithin, NamesWithin, FieldWithin, TxtWithin, InsideWithin, TopsWithin}
+use Rattle.ion_text_in.proofs.Advancing.{tops-allowed}
+use Rattle.ion_text_in.proofs.LobBytes.{all-append}
 use Rattle.ion_text_in.proofs.RawTokens.{tokens-are_raw}
+use Rattle.ion_text_in.proofs.Shrinking.{Any, LobOf, any-lob}
 use Rattle.ion_text_in.proofs.TokenLimits.{CountsAll, run_token-counts, word_token-counts}
 use Rattle.ion_text_in.proofs.Tokens.{tok-stands}
-use Rattle.ion_text_in.proofs.WentWell.{if-then, if-either}
+use Rattle.ion_text_in.proofs.WentWell.{if-then, if-any}
 
--- what went well, went well
-any-ok : {A E : Type 0} (o : Result A E) → IfOk o (λ x. Unit {0})
-any-ok (Ok x) = tt
-any-ok (Err reason) = tt
+all-more : {A : Type 0} (P Q : A → Type 0) → ((x : A) → P x → Q x) → (xs : List A) → AllByRecursion P xs → AllByRecursion Q xs
+all-more P Q more [] h = tt
+all-more P Q more (x ∷ xs) h = (more x h.0, all-more P Q more xs h.1)
 
 module _ (limits : Limits) where
   -- ---- tokens
@@ -51,21 +52,14 @@ module _ (limits : Limits) where
   Means (name quoted symbol) = SymbolIsWithin limits symbol
   Means (text bytes) = length bytes ≤ limits.scalar
   Means (operator bytes) = length bytes ≤ limits.scalar
-  Means no_number = Unit {0}
-  Means (begin kind) = Unit {0}
-  Means (end kind) = Unit {0}
-  Means comma = Unit {0}
-  Means colon = Unit {0}
-  Means colons = Unit {0}
+  Means t = Unit {0}
 
   readings-within : (run : List ℕ) (i : Result Int Reason) (d : Result Decimal Reason) (t : Result Timestamp Reason) → decimal_of_text run ≡ d → timestamp_of_text run ≡ t
       → length run ≤ limits.scalar → IfOk (scalar_of_readings {S = SymbolAt} i d t) (ScalarIsWithin limits)
   readings-within run (Ok i) d t e f le = tt
   readings-within run (Err BadToken) (Ok d) t e f le = (run, e, le)
   readings-within run (Err BadToken) (Err BadToken) (Ok t) e f le = (run, f, le)
-  readings-within run (Err BadToken) (Err BadToken) (Err reason) e f le = tt
-  readings-within run (Err BadToken) (Err reason) t e f le = tt
-  readings-within run (Err reason) d t e f le = tt
+  readings-within run i d t e f le = tt
 
   run-within : (run : List ℕ) → length run ≤ limits.scalar → IfOk (run_token run) Means
   unfolding scalar_of_run
@@ -74,15 +68,14 @@ module _ (limits : Limits) where
       (readings-within run (int_of_text run) (decimal_of_text run) (timestamp_of_text run) refl refl le) (λ v h. h)
 
   keyword-within : (k : Option Keyword) (word : List ℕ) → length word ≤ limits.scalar → IfOk (by_keyword k word) Means
-  keyword-within (Some (a_null (Some n))) word le = tt
-  keyword-within (Some (a_null None)) word le = tt
-  keyword-within (Some (a_bool truth)) word le = tt
-  keyword-within (Some a_nan) word le = tt
   keyword-within None word le = by (is_id word)
     where
       by : (b : Bool) → Means (name false (if b then value.Id (id_of word) else value.Text word))
       by true = tt
       by false = le
+  keyword-within (Some (a_null None)) word le = tt
+  keyword-within (Some (a_null (Some type))) word le = tt
+  keyword-within k word le = tt
 
   word-within : (word : List ℕ) → length word ≤ limits.scalar → IfOk (word_token word) Means
   unfolding word_token
@@ -101,41 +94,23 @@ module _ (limits : Limits) where
       by (Ok t) all within = λ le. within (omega (arith, le, all c.place (c.place + length bytes)))
       by (Err reason) all within = tt
 
-  -- the scalar of a lob
-  abbrev LobCounted : ℕ → Scalar SymbolAt × Cursor → Type 0
-  LobCounted p x = counts (plain x.0) p x.1.place ≤ limits.scalar → ScalarIsWithin limits x.0
-
-  clob-within : (p : ℕ) (is_long : Bool) (c : Cursor) → IfOk (clob_at None is_long c) (LobCounted p)
-  clob-within p is_long c =
-      if-then (λ t. Unit {0}) _ (text_at (if is_long then long_quote true else short_quote true) None c) _ (any-ok _)
-      (λ t h. if-then (λ d. Unit {0}) _ (clob_closed_at is_long (behind_run (first_is is_white) t.1)) _ (any-ok _) (λ d k le. le))
-
-  blob-within : (p : ℕ) (c : Cursor) → IfOk (blob_at None c) (LobCounted p)
-  blob-within p c = if-then (λ b. Unit {0}) _ (groups_for (suc (length c.rest)) None 0 false c) _ (any-ok _) (λ b h le. le)
-
-  lob-within : (p : ℕ) (c : Cursor) → IfOk (lob_at None c) (LobCounted p)
-  unfolding lob_at
-  lob-within p c =
-      let d : Cursor = behind_run (first_is is_white) c in
-      if-either _ (begins_with (34 ∷ []) d.rest) _ _ (clob-within p false (skip 1 d))
-      (if-either _ (begins_with (39 ∷ 39 ∷ 39 ∷ []) d.rest) _ _ (clob-within p true (skip 3 d)) (blob-within p d))
+  lob-within : (p : ℕ) (c d : Cursor) (v : Scalar SymbolAt) → LobOf Any v → counts (plain v) p d.place ≤ limits.scalar → ScalarIsWithin limits v
+  lob-within p c d (value.clob bytes) is le = le
+  lob-within p c d (value.blob bytes) is le = le
+  lob-within p c d v is le = absurd is
 
   token-means : (f : First) (c : Cursor) → IfOk (token_of None f c) (Counted c)
   unfolding token_of
   token-means a_run c = counted-within (bytes_of in_run c.rest) c run_token (run_token-counts (bytes_of in_run c.rest)) (run-within (bytes_of in_run c.rest))
   token-means a_word c = counted-within (word_of c.rest) c word_token (word_token-counts (word_of c.rest)) (word-within (word_of c.rest))
-  token-means a_quoted c = if-then (λ t. Unit {0}) _ (text_at symbol_quote None (skip 1 c)) _ (any-ok _) (λ t h le. le)
-  token-means a_short c = if-then (λ t. Unit {0}) _ (text_at (short_quote false) None (skip 1 c)) _ (any-ok _) (λ t h le. le)
-  token-means a_long c = if-then (λ t. Unit {0}) _ (text_at (long_quote false) None (skip 3 c)) _ (any-ok _) (λ t h le. le)
-  token-means a_lob c = if-then (LobCounted c.place) _ (lob_at None (skip 2 c)) _ (lob-within c.place (skip 2 c)) (λ l h le. h le)
+  token-means a_quoted c = if-any _ (text_at symbol_quote None (skip 1 c)) _ (λ t le. le)
+  token-means a_short c = if-any _ (text_at (short_quote false) None (skip 1 c)) _ (λ t le. le)
+  token-means a_long c = if-any _ (text_at (long_quote false) None (skip 3 c)) _ (λ t le. le)
+  token-means a_lob c = if-then _ _ (lob_at None (skip 2 c)) _ (any-lob c.place None (skip 2 c)) (λ l h le. lob-within c.place c l.1 l.0 h.1 le)
   token-means an_operator c = counted-within (bytes_of in_operator c.rest) c (λ bytes. Ok (operator bytes)) (λ p q. refl) (λ le. le)
   token-means an_infinity c = λ le. tt
-  token-means (a_begin k) c = λ le. tt
-  token-means (an_end k) c = λ le. tt
-  token-means a_comma c = λ le. tt
-  token-means a_colon c = λ le. tt
-  token-means two_colons c = λ le. tt
   token-means no_token c = tt
+  token-means mark c = λ le. tt
 
   tok-means : (sexp : Bool) (c d : Cursor) (t : Token) (p : ℕ) → Tok sexp c t p d → TokenWithin limits t p d → Means t
   tok-means sexp c d t p tok within =
@@ -144,88 +119,121 @@ module _ (limits : Limits) where
 
   -- ---- symbols
 
-  abbrev IsWithin : SymbolAt → Type 0
-  IsWithin s = SymbolIsWithin limits s.symbol
+  abbrev Holds : SymbolAt → Type 0
+  Holds s = SymbolIsWithin limits s.symbol × SymbolIsText s.symbol
 
-  abbrev AreWithin : List SymbolAt → Type 0
-  AreWithin symbols = AllByRecursion IsWithin symbols
+  abbrev AreHeld : List SymbolAt → Type 0
+  AreHeld symbols = AllByRecursion Holds symbols
 
-  symbols-append : (xs ys : List SymbolAt) → AreWithin xs → AreWithin ys → AreWithin (xs ++ ys)
-  symbols-append xs ys h k = all-append IsWithin xs ys h k
+  names-hold : {sexp : Bool} {c d : Cursor} {annotations : List SymbolAt} (ns : Annotations sexp c annotations d) → NamesWithin limits ns → AreHeld annotations
+  names-hold Annotations.nothing within = tt
+  names-hold (Annotations.then {annotations = annotations} {p = p} {symbol = symbol} before tok after) within =
+      all-append Holds annotations (at symbol p ∷ []) (names-hold before within.0) ((tok-means _ _ _ _ _ tok within.1, tokens-are_raw _ _ _ _ _ tok), tt)
 
-  names-within : {sexp : Bool} {c d : Cursor} {annotations : List SymbolAt} (ns : Annotations sexp c annotations d) → NamesWithin limits ns → AreWithin annotations
-  names-within Annotations.nothing within = tt
-  names-within (Annotations.then {annotations = annotations} {p = p} {symbol = symbol} before tok after) within =
-      symbols-append annotations (at symbol p ∷ []) (names-within before within.0) (tok-means _ _ _ _ _ tok within.1, tt)
+  -- a field stands in a struct alone
+  record FieldHolds (k : Option Kind) (field : Option SymbolAt) : Type 0 where
+    where_it_stands : (j : Kind) → k ≡ Some j → is_some field ≡ in_struct (j ∷ [])
+    symbols : AreHeld (field_symbols field)
 
-  field-within : {k : Option Kind} {c d : Cursor} {field : Option SymbolAt} (own : Field k c field d) → FieldWithin limits own → AreWithin (field_symbols field)
-  field-within Field.at_top within = tt
-  field-within Field.in_list within = tt
-  field-within Field.in_a_sexp within = tt
-  field-within (Field.named tok after) within = (tok-means _ _ _ _ _ tok within, tt)
-  field-within (Field.in_quotes tok after) within = (tok-means _ _ _ _ _ tok within, tt)
+  stands-in : (k : Kind) (there : Bool) → there ≡ in_struct (k ∷ []) → (j : Kind) → Some k ≡ Some j → there ≡ in_struct (j ∷ [])
+  stands-in k there is j e = let same : k ≡ j = cc e in subst (λ (i : Kind). there ≡ in_struct (i ∷ [])) same is
+
+  field-holds : {k : Option Kind} {c d : Cursor} {field : Option SymbolAt} (own : Field k c field d) → FieldWithin limits own → FieldHolds k field
+  field-holds Field.at_top within = record { where_it_stands = λ j e. absurd (cc e); symbols = tt }
+  field-holds Field.in_list within = record { where_it_stands = stands-in kind.List false refl; symbols = tt }
+  field-holds Field.in_a_sexp within = record { where_it_stands = stands-in kind.Sexp false refl; symbols = tt }
+  field-holds (Field.named tok after) within =
+      record { where_it_stands = stands-in kind.Struct true refl; symbols = ((tok-means _ _ _ _ _ tok within, tokens-are_raw _ _ _ _ _ tok), tt) }
+  field-holds (Field.in_quotes tok after) within =
+      record { where_it_stands = stands-in kind.Struct true refl; symbols = ((tok-means _ _ _ _ _ tok within, tokens-are_raw _ _ _ _ _ tok), tt) }
 
   -- ---- values and members
 
   record ValueHolds (depth : ℕ) (annotations : List SymbolAt) (x : Value SymbolAt ℕ) : Type 0 where
     names : AnnotationsAreWithin limits annotations
     value : ValueIsWithin limits depth x
-    symbols : (field : Option SymbolAt) → AreWithin (field_symbols field) → AreWithin (value_symbols field annotations x)
+    writable : IsWritable x
+    bytes : ValueHasBytes x
+    symbols : (field : Option SymbolAt) → AreHeld (field_symbols field) → AreHeld (value_symbols field annotations x)
 
-  record MembersHold (depth : ℕ) (members : Members SymbolAt ℕ) : Type 0 where
+  record MembersHold (depth : ℕ) (k : Kind) (members : Members SymbolAt ℕ) : Type 0 where
     inside : MembersAreWithin limits depth members
-    symbols : AreWithin (members_symbols members)
+    writable : AreWritable k members
+    bytes : MembersHaveBytes members
+    symbols : AreHeld (members_symbols members)
 
-  scalar-holds : (depth : ℕ) (annotations : List SymbolAt) (body : Scalar SymbolAt) → AnnotationsAreWithin limits annotations → AreWithin annotations → ScalarIsWithin limits body
-      → AreWithin (scalar_symbols body) → ValueHolds depth annotations (scalar body)
-  scalar-holds depth annotations body cheap before is own = record {
-    names = cheap;
+  scalar-holds : (depth : ℕ) {sexp : Bool} {c d : Cursor} (annotations : List SymbolAt) (ns : Annotations sexp c annotations d) (body : Scalar SymbolAt) → AnnotationsWithin limits ns → ScalarIsWithin limits body
+      → IsWritable {S = SymbolAt} {P = ℕ} (scalar body) → ValueHasBytes {S = SymbolAt} {P = ℕ} (scalar body) → AreHeld (scalar_symbols body) → ValueHolds depth annotations (scalar body)
+  scalar-holds depth annotations ns body within is writable bytes own = record {
+    names = within.0;
     value = is;
-    symbols = λ field named. symbols-append (field_symbols field) (annotations ++ scalar_symbols body) named (symbols-append annotations (scalar_symbols body) before own);
+    writable = writable;
+    bytes = bytes;
+    symbols = λ field named. all-append Holds (field_symbols field) (annotations ++ scalar_symbols body) named
+        (all-append Holds annotations (scalar_symbols body) (names-hold ns within.1) own);
   }
-
-  -- of a scalar that is no symbol
-  plain-symbols : (sexp : Bool) (c d : Cursor) (v : Scalar SymbolAt) (p : ℕ) → Tok sexp c (plain v) p d → AreWithin (scalar_symbols v)
-  plain-symbols sexp c d v p tok = let raw = tokens-are_raw sexp c d (plain v) p tok in subst AreWithin (sym raw.no_symbol) tt
 
   mutual
     txt-holds : {k : Option Kind} {c d : Cursor} {annotations : List SymbolAt} {p : ℕ} {x : Value SymbolAt ℕ} (depth : ℕ) (txt : Txt k c annotations p x d) → TxtWithin limits depth txt
         → ValueHolds depth annotations x
     txt-holds depth (Txt.of_plain {annotations = annotations} {v = v} ns tok) within =
-        scalar-holds depth annotations v within.0.0 (names-within ns within.0.1) (tok-means _ _ _ _ _ tok within.1) (plain-symbols _ _ _ _ _ tok)
+        let raw = tokens-are_raw _ _ _ _ _ tok in
+        scalar-holds depth annotations ns v within.0 (tok-means _ _ _ _ _ tok within.1) (raw.in_range, raw.text) raw.bytes (subst AreHeld (sym raw.no_symbol) tt)
     txt-holds depth (Txt.of_text {annotations = annotations} {bytes = bytes} ns tok) within =
-        scalar-holds depth annotations (value.string bytes) within.0.0 (names-within ns within.0.1) (tok-means _ _ _ _ _ tok within.1) tt
+        scalar-holds depth annotations ns (value.string bytes) within.0 (tok-means _ _ _ _ _ tok within.1) (tt, tokens-are_raw _ _ _ _ _ tok) tt tt
     txt-holds depth (Txt.of_operator {annotations = annotations} {p = p} {bytes = bytes} ns tok) within =
-        scalar-holds depth annotations (value.symbol (at (value.Text bytes) p)) within.0.0 (names-within ns within.0.1) tt (tok-means _ _ _ _ _ tok within.1, tt)
+        scalar-holds depth annotations ns (value.symbol (at (value.Text bytes) p)) within.0 tt (tt, tt) tt ((tok-means _ _ _ _ _ tok within.1, tokens-are_raw _ _ _ _ _ tok), tt)
     txt-holds depth (Txt.of_symbol {annotations = annotations} {p = p} {symbol = symbol} ns tok alone no_version) within =
-        scalar-holds depth annotations (value.symbol (at symbol p)) within.0.0 (names-within ns within.0.1) tt (tok-means _ _ _ _ _ tok within.1, tt)
+        scalar-holds depth annotations ns (value.symbol (at symbol p)) within.0 tt (tt, tt) tt ((tok-means _ _ _ _ _ tok within.1, tokens-are_raw _ _ _ _ _ tok), tt)
     txt-holds depth (Txt.of_members {annotations = annotations} {members = members} ns tok inside last) within =
         let all = inside-holds (suc depth) inside within.1.1 in
         record {
           names = within.0.0;
           value = (within.1.0, all.inside);
-          symbols = λ field named. symbols-append (field_symbols field ++ (annotations ++ [])) (members_symbols members)
-              (symbols-append (field_symbols field) (annotations ++ []) named (symbols-append annotations [] (names-within ns within.0.1) tt)) all.symbols;
+          writable = all.writable;
+          bytes = all.bytes;
+          symbols = λ field named. all-append Holds (field_symbols field ++ (annotations ++ [])) (members_symbols members)
+              (all-append Holds (field_symbols field) (annotations ++ []) named (all-append Holds annotations [] (names-hold ns within.0.1) tt)) all.symbols;
         }
 
     inside-holds : {k : Kind} {c d : Cursor} {members : Members SymbolAt ℕ} {full : Bool} (depth : ℕ) (inside : Inside k c members full d) → InsideWithin limits depth inside
-        → MembersHold depth members
-    inside-holds depth Inside.nothing within = record { inside = tt; symbols = tt }
-    inside-holds depth (Inside.with_value {members = members} {field = field} {annotations = annotations} {v = v} before own txt) within =
+        → MembersHold depth k members
+    inside-holds depth Inside.nothing within = record { inside = tt; writable = tt; bytes = tt; symbols = tt }
+    inside-holds depth (Inside.with_value {k = k} {members = members} {field = field} {annotations = annotations} {v = v} before own txt) within =
         let others = inside-holds depth before within.0 in
+        let f = field-holds own within.1.0 in
         let x = txt-holds depth txt within.1.1 in
         record {
           inside = (others.inside, x.names, x.value);
-          symbols = symbols-append (members_symbols members) (value_symbols field annotations v) others.symbols (x.symbols field (field-within own within.1.0));
+          writable = (others.writable, (f.where_it_stands k refl, x.writable));
+          bytes = (others.bytes, x.bytes);
+          symbols = all-append Holds (members_symbols members) (value_symbols field annotations v) others.symbols (x.symbols field f.symbols);
         }
     inside-holds depth (Inside.with_comma before after) within = inside-holds depth before within
 
-  tops-hold : {c d : Cursor} {tops : List (Top SymbolAt ℕ)} (t : Tops c tops d) → TopsWithin limits t → AllByRecursion (TopIsWithin limits) tops
+  abbrev TopHolds : Top SymbolAt ℕ → Type 0
+  TopHolds top = TopIsWithin limits top × IsRaw top
+
+  tops-hold : {c d : Cursor} {tops : List (Top SymbolAt ℕ)} (t : Tops c tops d) → TopsWithin limits t → AllByRecursion TopHolds tops
   tops-hold Tops.nothing within = tt
-  tops-hold (Tops.marker {tops = tops} {p = p} before tok alone) within = all-append (TopIsWithin limits) tops (version p ∷ []) (tops-hold before within.0) (tt, tt)
+  tops-hold (Tops.marker {tops = tops} {p = p} before tok alone) within = all-append TopHolds tops (version p ∷ []) (tops-hold before within.0) ((tt, tt), tt)
   tops-hold (Tops.with_value {tops = tops} {annotations = annotations} {p = p} {v = v} before txt) within =
       let x = txt-holds 0 txt within.1 in
-      all-append (TopIsWithin limits) tops (tree (first_place annotations p) annotations p v ∷ []) (tops-hold before within.0) ((x.names, x.value, x.symbols None tt), tt)
+      let symbols = x.symbols None tt in
+      all-append TopHolds tops (tree (first_place annotations p) annotations p v ∷ []) (tops-hold before within.0) (
+        (
+          (x.names, x.value, all-more Holds (λ s. SymbolIsWithin limits s.symbol) (λ s h. h.0) (value_symbols None annotations v) symbols),
+          (x.writable, (x.bytes, all-more Holds (λ s. SymbolIsText s.symbol) (λ s h. h.1) (value_symbols None annotations v) symbols)),
+        ),
+        tt,
+      )
 
 pub values_are_within : WhatIsReadIsWithin → ValuesReadAreWithin
-values_are_within law limits bytes tops is read = tops-hold limits is.spells (law limits bytes tops is read)
+values_are_within law limits bytes tops is read =
+    all-more (TopHolds limits) (TopIsWithin limits) (λ top h. h.0) tops (tops-hold limits is.spells (law limits bytes tops is read))
+
+-- under limits that allow all that stands in it
+pub streams-are_raw : StreamsAreRaw
+streams-are_raw bytes tops stream =
+    let limits : Limits = record { depth = length bytes; scalar = 16 * length bytes; symbols = 0; value = 0; input = 0 } in
+    all-more (TopHolds limits) IsRaw (λ top h. h.1) tops (tops-hold limits stream.spells (tops-allowed limits bytes (omega arith, omega arith) stream.spells))

@@ -19,6 +19,23 @@ pub if-then : {A B E : Type 0} (P : A → Type 0) (Q : B → Type 0) (o : Result
 if-then P Q (Ok x) f h more = more x h
 if-then P Q (Err reason) f h more = tt
 
+pub any-ok : {A E : Type 0} (o : Result A E) → IfOk o (λ x. Unit {0})
+any-ok (Ok x) = tt
+any-ok (Err reason) = tt
+
+-- whatever the first gives
+pub if-any : {A B E : Type 0} (Q : B → Type 0) (o : Result A E) (f : A → Result B E) → ((x : A) → IfOk (f x) Q) → IfOk (o >>= f) Q
+if-any Q (Ok x) f h = h x
+if-any Q (Err reason) f h = tt
+
+pub if-more : {A E : Type 0} (P Q : A → Type 0) (o : Result A E) → IfOk o P → ((x : A) → P x → Q x) → IfOk o Q
+if-more P Q (Ok x) h more = more x h
+if-more P Q (Err reason) h more = tt
+
+pub if-both : {A E : Type 0} (P Q : A → Type 0) (o : Result A E) → IfOk o P → IfOk o Q → IfOk o (λ x. P x × Q x)
+if-both P Q (Ok x) h k = (h, k)
+if-both P Q (Err reason) h k = tt
+
 -- a test that may refuse, and a step
 pub passed : {B : Type 0} (b : Bool) (reason : Reason) (o : Result B Reason) (y : B) → (refuse b reason >> o) ≡ Ok y → (b ≡ false) × (o ≡ Ok y)
 passed true reason o y e = absurd (cc e)

@@ -1,4 +1,4 @@
-use Rattle.ion_text_in.proofs.ExactLimits as whole
+use Rattle.ion_text_in.proofs.Narrow as whole
 use Rattle.ion_text_in.proofs.laws.limits_are_exact.Goals as goal
 
 pub returns : goal.returns

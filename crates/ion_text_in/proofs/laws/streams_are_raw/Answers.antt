@@ -1,4 +1,4 @@
-use Rattle.ion_text_in.proofs.RawStreams as whole
+use Rattle.ion_text_in.proofs.ValuesWithin as whole
 use Rattle.ion_text_in.proofs.laws.streams_are_raw.Goals as goal
 
 pub returns : goal.returns

@@ -1,5 +1,5 @@
-use Rattle.ion_text_in.proofs.Texts as whole
+use Rattle.ion_text_in.proofs.Meaning as whole
 use Rattle.ion_text_in.proofs.laws.timestamp_text_is_read.Goals as goal
 
 pub returns : goal.returns
-returns c = whole.timestamp-read
+returns c = whole.timestamp-means

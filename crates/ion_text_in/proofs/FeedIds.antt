@@ -102,13 +102,13 @@ named-id texts limits place n name bytes rest (Some s) here is behind dollar h =
       name = named-as limits place name raw bytes rest s (name-token (token-id is behind dollar) may-word (id-names limits place is.id)) (λ _. is.simple) (dollar-begins bytes dollar).some h;
     }
 
-pub start-named : (texts : ℕ → Option (List ℕ)) (bounds : Bounds) (spot : Spot) (next : Next) (start : Option Start) → length spot.rest.now ≤ bounds.end → expected_of spot ≡ codes_of.Field → IsNext spot.rest.now next
-    → IfSome start (IsNamedBy texts bounds.limits (place_in bounds next.rest.now) next.rest.now) → IfSome start (IsStartBy texts None bounds spot)
-start-named texts bounds spot next None within field is h = tt
-start-named texts bounds spot next (Some s) within field is h = record {
-  raw = Some h.raw;
-  seen = ap (λ (a : SymbolAt). Some a) h.seen ∙ ap (λ (f : Option TextAt). option_map placed_text f) (sym h.name.is);
-  read = start-as bounds spot next h.text h.raw s within field is h.name;
+pub start-named : {named : ℕ} (texts : ℕ → Option (List ℕ)) (bounds : Bounds) (spot : Spot) (next : Next) (start : Option Start) → named ≡ place_in bounds next.rest.now → length spot.rest.now ≤ bounds.end → expected_of spot ≡ codes_of.Field → IsNext spot.rest.now next
+    → IfSome start (IsNamedBy texts bounds.limits named next.rest.now) → IfSome start (IsStartBy texts None bounds spot)
+start-named texts bounds spot next None here within field is h = tt
+start-named texts bounds spot next (Some s) here within field is h = let name = subst (λ (p : ℕ). IsNamedBy texts bounds.limits p next.rest.now s) here h in record {
+  raw = Some name.raw;
+  seen = ap (λ (a : SymbolAt). Some a) name.seen ∙ ap (λ (f : Option TextAt). option_map placed_text f) (sym name.name.is);
+  read = start-as bounds spot next name.text name.raw s within field is name.name;
 }
 
 -- the name is a text, if there is one

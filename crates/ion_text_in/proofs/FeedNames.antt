@@ -261,12 +261,12 @@ pub next-begins : {bytes : List ℕ} {next : Next} → IsNext bytes next → 0 <
 next-begins is some = record { some = some; tells = is.tells; bare = (is.passes some).bare }
 
 -- it begins within the bytes
-pub next-within : {bytes : List ℕ} {next : Next} (bounds : Bounds) → IsNext bytes next → length bytes ≤ bounds.end → length next.rest.now ≤ bounds.end
-next-within {bytes} {next} bounds is within = by (length next.rest.now) refl
+pub next-within : {bytes : List ℕ} {next : Next} → IsNext bytes next → length next.rest.now ≤ length bytes
+next-within {bytes} {next} is = by (length next.rest.now) refl
   where
-    by : (n : ℕ) → length next.rest.now ≡ n → length next.rest.now ≤ bounds.end
+    by : (n : ℕ) → length next.rest.now ≡ n → length next.rest.now ≤ length bytes
     by zero e = omega (arith, e)
-    by (suc n) e = let fewer = (is.passes (omega (arith, e))).fewer in omega (arith, fewer, within)
+    by (suc n) e = (is.passes (omega (arith, e))).fewer
 
 -- a value begins behind it, where a name must come
 pub start-as : (bounds : Bounds) (spot : Spot) (next : Next) (text : TextAt) (raw : SymbolAt) (start : Start) → length spot.rest.now ≤ bounds.end → expected_of spot ≡ codes_of.Field → IsNext spot.rest.now next
@@ -291,11 +291,12 @@ start-as bounds spot next text raw start within field is h =
       begins = h.begins;
     }
 
-pub start-field : (bounds : Bounds) (spot : Spot) (next : Next) (start : Option Start) → length spot.rest.now ≤ bounds.end → expected_of spot ≡ codes_of.Field → IsNext spot.rest.now next
-    → IfSome start (IsNamed bounds.limits (place_in bounds next.rest.now) next.rest.now) → IfSome start (IsStart bounds spot)
-start-field bounds spot next None within field is h = tt
-start-field bounds spot next (Some s) within field is h =
-    subst (λ (f : Option TextAt). IsStartAs (option_map placed_text f) None bounds spot s) (sym h.name.is) (start-as bounds spot next h.text (placed_text h.text) s within field is h.name)
+pub start-field : {named : ℕ} (bounds : Bounds) (spot : Spot) (next : Next) (start : Option Start) → named ≡ place_in bounds next.rest.now → length spot.rest.now ≤ bounds.end → expected_of spot ≡ codes_of.Field
+    → IsNext spot.rest.now next → IfSome start (IsNamed bounds.limits named next.rest.now) → IfSome start (IsStart bounds spot)
+start-field bounds spot next None here within field is h = tt
+start-field bounds spot next (Some s) here within field is h =
+    let name = subst (λ (p : ℕ). IsNamed bounds.limits p next.rest.now s) here h in
+    subst (λ (f : Option TextAt). IsStartAs (option_map placed_text f) None bounds spot s) (sym name.name.is) (start-as bounds spot next name.text (placed_text name.text) s within field is name.name)
 
 -- a name must come where a struct is open and no comma must come
 pub expects-field : (spot : Spot) → spot.separator ≡ false → spot.kind ≡ a_kind.Struct → expected_of spot ≡ codes_of.Field

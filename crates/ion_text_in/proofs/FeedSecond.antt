@@ -1,5 +1,5 @@
 -- Second annotations in a lane.
-use Rattle.std.proofs.Common.{◌≡◌, ℕ, ◌+◌, ◌-◌, ◌≤◌, true, List, [], ◌∷◌, ◌++◌, length, take, codes, Option, Some, None, IfSome, ap, subst, ◌∙◌, arith}
+use Rattle.std.proofs.Common.{◌≡◌, ℕ, ◌+◌, ◌≤◌, true, List, [], ◌∷◌, ◌++◌, length, take, codes, Option, Some, None, IfSome, ap, subst, ◌∙◌, arith}
 use Rattle.std.specs.Prelude.{option_map, sum_by}
 use Rattle.std.proofs.Math.Seq.{take-append-add}
 use Rattle.ion_value.specs.declared.plain_item.TextAt.{TextAt}

@@ -29,6 +29,7 @@ use heads::{
 };
 use ids::{id_turns, is_dollar_near};
 use ion_meter::device::Output;
+use ion_meter::limits::Limits;
 use ion_meter::meter::Meter;
 use ion_meter::sink::Sink;
 use ion_meter::stack::Stack;
@@ -261,24 +262,27 @@ fn turn<'a, W: ValueWriter<O, A>, O: Output, A: Allocator + Copy>(
     }
 }
 
-// Hands on the items at the front, as many as are frequent ones.
+// Hands on the items at the front, as many as are frequent ones. The limits and the end come apart: so the end
+// stays in a register.
 #[inline(never)]
 fn feed_frequent<'a, W: ValueWriter<O, A>, O: Output, A: Allocator + Copy>(
     spot: Spot<'a>,
-    bounds: Bounds,
+    limits: Limits,
+    end: u64,
     kinds: &mut Stack<Kind, A>,
     meter: &mut Meter<A>,
     writer: &mut W,
     sink: &mut Sink<O, A>,
 ) -> Spot<'a>
-    requires { CanFeed W.ValueWriter bounds
+    requires { CanFeed W.ValueWriter (record { limits = limits; end = end })
         (lane kinds.old spot writer.old sink.old meter.old) }
-    ensures { Moved W.ValueWriter bounds
+    ensures { Moved W.ValueWriter (record { limits = limits; end = end })
         (lane kinds.old spot.entry writer.old sink.old meter.old)
         (lane kinds.new result writer.new sink.new meter.new) }
 {
     let mut at = spot;
     'items: loop {
+        let bounds = Bounds { limits, end };
         if !turn(&mut at, bounds, kinds, meter, writer, sink) {
             return at;
         }
@@ -335,7 +339,7 @@ pub(crate) fn feed_items<'a, N: Names, W: ValueWriter<O, A>, O: Output, A: Alloc
 {
     let mut at = spot;
     'runs: loop {
-        at = feed_frequent(at, bounds, kinds, meter, writer, sink);
+        at = feed_frequent(at, bounds.limits, bounds.end, kinds, meter, writer, sink);
         if !other_turns(&mut at, names, bounds, kinds, meter, writer, sink) {
             return at;
         }

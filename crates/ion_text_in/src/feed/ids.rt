@@ -7,7 +7,7 @@ use super::forward::forward_any;
 use super::heads::scan_head;
 use super::names::{behind_name, to_start};
 use super::noted::begins_dollar;
-use super::spot::{Bounds, Found, Further, Next, Spot, Start, next_told, to_member};
+use super::spot::{Bounds, Found, Further, Next, Spot, Start, next_told, place_behind, to_member};
 use crate::blank::run_without;
 use crate::scanned::Scanned;
 use crate::slice::behind;
@@ -117,7 +117,7 @@ fn id_start<'a, N: Names>(
                 next.rest,
                 names,
                 bounds.limits,
-                bounds.end - next.rest.len() as u64,
+                place_behind(bounds, spot, next),
             )
         }
         _ => to_start(spot, next, bounds),

@@ -3,7 +3,7 @@ ghost use Rattle.std.specs.Prelude.{◌≡◌, ◌<◌, ◌≤◌, length, None,
 ghost use Rattle.ion_text_in.specs.Feeding.{Begins, BeginsText, IsBehindName, IsNamed, IsNext, IsStart, ToColon};
 
 use super::heads::token;
-use super::spot::{Bounds, Next, Spot, Start, WORD, next_told, value_start};
+use super::spot::{Bounds, Next, Spot, Start, WORD, next_told, place_behind, value_start};
 use super::texts::{quoted_text, text_between};
 use crate::comments::behind_blanks;
 use crate::first::{First, shows_colon};
@@ -27,7 +27,7 @@ pub(super) fn to_start<'a>(spot: Spot<'a>, next: Next<'a>, bounds: Bounds) -> Op
         return None;
     }
     match spot.kind {
-        Kind::Struct => field_start(next, bounds.limits, bounds.end - next.rest.len() as u64),
+        Kind::Struct => field_start(next, bounds.limits, place_behind(bounds, spot, next)),
         Kind::List | Kind::Sexp => value_start(next),
     }
 }

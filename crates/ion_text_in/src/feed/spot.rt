@@ -1,8 +1,8 @@
 //! Where a lane stands, and what it finds there.
-ghost use Rattle.std.specs.Prelude.{◌≡◌, ◌+◌, ◌^◌, ◌<◌, ℕ, Bool, List, ◌++◌, length, reverse, true, None, Some, IfSome};
+ghost use Rattle.std.specs.Prelude.{◌≡◌, ◌+◌, ◌^◌, ◌<◌, ◌≤◌, ℕ, Bool, List, ◌++◌, length, reverse, true, None, Some, IfSome};
 ghost use Rattle.ion_value.specs.declared.ion_type.Kind as kind_of;
 ghost use Rattle.ion_text_in.specs.Expecting.{is_separated};
-ghost use Rattle.ion_text_in.specs.Feeding.{notes, IsNext, PassesBlanks, PassesComma};
+ghost use Rattle.ion_text_in.specs.Feeding.{notes, place_in, IsNext, PassesBlanks, PassesComma};
 ghost use Rattle.ion_text_in.specs.Firsts.{numbered};
 ghost use Rattle.ion_text_in.specs.Positions.{innermost};
 ghost use Rattle.ion_value.specs.Outcome.{one_if_closed};
@@ -136,6 +136,17 @@ fn behind_separator<'a>(at: &mut Spot<'a>, rest: &'a [u8]) -> Next<'a>
     at.rest = behind(1, rest);
     at.separator = false;
     next_told(at.rest)
+}
+
+/// The place of the next token behind blanks. It is counted from the spot on, whose place is at hand.
+#[inline(always)]
+pub(super) fn place_behind(bounds: Bounds, spot: Spot<'_>, next: Next<'_>) -> u64
+    requires next { IsNext spot.rest.now next }
+    requires within { length spot.rest.now ≤ bounds.end }
+    ensures { result ≡ place_in bounds next.entry.rest.now }
+{
+    let place = bounds.end - spot.rest.len() as u64;
+    place + spot.rest.len().saturating_sub(next.rest.len()) as u64
 }
 
 /// What a value begins with where no name must come before it.

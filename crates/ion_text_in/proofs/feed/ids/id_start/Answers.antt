@@ -1,11 +1,8 @@
 use Rattle.ion_text_in.proofs.FeedIds.{start-named}
-use Rattle.ion_text_in.proofs.FeedNames.{expects-field, next-within}
+use Rattle.ion_text_in.proofs.FeedNames.{expects-field}
 use Rattle.ion_text_in.proofs.feed.ids.id_start.Goals as goal
-
-pub overflow_sub-bounds : goal.overflow_sub-bounds
-overflow_sub-bounds g c = next-within c.args.bounds c.requires.next c.requires.within
 
 pub returns-in-Struct : goal.returns-in-Struct
 returns-in-Struct g c =
     let spot = c.args.spot in
-    start-named (g.N.Names.text c.args.names.now) c.args.bounds spot c.args.next c.id_name.result c.requires.within (expects-field spot c.if-not-spot.true c.in-Struct.is) c.requires.next c.id_name.ensures
+    start-named (g.N.Names.text c.args.names.now) c.args.bounds spot c.args.next c.id_name.result c.place_behind.ensures c.requires.within (expects-field spot c.if-not-spot.true c.in-Struct.is) c.requires.next c.id_name.ensures

@@ -3,9 +3,9 @@ use Rattle.ion_value.specs.declared.ion_type.Kind.{Kind}
 use Rattle.ion_value.specs.declared.ion_type.Kind.TheVariants as a_kind
 use Rattle.ion_text_in.specs.declared.expected.Expected.TheVariants as codes
 use Rattle.ion_text_in.specs.Expecting.{expected_in}
-use Rattle.ion_text_in.specs.Feeding.{expected_of, place_in}
+use Rattle.ion_text_in.specs.Feeding.{expected_of}
 use Rattle.ion_text_in.proofs.FeedReading.{start-value}
-use Rattle.ion_text_in.proofs.FeedNames.{expects-field, next-begins, next-within, start-field, named-bare}
+use Rattle.ion_text_in.proofs.FeedNames.{expects-field, next-begins, start-field, named-bare}
 use Rattle.ion_text_in.proofs.feed.names.to_start.Goals as goal
 
 value-in : (kind : Kind) → (kind ≡ a_kind.List) ⊎ (kind ≡ a_kind.Sexp) → expected_in false kind ≡ codes.Value
@@ -22,16 +22,13 @@ returns-in-List c =
       bare = e.note;
     }
 
-pub overflow_sub-bounds : goal.overflow_sub-bounds
-overflow_sub-bounds c = next-within c.args.bounds c.requires.next c.requires.within
-
 pub field_start-requires : goal.field_start-requires
 field_start-requires c = λ told. next-begins c.requires.next (c.requires.next.some told)
 
 pub returns-in-Struct-clause-start : goal.returns-in-Struct-clause-start
 returns-in-Struct-clause-start c =
     let spot = c.args.spot in
-    start-field c.args.bounds spot c.args.next c.field_start.result c.requires.within (expects-field spot c.if-spot.false c.in-Struct.is) c.requires.next c.field_start.ensures
+    start-field c.args.bounds spot c.args.next c.field_start.result c.place_behind.ensures c.requires.within (expects-field spot c.if-spot.false c.in-Struct.is) c.requires.next c.field_start.ensures
 
 pub returns-in-Struct-clause-bare : goal.returns-in-Struct-clause-bare
-returns-in-Struct-clause-bare c = named-bare c.args.bounds.limits (place_in c.args.bounds c.args.next.rest.now) c.args.next.rest.now c.field_start.result c.field_start.ensures
+returns-in-Struct-clause-bare c = named-bare c.args.bounds.limits c.place_behind.result c.args.next.rest.now c.field_start.result c.field_start.ensures

@@ -9,115 +9,112 @@ use Rattle.ion_value.specs.declared.ion_type.Kind.{Kind}
 use Rattle.ion_value.specs.Digits.{first_is}
 use Rattle.ion_value.specs.Name.{begins_with, is_plain, is_simple, is_version}
 use Rattle.ion_value.specs.Parts.{part, ◌>>=◌}
-use Rattle.ion_value.specs.PlainItems.{IsKnown, IsKnownScalar}
+use Rattle.ion_value.specs.declared.plain_item.TextAt.{TextAt}
+use Rattle.ion_value.specs.PlainItems.{placed_text, IsKnown, IsKnownScalar}
 use Rattle.ion_value.specs.Reading.{More}
 use Rattle.ion_value.specs.Standing.{InRange}
 use Rattle.ion_value.specs.Value as value
 use Rattle.ion_value.specs.Value.{Scalar, Symbol, SymbolAt}
-use Rattle.ion_text_in.specs.declared.feed.Next.{Next}
+use Rattle.ion_text_in.specs.Blanks.{blanks}
+use Rattle.ion_text_in.specs.declared.feed.spot.Next.{Next}
+use Rattle.ion_text_in.specs.declared.feed.texts.Between.{Between}
+use Rattle.ion_text_in.specs.declared.quoted.Quote.{Quote as CodeQuote}
+use Rattle.ion_text_in.specs.declared.quoted.Quote.TheVariants as quotes
 use Rattle.ion_text_in.specs.declared.scanned.Scanned.TheVariants.{Whole}
 use Rattle.ion_text_in.specs.declared.word.Word.{Word}
-use Rattle.ion_text_in.specs.Feeding.{item_in, IsBare, IsBehind, IsHead, IsHeadAs, IsNext, IsSimpleWord}
+use Rattle.ion_text_in.specs.Feeding.{item_in, state, Begins, BeginsAs, BeginsText, IsBehind, IsBetween, IsHead, IsHeadAs, IsNext, IsSimpleWord}
+use Rattle.ion_text_in.specs.Firsts.{numbered}
 use Rattle.ion_text_in.specs.Meaning.{at}
 use Rattle.ion_text_in.specs.Positions as positions
 use Rattle.ion_text_in.specs.Positions.{a_value, in_sexp, innermost}
 use Rattle.ion_text_in.specs.Quoted.{Quote, short_quote, symbol_quote, text_at}
+use Rattle.ion_text_in.specs.Quotes.{quote_of}
 use Rattle.ion_text_in.specs.Reading.{take as taken, behind_colons, behind_member, colons_at, colons_behind, symbol_step, tells_version, top_of, value_or_version}
 use Rattle.ion_text_in.specs.Scanners.{Shows}
 use Rattle.ion_text_in.specs.Steps.{comes, later}
 use Rattle.ion_text_in.specs.Token as tokens
 use Rattle.ion_text_in.specs.Token.{First, Token, first_at, token_of}
 use Rattle.ion_text_in.specs.Views.{word_token_of}
-use Rattle.ion_text_in.proofs.FeedNames.{dollar-version}
-use Rattle.ion_text_in.proofs.FeedReading.{behind-then, later-token, mark-behind, may-value, plain-gives, some-behind}
+use Rattle.ion_text_in.proofs.BlankTurns.{no-slash}
+use Rattle.ion_text_in.proofs.FeedNames.{dollar-version, may-quoted, may-string, name-token, string-names, symbol-names, IsName}
+use Rattle.ion_text_in.proofs.FeedReading.{behind-then, head-token, mark-behind, plain-taken, some-behind, token-front, IsToken}
 use Rattle.ion_text_in.proofs.FirstTokens.{no-colons}
 use Rattle.ion_text_in.proofs.ShownFurther.{shown-some}
 
 -- ---- scalars that are no text and no symbol
 
-pub head-plain : (limits : Limits) (place n : ℕ) (first : First) (body : Scalar SymbolAt) (bytes rest : List ℕ) → IsKnownScalar body → InRange body → rest ≡ drop n bytes → 0 < n → n ≤ length bytes
-    → ((place : ℕ) (more : List ℕ) → token_of (Some limits.scalar) first (at place (bytes ++ more)) ≡ Ok (tokens.plain body, at (place + n) (drop n bytes ++ more)))
-    → IsBare bytes → 0 < length bytes → ((in_sexp : Bool) (more : List ℕ) → first_at in_sexp (bytes ++ more) ≡ first) → IsHead limits place bytes (value.whole body) rest
-head-plain limits place n first body bytes rest known range behind counts within shown bare some begins =
-    let long = length-drop n bytes in
-    subst (λ (l : List ℕ). IsHead limits place bytes (value.whole body) l) (sym behind) (record {
-      part = some-behind bytes n within;
-      fewer = omega (arith, long, counts, within);
-      known = known;
-      range = range;
-      member = λ kinds. refl;
-      value = refl;
-      gives = λ kinds top q field annotations more fits e.
-          let q_is : place + n ≡ q = omega (arith, e, long, within) in
-          plain-gives limits place q first body bytes (drop n bytes) bare some begins kinds top field annotations more (shown place more ∙ ap (λ (k : ℕ). Ok (tokens.plain body, at k (drop n bytes ++ more))) q_is);
-    })
-
 -- a null or a bool, as the code reads it of a word
 pub head-keyword : {limits : Limits} {place n : ℕ} {x known : Word} {body : Scalar SymbolAt} {bytes rest : List ℕ} → x ≡ known → word_token_of (take n bytes) known ≡ tokens.plain body → IsKnownScalar body → InRange body
-    → rest ≡ drop n bytes → Shows (word_token_of (take n bytes)) bytes (Whole x n) (token_of (Some limits.scalar) tokens.a_word)
-    → IsBare bytes → 0 < length bytes → ((in_sexp : Bool) (more : List ℕ) → first_at in_sexp (bytes ++ more) ≡ tokens.a_word) → IsHead limits place bytes (value.whole body) rest
-head-keyword {limits} {place} {n} {x} {body} {bytes} {rest} is says known range behind shows bare some begins =
-    let counts = shown-some (word_token_of (take n bytes)) bytes x n (Some limits.scalar) tokens.a_word shows some in
+    → rest ≡ drop n bytes → Shows (word_token_of (take n bytes)) bytes (Whole x n) (token_of (Some limits.scalar) tokens.a_word) → BeginsAs tokens.a_word bytes → IsHead limits place bytes (value.whole body) rest
+head-keyword {limits} {place} {n} {x} {body} {bytes} {rest} is says known range behind shows begins =
+    let counts = shown-some (word_token_of (take n bytes)) bytes x n (Some limits.scalar) tokens.a_word shows begins.some in
     let token = ap (λ (w : Word). word_token_of (take n bytes) w) is ∙ says in
-    head-plain limits place n tokens.a_word body bytes rest known range behind (omega (arith, counts)) shows.0
-    (λ place more. shows.1 place more ∙ ap (λ (t : Token). Ok (t, at (place + n) (drop n bytes ++ more))) token) bare some begins
+    head-token body body known range (token-front behind (omega (arith, counts)) shows.0 (λ place more. shows.1 place more ∙ ap (λ (t : Token). Ok (t, at (place + n) (drop n bytes ++ more))) token) begins)
+    (λ kinds top q field annotations more. plain-taken limits kinds top place q field annotations body (rest ++ more))
 
--- ---- strings
+-- ---- texts between quotes
 
-text-taken : (limits : Limits) (kinds : List Kind) (top place : ℕ) (field : Option SymbolAt) (annotations : List SymbolAt) (bytes : List ℕ) (c : Cursor)
-    → comes limits (taken limits kinds top (a_value field annotations) place (tokens.text bytes) c)
-    ≡ More (item_in kinds top field annotations place (value.whole (value.string bytes))) (later limits (record { kinds = kinds; top = top_of kinds top annotations place; wants = behind_member (innermost kinds); cursor = c }))
+text-taken : (limits : Limits) (kinds : List Kind) (top place q : ℕ) (field : Option SymbolAt) (annotations : List SymbolAt) (bytes rest : List ℕ)
+    → comes limits (taken limits kinds top (a_value field annotations) place (tokens.text bytes) (at q rest))
+    ≡ More (item_in kinds top field annotations place (value.whole (value.string bytes))) (later limits (state kinds (top_of kinds top annotations place) (behind_member (innermost kinds)) q rest))
 unfolding taken
-text-taken limits kinds top place field annotations bytes c = refl
+text-taken limits kinds top place q field annotations bytes rest = refl
 
-pub short-token : (limit : Option ℕ) (c d : Cursor) (bytes : List ℕ) → text_at (short_quote false) limit (skip 1 c) ≡ Ok (bytes, d) → token_of limit tokens.a_short c ≡ Ok (tokens.text bytes, d)
+short-token : (limit : Option ℕ) (c d : Cursor) (bytes : List ℕ) → text_at (short_quote false) limit (skip 1 c) ≡ Ok (bytes, d) → token_of limit tokens.a_short c ≡ Ok (tokens.text bytes, d)
 unfolding token_of
 short-token limit c d bytes e = ap (λ (o : Result (List ℕ × Cursor) Reason). o >>= (λ t. Ok (tokens.text t.0, t.1))) e
 
--- the text between such quotes, behind the first of them
-pub text-inside : (quote : Quote) (limit : Option ℕ) (place q plain count : ℕ) (bytes text rest more : List ℕ) → text ≡ drop 1 bytes → rest ≡ drop count text
-    → Shows (λ n. take n text) text (Whole plain count) (λ c. text_at quote limit c) → 0 < length bytes → place + length bytes ≡ q + length rest
-    → text_at quote limit (skip 1 (at place (bytes ++ more))) ≡ Ok (take plain text, at q (rest ++ more))
-text-inside quote limit place q plain count bytes text rest more inside behind shows some e =
+quoted-token : (limit : Option ℕ) (c d : Cursor) (bytes : List ℕ) → text_at symbol_quote limit (skip 1 c) ≡ Ok (bytes, d) → token_of limit tokens.a_quoted c ≡ Ok (tokens.name true (value.Text bytes), d)
+unfolding token_of
+quoted-token limit c d bytes e = ap (λ (o : Result (List ℕ × Cursor) Reason). o >>= (λ t. Ok (tokens.name true (value.Text t.0), t.1))) e
+
+-- such a text, as the code finds it behind the first quote
+pub is-between : {quote : Quote} {limit : ℕ} {bytes inside : List ℕ} {found : Between} (plain count : ℕ) → inside ≡ drop 1 bytes → found.text.now ≡ take plain inside → found.rest.now ≡ drop count inside
+    → Shows (λ n. take n inside) inside (Whole plain count) (λ c. text_at quote (Some limit) c) → 0 < length bytes → IsBetween quote limit bytes found
+is-between {quote} {limit} {bytes} {inside} {found} plain count within_it text behind shows some =
+    let rest = found.rest.now in
     let one = length-drop 1 bytes in
-    let text_long : length text ≡ length (drop 1 bytes) = ap (λ (l : List ℕ). length l) inside in
-    let long = length-drop count text in
-    let rest_long : length rest ≡ length (drop count text) = ap (λ (l : List ℕ). length l) behind in
+    let inside_long = ap (λ (l : List ℕ). length l) within_it in
+    let long = length-drop count inside in
+    let rest_long = ap (λ (l : List ℕ). length l) behind in
     let within = shows.0 in
-    let q_is : (place + 1) + count ≡ q = omega (arith, e, one, text_long, long, rest_long, within, some) in
-    ap (λ (c : Cursor). text_at quote limit c) (mark-behind bytes more place (place + 1) some (omega (arith, one, some)) ∙ ap (λ (l : List ℕ). at (place + 1) (l ++ more)) (sym inside))
-    ∙ (shows.1 (place + 1) more
-    ∙ (ap (λ (k : ℕ). Ok (take plain text, at k (drop count text ++ more))) q_is ∙ ap (λ (l : List ℕ). Ok (take plain text, at q (l ++ more))) (sym behind)))
-
--- what stands behind the closing quote
-pub behind-inside : (count : ℕ) (bytes text rest : List ℕ) → text ≡ drop 1 bytes → rest ≡ drop count text → count ≤ length text → 0 < length bytes → IsBehind bytes rest × (length rest < length bytes)
-behind-inside count bytes text rest inside behind within some =
-    let one = length-drop 1 bytes in
-    let text_long : length text ≡ length (drop 1 bytes) = ap (λ (l : List ℕ). length l) inside in
-    let long = length-drop count text in
-    let rest_long : length rest ≡ length (drop count text) = ap (λ (l : List ℕ). length l) behind in (
-      behind-then bytes text rest (subst (λ (l : List ℕ). IsBehind bytes l) (sym inside) (some-behind bytes 1 (omega (arith, some)))) (subst (λ (l : List ℕ). IsBehind text l) (sym behind) (some-behind text count within)),
-      omega (arith, one, text_long, long, rest_long, within, some),
-    )
-
-pub head-string : (limits : Limits) (place plain count : ℕ) (bytes text rest : List ℕ) → text ≡ drop 1 bytes → rest ≡ drop count text
-    → Shows (λ n. take n text) text (Whole plain count) (λ c. text_at (short_quote false) (Some limits.scalar) c)
-    → IsBare bytes → 0 < length bytes → ((in_sexp : Bool) (more : List ℕ) → first_at in_sexp (bytes ++ more) ≡ tokens.a_short) → IsHead limits place bytes (value.whole (value.string (take plain text))) rest
-head-string limits place plain count bytes text rest inside behind shows bare some begins =
-    let parts = behind-inside count bytes text rest inside behind shows.0 some in
     record {
-      part = parts.0;
-      fewer = parts.1;
-      known = tt;
-      range = tt;
-      member = λ kinds. refl;
-      value = refl;
-      gives = λ kinds top q field annotations more fits e.
-          later-token limits kinds top place q (a_value field annotations) bytes rest more tokens.a_short (tokens.text (take plain text)) bare some begins (may-value field annotations tokens.a_short)
-          (short-token (Some limits.scalar) (at place (bytes ++ more)) (at q (rest ++ more)) (take plain text)
-          (text-inside (short_quote false) (Some limits.scalar) place q plain count bytes text rest more inside behind shows some e))
-          ∙ text-taken limits kinds top place field annotations (take plain text) (at q (rest ++ more));
+      part = behind-then bytes inside rest (subst (λ (l : List ℕ). IsBehind bytes l) (sym within_it) (some-behind bytes 1 (omega (arith, some))))
+          (subst (λ (l : List ℕ). IsBehind inside l) (sym behind) (some-behind inside count within));
+      fewer = omega (arith, one, inside_long, long, rest_long, within, some);
+      shown = λ place q more e.
+          let q_is : (place + 1) + count ≡ q = omega (arith, e, one, inside_long, long, rest_long, within, some) in
+          ap (λ (c : Cursor). text_at quote (Some limit) c) (mark-behind bytes more place (place + 1) some (omega (arith, one, some)) ∙ ap (λ (l : List ℕ). at (place + 1) (l ++ more)) (sym within_it))
+          ∙ (shows.1 (place + 1) more
+          ∙ (ap (λ (k : ℕ). Ok (take plain inside, at k (drop count inside ++ more))) q_is
+          ∙ (ap (λ (l : List ℕ). Ok (take plain inside, at q (l ++ more))) (sym behind) ∙ ap (λ (l : List ℕ). Ok (l, at q (rest ++ more))) (sym text))));
     }
+
+pub token-short : {limit place : ℕ} {bytes : List ℕ} {found : Between} → IsBetween (short_quote false) limit bytes found → BeginsAs tokens.a_short bytes → IsToken limit tokens.a_short (tokens.text found.text.now) place bytes found.rest.now
+token-short {limit} {place} {bytes} {found} is begins = record {
+  part = is.part;
+  fewer = is.fewer;
+  begins = begins;
+  shown = λ q more e. short-token (Some limit) (at place (bytes ++ more)) (at q (found.rest.now ++ more)) found.text.now (is.shown place q more e);
+}
+
+pub token-quoted : {limit place : ℕ} {bytes : List ℕ} {found : Between} → IsBetween symbol_quote limit bytes found → BeginsAs tokens.a_quoted bytes
+    → IsToken limit tokens.a_quoted (tokens.name true (value.Text found.text.now)) place bytes found.rest.now
+token-quoted {limit} {place} {bytes} {found} is begins = record {
+  part = is.part;
+  fewer = is.fewer;
+  begins = begins;
+  shown = λ q more e. quoted-token (Some limit) (at place (bytes ++ more)) (at q (found.rest.now ++ more)) found.text.now (is.shown place q more e);
+}
+
+pub head-string : {limits : Limits} {place : ℕ} {bytes : List ℕ} {found : Between} → IsBetween (short_quote false) limits.scalar bytes found → BeginsAs tokens.a_short bytes
+    → IsHead limits place bytes (value.whole (value.string found.text.now)) found.rest.now
+head-string {limits} {place} {bytes} {found} is begins =
+    head-token (value.string found.text.now) (value.string found.text.now) tt tt (token-short is begins) (λ kinds top q field annotations more. text-taken limits kinds top place q field annotations found.text.now (found.rest.now ++ more))
+
+-- what a byte tells of a token
+pub told-begins : {next : Next} {n : ℕ} → Begins next → 0 < n → next.told ≡ n → BeginsAs (numbered n) next.rest.now
+told-begins begins some told = record { bare = begins.bare; some = begins.some; first = λ sexp more. begins.tells (omega (arith, some, told)) sexp more ∙ ap numbered told }
 
 -- ---- symbols
 
@@ -140,19 +137,19 @@ no-marker None (a ∷ annotations) word e = refl
 no-marker (Some k) annotations word e = refl
 
 -- one in quotes is none
-quoted-marker : (k : Option Kind) (annotations : List SymbolAt) (word : List ℕ) → tells_version k annotations true (value.Text word) ≡ false
+pub quoted-marker : (k : Option Kind) (annotations : List SymbolAt) (word : List ℕ) → tells_version k annotations true (value.Text word) ≡ false
 unfolding tells_version
 quoted-marker None [] word = refl
 quoted-marker None (a ∷ annotations) word = refl
 quoted-marker (Some k) annotations word = refl
 
-name-taken : (limits : Limits) (kinds : List Kind) (top place : ℕ) (field : Option SymbolAt) (annotations : List SymbolAt) (quoted : Bool) (symbol : Symbol) (c : Cursor) → behind_colons (in_sexp (innermost kinds)) c ≡ None
-    → tells_version (innermost kinds) annotations quoted symbol ≡ false
-    → comes limits (taken limits kinds top (a_value field annotations) place (tokens.name quoted symbol) c)
-    ≡ More (item_in kinds top field annotations place (value.whole (value.symbol (positions.at symbol place))))
-    (later limits (record { kinds = kinds; top = top_of kinds top annotations place; wants = behind_member (innermost kinds); cursor = c }))
+name-taken : (limits : Limits) (kinds : List Kind) (top place q : ℕ) (field : Option SymbolAt) (annotations : List SymbolAt) (quoted : Bool) (symbol : Symbol) (rest : List ℕ)
+    → behind_colons (in_sexp (innermost kinds)) (at q rest) ≡ None → tells_version (innermost kinds) annotations quoted symbol ≡ false
+    → comes limits (taken limits kinds top (a_value field annotations) place (tokens.name quoted symbol) (at q rest))
+    ≡ More (item_in kinds top field annotations place (value.whole (value.symbol (positions.at symbol place)))) (later limits (state kinds (top_of kinds top annotations place) (behind_member (innermost kinds)) q rest))
 unfolding taken
-name-taken limits kinds top place field annotations quoted symbol c none told =
+name-taken limits kinds top place q field annotations quoted symbol rest none told =
+    let c = at q rest in
     ap (λ (o : Option Cursor). comes limits (part place (symbol_step limits kinds top field annotations quoted (positions.at symbol place) c o))) none
     ∙ ap (λ (b : Bool). comes limits (part place (value_or_version kinds top field annotations (positions.at symbol place) c b))) told
 
@@ -165,37 +162,22 @@ told-none sexp q rest more next is told =
     ap (colons_behind sexp) (passes.blank q next_place more (omega (arith, fewer)))
     ∙ (ap (λ (f : First). colons_at f (at next_place (next.rest.now ++ more))) (is.tells told sexp more) ∙ no-colons next.told (at next_place (next.rest.now ++ more)))
 
--- a symbol without quotes, which is read as `symbol` and seen as `seen`
-pub head-word : (limits : Limits) (place n : ℕ) (symbol seen : Symbol) (bytes rest : List ℕ) (next : Next) → rest ≡ drop n bytes → 0 < n → n ≤ length bytes
-    → ((place : ℕ) (more : List ℕ) → token_of (Some limits.scalar) tokens.a_word (at place (bytes ++ more)) ≡ Ok (tokens.name false symbol, at (place + n) (drop n bytes ++ more)))
-    → IsKnown seen → ((k : Option Kind) (annotations : List SymbolAt) → tells_version k annotations false symbol ≡ false) → IsNext rest next → 0 < next.told
-    → IsBare bytes → ((in_sexp : Bool) (more : List ℕ) → first_at in_sexp (bytes ++ more) ≡ tokens.a_word)
+-- a symbol, which is read as `symbol` and seen as `seen`, behind which such a token is told
+pub head-word : {limits : Limits} {place : ℕ} {first : First} {bytes rest : List ℕ} (quoted : Bool) (symbol seen : Symbol) (next : Next) → IsToken limits.scalar first (tokens.name quoted symbol) place bytes rest
+    → IsKnown seen → ((k : Option Kind) (annotations : List SymbolAt) → tells_version k annotations quoted symbol ≡ false) → IsNext rest next → (next.told ≡ 0 → ⊥)
     → IsHeadAs (value.whole (value.symbol (positions.at symbol place))) limits place bytes (value.whole (value.symbol (positions.at seen place))) rest
-head-word limits place n symbol seen bytes rest next behind counts within shown known version is told bare begins =
-    let long = length-drop n bytes in
-    let rest_long : length rest ≡ length (drop n bytes) = ap (λ (l : List ℕ). length l) behind in
-    record {
-      part = subst (λ (l : List ℕ). IsBehind bytes l) (sym behind) (some-behind bytes n within);
-      fewer = omega (arith, long, rest_long, counts, within);
-      known = known;
-      range = tt;
-      member = λ kinds. refl;
-      value = refl;
-      gives = λ kinds top q field annotations more fits e.
-          let q_is : place + n ≡ q = omega (arith, e, long, rest_long, within) in
-          later-token limits kinds top place q (a_value field annotations) bytes rest more tokens.a_word (tokens.name false symbol) bare (omega (arith, counts, within)) begins (may-value field annotations tokens.a_word)
-          (shown place more ∙ (ap (λ (k : ℕ). Ok (tokens.name false symbol, at k (drop n bytes ++ more))) q_is
-          ∙ ap (λ (l : List ℕ). Ok (tokens.name false symbol, at q (l ++ more))) (sym behind)))
-          ∙ name-taken limits kinds top place field annotations false symbol (at q (rest ++ more)) (told-none (in_sexp (innermost kinds)) q rest more next is told) (version (innermost kinds) annotations);
-    }
+head-word {limits} {place} {first} {bytes} {rest} quoted symbol seen next is known version behind told =
+    let some : 0 < next.told = omega (arith, told) in
+    head-token (value.symbol (positions.at symbol place)) (value.symbol (positions.at seen place)) known tt is
+    (λ kinds top q field annotations more.
+    name-taken limits kinds top place q field annotations quoted symbol (rest ++ more) (told-none (in_sexp (innermost kinds)) q rest more next behind some) (version (innermost kinds) annotations))
 
-pub head-symbol : (limits : Limits) (place n : ℕ) (bytes rest : List ℕ) (next : Next) → rest ≡ drop n bytes → IsSimpleWord limits.scalar bytes n → IsNext rest next → 0 < next.told
-    → IsBare bytes → ((in_sexp : Bool) (more : List ℕ) → first_at in_sexp (bytes ++ more) ≡ tokens.a_word)
-    → IsHead limits place bytes (value.whole (value.symbol (positions.at (value.Text (take n bytes)) place))) rest
-head-symbol limits place n bytes rest next behind word is told bare begins =
-    let text : Symbol = value.Text (take n bytes) in
-    let version = no-version (take n bytes) (simple-free (take n bytes) word.simple) in
-    head-word limits place n text text bytes rest next behind word.some word.within word.shown tt (λ k annotations. no-marker k annotations (take n bytes) version) is told bare begins
+pub token-word : {limit place n : ℕ} {bytes rest : List ℕ} → rest ≡ drop n bytes → IsSimpleWord limit bytes n → BeginsAs tokens.a_word bytes
+    → IsToken limit tokens.a_word (tokens.name false (value.Text (take n bytes))) place bytes rest
+token-word behind word begins = token-front behind word.some word.within word.shown begins
+
+pub word-marker : {limit n : ℕ} {bytes : List ℕ} → IsSimpleWord limit bytes n → (k : Option Kind) (annotations : List SymbolAt) → tells_version k annotations false (value.Text (take n bytes)) ≡ false
+word-marker {limit} {n} {bytes} word k annotations = no-marker k annotations (take n bytes) (no-version (take n bytes) (simple-free (take n bytes) word.simple))
 
 -- ---- symbols in quotes
 
@@ -207,32 +189,23 @@ other-quote : (b : ℕ) → (b == 39) ≡ false → (39 == b) ≡ false
 other-quote b e = grind (arith, e)
 
 -- a quote begins one where no quote follows
-pub quote-first : (bytes : List ℕ) → 2 ≤ length bytes → get_or bytes 0 0 ≡ 39 → not (get_or bytes 1 0 == 39) ≡ true → (in_sexp : Bool) (more : List ℕ) → first_at in_sexp (bytes ++ more) ≡ tokens.a_quoted
-quote-first [] two first other sexp more = absurd (omega (arith, two))
-quote-first (a ∷ []) two first other sexp more = absurd (omega (arith, two))
-quote-first (a ∷ b ∷ bytes) two first other sexp more =
-    ap (λ (x : ℕ). first_at sexp (x ∷ b ∷ (bytes ++ more))) first ∙ one-quote sexp b (bytes ++ more) (other-quote b (not-told (b == 39) other))
+pub quote-begins : (bytes : List ℕ) → 2 ≤ length bytes → get_or bytes 0 0 ≡ 39 → not (get_or bytes 1 0 == 39) ≡ true → BeginsAs tokens.a_quoted bytes
+quote-begins [] two first other = absurd (omega (arith, two))
+quote-begins (a ∷ []) two first other = absurd (omega (arith, two))
+quote-begins (a ∷ b ∷ bytes) two first other = record {
+  bare = λ p more. ap (λ (x : ℕ). blanks (at p (x ∷ b ∷ (bytes ++ more)))) first ∙ (no-slash p 39 (b ∷ (bytes ++ more)) refl refl ∙ ap (λ (x : ℕ). Ok (at p (x ∷ b ∷ (bytes ++ more)))) (sym first));
+  some = omega arith;
+  first = λ sexp more. ap (λ (x : ℕ). first_at sexp (x ∷ b ∷ (bytes ++ more))) first ∙ one-quote sexp b (bytes ++ more) (other-quote b (not-told (b == 39) other));
+}
 
-pub quoted-token : (limit : Option ℕ) (c d : Cursor) (bytes : List ℕ) → text_at symbol_quote limit (skip 1 c) ≡ Ok (bytes, d) → token_of limit tokens.a_quoted c ≡ Ok (tokens.name true (value.Text bytes), d)
-unfolding token_of
-quoted-token limit c d bytes e = ap (λ (o : Result (List ℕ × Cursor) Reason). o >>= (λ t. Ok (tokens.name true (value.Text t.0), t.1))) e
+-- ---- texts that name fields
 
-pub head-quoted : (limits : Limits) (place plain count : ℕ) (bytes text rest : List ℕ) (next : Next) → text ≡ drop 1 bytes → rest ≡ drop count text
-    → Shows (λ n. take n text) text (Whole plain count) (λ c. text_at symbol_quote (Some limits.scalar) c) → IsNext rest next → 0 < next.told
-    → IsBare bytes → 0 < length bytes → ((in_sexp : Bool) (more : List ℕ) → first_at in_sexp (bytes ++ more) ≡ tokens.a_quoted)
-    → IsHead limits place bytes (value.whole (value.symbol (positions.at (value.Text (take plain text)) place))) rest
-head-quoted limits place plain count bytes text rest next inside behind shows is told bare some begins =
-    let parts = behind-inside count bytes text rest inside behind shows.0 some in
-    record {
-      part = parts.0;
-      fewer = parts.1;
-      known = tt;
-      range = tt;
-      member = λ kinds. refl;
-      value = refl;
-      gives = λ kinds top q field annotations more fits e.
-          later-token limits kinds top place q (a_value field annotations) bytes rest more tokens.a_quoted (tokens.name true (value.Text (take plain text))) bare some begins (may-value field annotations tokens.a_quoted)
-          (quoted-token (Some limits.scalar) (at place (bytes ++ more)) (at q (rest ++ more)) (take plain text)
-          (text-inside symbol_quote (Some limits.scalar) place q plain count bytes text rest more inside behind shows some e))
-          ∙ name-taken limits kinds top place field annotations true (value.Text (take plain text)) (at q (rest ++ more)) (told-none (in_sexp (innermost kinds)) q rest more next is told) (quoted-marker (innermost kinds) annotations (take plain text));
-    }
+pub name-between : {limits : Limits} {place : ℕ} {bytes : List ℕ} {found : Between} (name : TextAt) (quote : CodeQuote) → name.place ≡ place → name.text.now ≡ found.text.now
+    → IsBetween (quote_of quote) limits.scalar bytes found → BeginsText quote bytes → IsName limits place bytes (placed_text name) found.rest.now × (0 < length bytes)
+name-between {limits} {place} {found} name quotes.Symbol here text is begins =
+    (name-token (token-quoted is begins) may-quoted (symbol-names limits place true name found.text.now here text), begins.some)
+name-between {limits} {place} {found} name quotes.Short here text is begins =
+    (name-token (token-short is begins) may-string (string-names limits place name found.text.now here text), begins.some)
+name-between name quotes.ShortClob here text is begins = absurd begins
+name-between name quotes.Long here text is begins = absurd begins
+name-between name quotes.LongClob here text is begins = absurd begins

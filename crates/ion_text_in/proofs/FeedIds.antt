@@ -1,7 +1,6 @@
 -- Ids in a lane: as the name of a field, and as a value.
-use Rattle.std.proofs.Common.{◌≡◌, ℕ, ◌+◌, ◌-◌, ◌<◌, Bool, true, false, ◌==◌, List, [], ◌∷◌, ◌++◌, length, take, drop, Option, Some, None, IfSome, Ok, refl, sym, ap, subst, ◌∙◌, arith}
+use Rattle.std.proofs.Common.{◌≡◌, ℕ, ◌+◌, ◌<◌, ◌≤◌, Bool, true, false, ◌==◌, List, [], ◌∷◌, ◌++◌, length, take, drop, Option, Some, None, IfSome, Ok, refl, sym, ap, subst, ◌∙◌, arith}
 use Rattle.std.specs.Prelude.{option_map}
-use Rattle.std.proofs.lemmas.List.{length-drop}
 use Rattle.ion_meter.specs.Sources.{Cursor}
 use Rattle.ion_meter.specs.declared.limits.Limits.{Limits}
 use Rattle.ion_value.specs.declared.ion_type.Kind.{Kind}
@@ -16,14 +15,15 @@ use Rattle.ion_value.specs.Value as value
 use Rattle.ion_value.specs.Value.{SymbolAt, map_head}
 use Rattle.ion_text_in.specs.Blanks.{blanks}
 use Rattle.ion_text_in.specs.declared.expected.Expected.TheVariants as codes_of
-use Rattle.ion_text_in.specs.declared.feed.Found.{Found}
-use Rattle.ion_text_in.specs.declared.feed.Next.{Next}
-use Rattle.ion_text_in.specs.declared.feed.Spot.{Spot}
-use Rattle.ion_text_in.specs.declared.feed.Start.{Start}
+use Rattle.ion_text_in.specs.declared.feed.spot.Bounds.{Bounds}
+use Rattle.ion_text_in.specs.declared.feed.spot.Found.{Found}
+use Rattle.ion_text_in.specs.declared.feed.spot.Next.{Next}
+use Rattle.ion_text_in.specs.declared.feed.spot.Spot.{Spot}
+use Rattle.ion_text_in.specs.declared.feed.spot.Start.{Start}
 use Rattle.ion_text_in.specs.declared.scanned.Scanned.TheVariants.{Whole}
 use Rattle.ion_text_in.specs.declared.word.Word.{Word}
 use Rattle.ion_text_in.specs.declared.word.Word.TheVariants as word
-use Rattle.ion_text_in.specs.Feeding.{expected_of, IsBare, IsBehindName, IsFound, IsFoundBy, IsFoundRead, IsFurther, IsHeadAs, IsIdOf, IsNamedBy, IsNext, IsStartBy, IsStartRead, Lane, Moved, MovedBy}
+use Rattle.ion_text_in.specs.Feeding.{expected_of, place_in, BeginsAs, IsBehindName, IsFound, IsFoundBy, IsFoundRead, IsFurther, IsHeadAs, IsIdOf, IsNamedBy, IsNext, IsStartBy, IsStartRead, Lane, Turns, TurnsBy}
 use Rattle.ion_text_in.specs.Meaning.{at}
 use Rattle.ion_text_in.specs.Positions as positions
 use Rattle.ion_text_in.specs.Positions.{a_field}
@@ -36,8 +36,8 @@ use Rattle.ion_text_in.specs.Views.{word_token_of}
 use Rattle.ion_text_in.proofs.BlankTurns.{no-slash}
 use Rattle.ion_text_in.proofs.FeedHeads.{head-word}
 use Rattle.ion_text_in.proofs.FeedItems.{head-seen, text-seen}
-use Rattle.ion_text_in.proofs.FeedNames.{named-as, name-token, may-word, start-as, IsName}
-use Rattle.ion_text_in.proofs.FeedReading.{some-behind}
+use Rattle.ion_text_in.proofs.FeedNames.{named-as, name-token, may-word, start-as}
+use Rattle.ion_text_in.proofs.FeedReading.{token-front, IsToken}
 use Rattle.ion_text_in.proofs.ShownFurther.{shown-some}
 
 -- ---- a dollar sign
@@ -50,18 +50,14 @@ unfolding first_at
 dollar-word sexp bytes = refl
 
 -- it begins a word
-pub dollar-first : (bytes : List ℕ) → first_is (λ b. b == 36) bytes ≡ true → (in_sexp : Bool) (more : List ℕ) → first_at in_sexp (bytes ++ more) ≡ tokens.a_word
-dollar-first [] e sexp more = absurd (cc e)
-dollar-first (b ∷ bytes) e sexp more = ap (λ (x : ℕ). first_at sexp (x ∷ (bytes ++ more))) (dollar-is b e) ∙ dollar-word sexp (bytes ++ more)
-
-pub dollar-bare : (bytes : List ℕ) → first_is (λ b. b == 36) bytes ≡ true → IsBare bytes
-dollar-bare [] e = absurd (cc e)
-dollar-bare (b ∷ bytes) e = λ p more.
-    ap (λ (x : ℕ). blanks (at p (x ∷ (bytes ++ more)))) (dollar-is b e) ∙ (no-slash p 36 (bytes ++ more) refl refl ∙ ap (λ (x : ℕ). Ok (at p (x ∷ (bytes ++ more)))) (sym (dollar-is b e)))
-
-pub dollar-some : (bytes : List ℕ) → first_is (λ b. b == 36) bytes ≡ true → 0 < length bytes
-dollar-some [] e = absurd (cc e)
-dollar-some (b ∷ bytes) e = omega arith
+pub dollar-begins : (bytes : List ℕ) → first_is (λ b. b == 36) bytes ≡ true → BeginsAs tokens.a_word bytes
+dollar-begins [] e = absurd (cc e)
+dollar-begins (b ∷ bytes) e = record {
+  bare = λ p more.
+      ap (λ (x : ℕ). blanks (at p (x ∷ (bytes ++ more)))) (dollar-is b e) ∙ (no-slash p 36 (bytes ++ more) refl refl ∙ ap (λ (x : ℕ). Ok (at p (x ∷ (bytes ++ more)))) (sym (dollar-is b e)));
+  some = omega arith;
+  first = λ sexp more. ap (λ (x : ℕ). first_at sexp (x ∷ (bytes ++ more))) (dollar-is b e) ∙ dollar-word sexp (bytes ++ more);
+}
 
 -- ---- an id by its text
 
@@ -88,19 +84,10 @@ id-names : (limits : Limits) (place id : ℕ) (kinds : List Kind) (top : ℕ) (c
 unfolding taken
 id-names limits place id kinds top c = refl
 
-name-id : (texts : ℕ → Option (List ℕ)) (limits : Limits) (place n : ℕ) (bytes text rest : List ℕ) (is : IsIdOf texts limits.scalar bytes text n) → rest ≡ drop n bytes → first_is (λ b. b == 36) bytes ≡ true
-    → IsName limits place bytes (positions.at (value.Id is.id) place) rest
-name-id texts limits place n bytes text rest is behind dollar =
-    let within = is.within in
-    let long = length-drop n bytes in
-    let name = positions.at (value.Id is.id) place in
-    subst (λ (l : List ℕ). IsName limits place bytes name l) (sym behind)
-    (name-token limits place tokens.a_word (tokens.name false (value.Id is.id)) name bytes (drop n bytes) (some-behind bytes n within) (omega (arith, long)) (dollar-bare bytes dollar) (dollar-some bytes dollar)
-    (dollar-first bytes dollar) may-word
-    (λ q more e.
-    let q_is : place + n ≡ q = omega (arith, e, long, within) in
-    is.shown place more ∙ ap (λ (k : ℕ). Ok (tokens.name false (value.Id is.id), at k (drop n bytes ++ more))) q_is)
-    (id-names limits place is.id))
+-- the token
+token-id : {texts : ℕ → Option (List ℕ)} {limit place n : ℕ} {bytes text rest : List ℕ} (is : IsIdOf texts limit bytes text n) → rest ≡ drop n bytes → first_is (λ b. b == 36) bytes ≡ true
+    → IsToken limit tokens.a_word (tokens.name false (value.Id is.id)) place bytes rest
+token-id {bytes} is behind dollar = token-front behind is.some is.within is.shown (dollar-begins bytes dollar)
 
 -- a value begins behind an id that is its name
 pub named-id : (texts : ℕ → Option (List ℕ)) (limits : Limits) (place n : ℕ) (name : TextAt) (bytes rest : List ℕ) (start : Option Start) → name.place ≡ place → IsIdOf texts limits.scalar bytes name.text.now n
@@ -112,20 +99,20 @@ named-id texts limits place n name bytes rest (Some s) here is behind dollar h =
       text = name;
       raw = raw;
       seen = id-seen texts is.id place name.text.now is.has ∙ ap (λ (p : ℕ). positions.at (value.Text name.text.now) p) (sym here);
-      name = named-as limits place name raw bytes rest s (name-id texts limits place n bytes name.text.now rest is behind dollar) (λ _. is.simple) (dollar-some bytes dollar) h;
+      name = named-as limits place name raw bytes rest s (name-token (token-id is behind dollar) may-word (id-names limits place is.id)) (λ _. is.simple) (dollar-begins bytes dollar).some h;
     }
 
-pub start-named : (texts : ℕ → Option (List ℕ)) (limits : Limits) (spot : Spot) (place named : ℕ) (next : Next) (start : Option Start) → expected_of spot ≡ codes_of.Field → IsNext spot.rest.now next
-    → named ≡ place + (length spot.rest.now - length next.rest.now) → IfSome start (IsNamedBy texts limits named next.rest.now) → IfSome start (IsStartBy texts None limits spot place)
-start-named texts limits spot place named next None field is here h = tt
-start-named texts limits spot place named next (Some s) field is here h = record {
-  raw = Some h.raw;
-  seen = ap (λ (a : SymbolAt). Some a) h.seen ∙ ap (λ (f : Option TextAt). option_map placed_text f) (sym h.name.is);
-  read = start-as limits spot place named next h.text h.raw s field is here h.name;
+pub start-named : {named : ℕ} (texts : ℕ → Option (List ℕ)) (bounds : Bounds) (spot : Spot) (next : Next) (start : Option Start) → named ≡ place_in bounds next.rest.now → length spot.rest.now ≤ bounds.end → expected_of spot ≡ codes_of.Field → IsNext spot.rest.now next
+    → IfSome start (IsNamedBy texts bounds.limits named next.rest.now) → IfSome start (IsStartBy texts None bounds spot)
+start-named texts bounds spot next None here within field is h = tt
+start-named texts bounds spot next (Some s) here within field is h = let name = subst (λ (p : ℕ). IsNamedBy texts bounds.limits p next.rest.now s) here h in record {
+  raw = Some name.raw;
+  seen = ap (λ (a : SymbolAt). Some a) name.seen ∙ ap (λ (f : Option TextAt). option_map placed_text f) (sym name.name.is);
+  read = start-as bounds spot next name.text name.raw s within field is name.name;
 }
 
 -- the name is a text, if there is one
-pub text-start : (texts : ℕ → Option (List ℕ)) {pair : Option SecondAt} {limits : Limits} {spot : Spot} {place : ℕ} {start : Start} → IsFurther pair limits spot place start → IsStartBy texts pair limits spot place start
+pub text-start : (texts : ℕ → Option (List ℕ)) {pair : Option SecondAt} {bounds : Bounds} {spot : Spot} {start : Start} → IsFurther pair bounds spot start → IsStartBy texts pair bounds spot start
 text-start texts {start} h = record { raw = option_map placed_text start.field; seen = text-seen texts start.field; read = h }
 
 -- ---- a value
@@ -137,10 +124,9 @@ id-marker id None (a ∷ annotations) = refl
 id-marker id (Some k) annotations = refl
 
 -- an id behind which a token is told that is no two colons
-pub head-id : (texts : ℕ → Option (List ℕ)) (limits : Limits) (place n : ℕ) (bytes text rest : List ℕ) (next : Next) (is : IsIdOf texts limits.scalar bytes text n) → rest ≡ drop n bytes → IsNext rest next → 0 < next.told
+pub head-id : {texts : ℕ → Option (List ℕ)} {limits : Limits} {place n : ℕ} {bytes text rest : List ℕ} (next : Next) (is : IsIdOf texts limits.scalar bytes text n) → rest ≡ drop n bytes → IsNext rest next → (next.told ≡ 0 → ⊥)
     → first_is (λ b. b == 36) bytes ≡ true → IsHeadAs (value.whole (value.symbol (positions.at (value.Id is.id) place))) limits place bytes (value.whole (value.symbol (positions.at (value.Text text) place))) rest
-head-id texts limits place n bytes text rest next is behind told_next told dollar =
-    head-word limits place n (value.Id is.id) (value.Text text) bytes rest next behind is.some is.within is.shown tt (id-marker is.id) told_next told (dollar-bare bytes dollar) (dollar-first bytes dollar)
+head-id {text} next is behind told_next told dollar = head-word false (value.Id is.id) (value.Text text) next (token-id is behind dollar) tt (id-marker is.id) told_next told
 
 pub head-id-seen : (texts : ℕ → Option (List ℕ)) (id place : ℕ) (text : List ℕ) → texts id ≡ Some text
     → map_head (named_at texts) (value.whole (value.symbol (positions.at (value.Id id) place))) ≡ value.whole (value.symbol (positions.at (value.Text text) place))
@@ -152,7 +138,7 @@ found-text texts {found} h = record { raw = raw_head found.head; seen = head-see
 
 -- ---- by the texts that ids have
 
-pub start-seen : {texts : ℕ → Option (List ℕ)} {pair : Option SecondAt} {limits : Limits} {spot : Spot} {place : ℕ} {start : Start} (s : IsStartBy texts pair limits spot place start) (t : ℕ → Option (List ℕ)) → t ≡ texts
+pub start-seen : {texts : ℕ → Option (List ℕ)} {pair : Option SecondAt} {bounds : Bounds} {spot : Spot} {start : Start} (s : IsStartBy texts pair bounds spot start) (t : ℕ → Option (List ℕ)) → t ≡ texts
     → option_map (named_at t) s.raw ≡ option_map placed_text start.field
 start-seen {start} s t is = subst (λ (x : ℕ → Option (List ℕ)). option_map (named_at x) s.raw ≡ option_map placed_text start.field) (sym is) s.seen
 
@@ -162,32 +148,37 @@ found-seen {found} f t is = subst (λ (x : ℕ → Option (List ℕ)). map_head 
 
 -- ---- however they are read
 
-pub start-read : {pair : Option SecondAt} {limits : Limits} {spot : Spot} {place : ℕ} {start : Start} → IsFurther pair limits spot place start → IsStartRead pair limits spot place start
+pub start-read : {pair : Option SecondAt} {bounds : Bounds} {spot : Spot} {start : Start} → IsFurther pair bounds spot start → IsStartRead pair bounds spot start
 start-read {start} h = record { raw = option_map placed_text start.field; read = h }
 
 pub found-read : {limits : Limits} {place : ℕ} {bytes : List ℕ} {found : Found} → IsFound limits place bytes found → IsFoundRead limits place bytes found
 found-read {found} h = record { raw = raw_head found.head; head = h.head; spelled = h.spelled }
 
--- what is moved by any texts is moved whatever they are
-pub moved-any : {W O A : Type 0} {w : WriterOf W O A} {limits : Limits} {end : ℕ} {l n : Lane W O} → ((texts : ℕ → Option (List ℕ)) → MovedBy w limits end texts l n) → Moved w limits end l n
-moved-any by =
-    let one = by (λ id. None) in
+-- what a turn moves by any texts it moves whatever they are
+turns-any : {W O A : Type 0} {w : WriterOf W O A} {bounds : Bounds} {more : Bool} {l n : Lane W O} → ((texts : ℕ → Option (List ℕ)) → TurnsBy w bounds texts more l n) → Turns w bounds more l n
+turns-any by =
+    let turned = by (λ id. None) in
+    let one = turned.moved in
     record {
-      feeds = λ texts _ more. (by texts).feeds texts refl more;
-      falls = one.falls;
-      part = one.part;
-      fewer = one.fewer;
-      few = one.few;
-      kind = one.kind;
-      expects = one.expects;
-      takes = one.takes;
-      share = one.share;
-      stays = one.stays;
-      charges = one.charges;
+      moved = record {
+        feeds = λ texts _ more. (by texts).moved.feeds texts refl more;
+        falls = one.falls;
+        opens = one.opens;
+        part = one.part;
+        fewer = one.fewer;
+        few = one.few;
+        kind = one.kind;
+        expects = one.expects;
+        takes = one.takes;
+        share = one.share;
+        stays = one.stays;
+        charges = one.charges;
+      };
+      less = turned.less;
     }
 
 -- so is what name and head are read of, where both are texts
-pub moved-text : {W O A : Type 0} {w : WriterOf W O A} {limits : Limits} {end : ℕ} {l n : Lane W O} {pair : Option SecondAt} {spot : Spot} {before place : ℕ} {start : Start} {bytes : List ℕ} {found : Found}
-    → IsFurther pair limits spot before start → IsFound limits place bytes found
-    → ((texts : ℕ → Option (List ℕ)) → IsStartBy texts pair limits spot before start → IsFoundBy texts limits place bytes found → MovedBy w limits end texts l n) → Moved w limits end l n
-moved-text s f moves = moved-any (λ texts. moves texts (text-start texts s) (found-text texts f))
+pub turns-text : {W O A : Type 0} {w : WriterOf W O A} {bounds : Bounds} {more : Bool} {l n : Lane W O} {pair : Option SecondAt} {spot : Spot} {start : Start} {place : ℕ} {bytes : List ℕ} {found : Found}
+    → IsFurther pair bounds spot start → IsFound bounds.limits place bytes found
+    → ((texts : ℕ → Option (List ℕ)) → IsStartBy texts pair bounds spot start → IsFoundBy texts bounds.limits place bytes found → TurnsBy w bounds texts more l n) → Turns w bounds more l n
+turns-text s f turns = turns-any (λ texts. turns texts (text-start texts s) (found-text texts f))

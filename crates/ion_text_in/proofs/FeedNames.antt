@@ -1,5 +1,5 @@
 -- Words that are simple texts, and the names of fields in a lane.
-use Rattle.std.proofs.Common.{◌≡◌, ℕ, suc, ◌+◌, ◌-◌, ◌<◌, ◌≤◌, Bool, true, false, ◌&&◌, ◌==◌, List, [], ◌∷◌, ◌++◌, length, take, drop, get_or, codes, Option, Some, None, IfSome, Ok, refl, sym, ap, subst, ◌∙◌, arith}
+use Rattle.std.proofs.Common.{◌≡◌, ℕ, zero, suc, ◌+◌, ◌-◌, ◌<◌, ◌≤◌, Bool, true, false, ◌&&◌, ◌==◌, List, [], ◌∷◌, ◌++◌, length, take, drop, get_or, codes, Option, Some, None, IfSome, Ok, refl, sym, ap, subst, ◌∙◌, arith}
 use Rattle.std.specs.Prelude.{option_map}
 use Rattle.std.specs.Str.{bytes_eq}
 use Rattle.std.proofs.lemmas.List.{length-drop}
@@ -15,12 +15,13 @@ use Rattle.ion_value.specs.Parts.{Placed, ◌>>=◌}
 use Rattle.ion_value.specs.PlainItems.{placed_text, IsRightlySimple}
 use Rattle.ion_value.specs.Value as value
 use Rattle.ion_value.specs.Value.{SymbolAt}
-use Rattle.ion_text_in.specs.Feeding.{expected_of, state, Begins, IfName, IsBare, IsBegun, IsBehind, IsBehindName, IsNamed, IsNamedAs, IsNext, IsSimpleWord, IsStart, IsStartAs, Onward, PassesBlanks, ToColon}
+use Rattle.ion_text_in.specs.Feeding.{expected_of, place_in, state, Begins, IfName, IsBegun, IsBehind, IsBehindName, IsNamed, IsNamedAs, IsNext, IsSimpleWord, IsStart, IsStartAs, Onward, PassesBlanks, ToColon}
 use Rattle.ion_text_in.specs.declared.expected.Expected.{Expected}
 use Rattle.ion_text_in.specs.declared.expected.Expected.TheVariants as codes_of
-use Rattle.ion_text_in.specs.declared.feed.Next.{Next}
-use Rattle.ion_text_in.specs.declared.feed.Spot.{Spot}
-use Rattle.ion_text_in.specs.declared.feed.Start.{Start}
+use Rattle.ion_text_in.specs.declared.feed.spot.Bounds.{Bounds}
+use Rattle.ion_text_in.specs.declared.feed.spot.Next.{Next}
+use Rattle.ion_text_in.specs.declared.feed.spot.Spot.{Spot}
+use Rattle.ion_text_in.specs.declared.feed.spot.Start.{Start}
 use Rattle.ion_text_in.specs.declared.scanned.Scanned.TheVariants.{Whole}
 use Rattle.ion_text_in.specs.declared.word.Word.{Word}
 use Rattle.ion_text_in.specs.declared.word.Word.TheVariants as word
@@ -33,9 +34,9 @@ use Rattle.ion_text_in.specs.Reading.{take as taken, may_come, colon_from, colon
 use Rattle.ion_text_in.specs.Runs.{EndBehind}
 use Rattle.ion_text_in.specs.Steps.{comes, later}
 use Rattle.ion_text_in.specs.Token as tokens
-use Rattle.ion_text_in.specs.Token.{First, Token, by_keyword, first_at, in_word, token_of, word_of, word_token}
+use Rattle.ion_text_in.specs.Token.{First, Token, by_keyword, first_at, in_word, word_of, word_token}
 use Rattle.ion_text_in.specs.Views.{AreShown, may_be_keyword, word_token_of}
-use Rattle.ion_text_in.proofs.FeedReading.{behind-then, some-behind, later-token, mark-behind, onward-blanks, onward-then}
+use Rattle.ion_text_in.proofs.FeedReading.{behind-then, some-behind, later-token, mark-behind, onward-blanks, onward-then, IsToken}
 use Rattle.ion_text_in.proofs.ShownTokens.{word-shown}
 use Rattle.ion_text_in.proofs.WordTokens.{word-untyped}
 
@@ -174,16 +175,15 @@ read-text text place word here is =
     ap (λ (l : List ℕ). positions.at (value.Text l) place) (sym is) ∙ ap (λ (p : ℕ). positions.at (value.Text text.text.now) p) (sym here)
 
 -- a token that names a field
-pub name-token : (limits : Limits) (place : ℕ) (first : First) (token : Token) (name : SymbolAt) (bytes rest : List ℕ) → IsBehind bytes rest → length rest ≤ length bytes
-    → IsBare bytes → 0 < length bytes → ((in_sexp : Bool) (more : List ℕ) → first_at in_sexp (bytes ++ more) ≡ first) → may_come a_field first ≡ true
-    → ((q : ℕ) (more : List ℕ) → place + length bytes ≡ q + length rest → token_of (Some limits.scalar) first (at place (bytes ++ more)) ≡ Ok (token, at q (rest ++ more)))
-    → ((kinds : List Kind) (top : ℕ) (c : Cursor) → comes limits (taken limits kinds top a_field place token c) ≡ comes limits (field_step kinds top name c))
-    → IsName limits place bytes name rest
-name-token limits place first token name bytes rest behind fewer bare some begins may shown names = record {
-  behind = behind;
-  fewer = fewer;
-  same = λ kinds top q more e. later-token limits kinds top place q a_field bytes rest more first token bare some begins may (shown q more e) ∙ names kinds top (at q (rest ++ more));
-}
+pub name-token : {limits : Limits} {place : ℕ} {first : First} {token : Token} {name : SymbolAt} {bytes rest : List ℕ} → IsToken limits.scalar first token place bytes rest → may_come a_field first ≡ true
+    → ((kinds : List Kind) (top : ℕ) (c : Cursor) → comes limits (taken limits kinds top a_field place token c) ≡ comes limits (field_step kinds top name c)) → IsName limits place bytes name rest
+name-token {limits} {place} {first} {token} {name} {bytes} {rest} is may names =
+    let fewer = is.fewer in
+    record {
+      behind = is.part;
+      fewer = omega (arith, fewer);
+      same = λ kinds top q more e. later-token limits kinds top place q a_field bytes rest more first token is.begins may (is.shown q more e) ∙ names kinds top (at q (rest ++ more));
+    }
 
 -- a symbol names one
 pub symbol-names : (limits : Limits) (place : ℕ) (quoted : Bool) (name : TextAt) (word : List ℕ) → name.place ≡ place → name.text.now ≡ word → (kinds : List Kind) (top : ℕ) (c : Cursor)
@@ -191,22 +191,23 @@ pub symbol-names : (limits : Limits) (place : ℕ) (quoted : Bool) (name : TextA
 unfolding taken
 symbol-names limits place quoted name word here is kinds top c = ap (λ (a : SymbolAt). comes limits (field_step kinds top a c)) (read-text name place word here is)
 
+-- so does a string
+pub string-names : (limits : Limits) (place : ℕ) (name : TextAt) (bytes : List ℕ) → name.place ≡ place → name.text.now ≡ bytes → (kinds : List Kind) (top : ℕ) (c : Cursor)
+    → comes limits (taken limits kinds top a_field place (tokens.text bytes) c) ≡ comes limits (field_step kinds top (placed_text name) c)
+unfolding taken
+string-names limits place name bytes here is kinds top c = ap (λ (a : SymbolAt). comes limits (field_step kinds top a c)) (read-text name place bytes here is)
+
 pub may-word : may_come a_field tokens.a_word ≡ true
 unfolding may_come
 may-word = refl
 
-pub name-word : (limits : Limits) (place n : ℕ) (name : TextAt) (bytes rest : List ℕ) → name.place ≡ place → name.text.now ≡ take n bytes → rest ≡ drop n bytes
-    → IsBare bytes → ((in_sexp : Bool) (more : List ℕ) → first_at in_sexp (bytes ++ more) ≡ tokens.a_word) → IsSimpleWord limits.scalar bytes n → IsName limits place bytes (placed_text name) rest
-name-word limits place n name bytes rest here is behind bare begins word =
-    let within = word.within in
-    let some = word.some in
-    let long = length-drop n bytes in
-    subst (λ (l : List ℕ). IsName limits place bytes (placed_text name) l) (sym behind)
-    (name-token limits place tokens.a_word (tokens.name false (value.Text (take n bytes))) (placed_text name) bytes (drop n bytes) (some-behind bytes n within) (omega (arith, long)) bare (omega (arith, within, some)) begins may-word
-    (λ q more e.
-    let q_is : place + n ≡ q = omega (arith, e, long, within) in
-    word.shown place more ∙ ap (λ (k : ℕ). Ok (tokens.name false (value.Text (take n bytes)), at k (drop n bytes ++ more))) q_is)
-    (symbol-names limits place false name (take n bytes) here is))
+pub may-quoted : may_come a_field tokens.a_quoted ≡ true
+unfolding may_come
+may-quoted = refl
+
+pub may-string : may_come a_field tokens.a_short ≡ true
+unfolding may_come
+may-string = refl
 
 colon-there : (kinds : List Kind) (top : ℕ) (a : SymbolAt) (c : Cursor) (rest more : List ℕ) → 0 < length rest → first_at false (rest ++ more) ≡ tokens.a_colon
     → colon_from kinds top a c (rest ++ more) ≡ colon_of kinds top a c tokens.a_colon
@@ -250,17 +251,32 @@ named-as limits place name raw bytes behind start is simple some h = record {
   begins = h.begins;
 }
 
-pub named-start : (limits : Limits) (place : ℕ) (name : TextAt) (bytes behind : List ℕ) (start : Option Start) → IsName limits place bytes (placed_text name) behind → IsRightlySimple name → 0 < length bytes
+pub named-start : {limits : Limits} {place : ℕ} {bytes behind : List ℕ} (name : TextAt) (start : Option Start) → IsName limits place bytes (placed_text name) behind → IsRightlySimple name → 0 < length bytes
     → IfSome start (IsBehindName name behind) → IfSome start (IsNamed limits place bytes)
-named-start limits place name bytes behind None is simple some h = tt
-named-start limits place name bytes behind (Some s) is simple some h = record { text = name; name = named-as limits place name (placed_text name) bytes behind s is simple some h }
+named-start name None is simple some h = tt
+named-start {limits} {place} {bytes} {behind} name (Some s) is simple some h = record { text = name; name = named-as limits place name (placed_text name) bytes behind s is simple some h }
+
+-- what is known of the next token, where there is one
+pub next-begins : {bytes : List ℕ} {next : Next} → IsNext bytes next → 0 < length next.rest.now → Begins next
+next-begins is some = record { some = some; tells = is.tells; bare = (is.passes some).bare }
+
+-- it begins within the bytes
+pub next-within : {bytes : List ℕ} {next : Next} → IsNext bytes next → length next.rest.now ≤ length bytes
+next-within {bytes} {next} is = by (length next.rest.now) refl
+  where
+    by : (n : ℕ) → length next.rest.now ≡ n → length next.rest.now ≤ length bytes
+    by zero e = omega (arith, e)
+    by (suc n) e = (is.passes (omega (arith, e))).fewer
 
 -- a value begins behind it, where a name must come
-pub start-as : (limits : Limits) (spot : Spot) (place named : ℕ) (next : Next) (text : TextAt) (raw : SymbolAt) (start : Start) → expected_of spot ≡ codes_of.Field → IsNext spot.rest.now next
-    → named ≡ place + (length spot.rest.now - length next.rest.now) → IsNamedAs text raw limits named next.rest.now start → IsStartAs (Some raw) None limits spot place start
-start-as limits spot place named next text raw start field is here h =
+pub start-as : (bounds : Bounds) (spot : Spot) (next : Next) (text : TextAt) (raw : SymbolAt) (start : Start) → length spot.rest.now ≤ bounds.end → expected_of spot ≡ codes_of.Field → IsNext spot.rest.now next
+    → IsNamedAs text raw bounds.limits (place_in bounds next.rest.now) next.rest.now start → IsStartAs (Some raw) None bounds spot start
+start-as bounds spot next text raw start within field is h =
     let passes = is.passes h.some in
     let fewer = passes.fewer in
+    let limits = bounds.limits in
+    let place = place_in bounds spot.rest.now in
+    let named = place_in bounds next.rest.now in
     record {
       known = rw h.is tt;
       free = rw h.bare tt;
@@ -269,25 +285,22 @@ start-as limits spot place named next text raw start field is here h =
       second = tt;
       stands = rw h.bare tt;
       onward = λ kinds may.
-          rw (h.bare, field) (onward-then limits kinds spot.top place named a_field a_field (a_value (Some raw) []) spot.rest.now next.rest.now start.next.rest.now (omega (arith, here, fewer))
+          rw (h.bare, field) (onward-then limits kinds spot.top place named a_field a_field (a_value (Some raw) []) spot.rest.now next.rest.now start.next.rest.now (omega (arith, within, fewer))
           (onward-blanks limits kinds spot.top place a_field spot.rest.now next.rest.now passes) (h.onward kinds spot.top));
       named = λ kinds may. rw h.is (sym (subst (λ (e : Expected). MayExpect e kinds None []) field may).0);
       begins = h.begins;
     }
 
-pub start-field : (limits : Limits) (spot : Spot) (place named : ℕ) (next : Next) (start : Option Start) → expected_of spot ≡ codes_of.Field → IsNext spot.rest.now next
-    → named ≡ place + (length spot.rest.now - length next.rest.now) → IfSome start (IsNamed limits named next.rest.now) → IfSome start (IsStart limits spot place)
-start-field limits spot place named next None field is here h = tt
-start-field limits spot place named next (Some s) field is here h =
-    subst (λ (f : Option TextAt). IsStartAs (option_map placed_text f) None limits spot place s) (sym h.name.is) (start-as limits spot place named next h.text (placed_text h.text) s field is here h.name)
+pub start-field : {named : ℕ} (bounds : Bounds) (spot : Spot) (next : Next) (start : Option Start) → named ≡ place_in bounds next.rest.now → length spot.rest.now ≤ bounds.end → expected_of spot ≡ codes_of.Field
+    → IsNext spot.rest.now next → IfSome start (IsNamed bounds.limits named next.rest.now) → IfSome start (IsStart bounds spot)
+start-field bounds spot next None here within field is h = tt
+start-field bounds spot next (Some s) here within field is h =
+    let name = subst (λ (p : ℕ). IsNamed bounds.limits p next.rest.now s) here h in
+    subst (λ (f : Option TextAt). IsStartAs (option_map placed_text f) None bounds spot s) (sym name.name.is) (start-as bounds spot next name.text (placed_text name.text) s within field is name.name)
 
 -- a name must come where a struct is open and no comma must come
 pub expects-field : (spot : Spot) → spot.separator ≡ false → spot.kind ≡ a_kind.Struct → expected_of spot ≡ codes_of.Field
 expects-field spot here struct = ap (λ (b : Bool). expected_in b spot.kind) here ∙ ap (λ (k : Kind). expected_in false k) struct
-
--- what is known of the next token, where there is one
-pub next-begins : (bytes : List ℕ) (next : Next) → IsNext bytes next → 0 < length next.rest.now → Begins next
-next-begins bytes next is some = record { some = some; tells = is.tells; bare = (is.passes some).bare }
 
 pub not-empty : (bytes : List ℕ) → (length bytes == 0) ≡ false → 0 < length bytes
 not-empty [] e = absurd (cc e)

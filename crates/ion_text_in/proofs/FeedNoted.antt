@@ -1,5 +1,5 @@
 -- Annotations in a lane.
-use Rattle.std.proofs.Common.{◌≡◌, ℕ, ◌+◌, ◌-◌, ◌<◌, ◌≤◌, Bool, true, false, ◌==◌, nat_lt, List, [], ◌∷◌, ◌++◌, length, take, drop, get_or, codes, append_assoc, Option, Some, None, IfSome, Ok, refl, sym, ap, subst, ◌∙◌, arith}
+use Rattle.std.proofs.Common.{◌≡◌, ℕ, ◌+◌, ◌-◌, ◌≤◌, Bool, true, false, ◌==◌, nat_lt, List, [], ◌∷◌, ◌++◌, length, take, drop, get_or, codes, append_assoc, Option, Some, None, IfSome, Ok, refl, sym, ap, subst, ◌∙◌, arith}
 use Rattle.std.specs.Prelude.{option_map, sum_by}
 use Rattle.std.proofs.lemmas.List.{length-append, length-drop, length-take-le, take-append-drop}
 use Rattle.ion_meter.specs.Sources.{Cursor, skip}
@@ -7,6 +7,7 @@ use Rattle.ion_meter.specs.declared.limits.Limits.{Limits}
 use Rattle.ion_meter.specs.declared.fault.Reason.TheVariants.{AnnotationLimit}
 use Rattle.ion_value.specs.declared.ion_type.Kind.{Kind}
 use Rattle.ion_value.specs.declared.ion_type.Kind.TheVariants as a_kind
+use Rattle.ion_value.specs.declared.plain_item.SecondAt.{SecondAt}
 use Rattle.ion_value.specs.declared.plain_item.TextAt.{TextAt}
 use Rattle.ion_value.specs.Digits.{first_is}
 use Rattle.ion_value.specs.Parts.{part, refuse, ◌>>◌}
@@ -15,21 +16,22 @@ use Rattle.ion_value.specs.Value as value
 use Rattle.ion_value.specs.Value.{SymbolAt}
 use Rattle.ion_text_in.specs.declared.expected.Expected.{Expected}
 use Rattle.ion_text_in.specs.declared.expected.Expected.TheVariants as expected
-use Rattle.ion_text_in.specs.declared.feed.Next.{Next}
-use Rattle.ion_text_in.specs.declared.feed.Spot.{Spot}
-use Rattle.ion_text_in.specs.declared.feed.Start.{Start}
+use Rattle.ion_text_in.specs.declared.feed.spot.Bounds.{Bounds}
+use Rattle.ion_text_in.specs.declared.feed.spot.Next.{Next}
+use Rattle.ion_text_in.specs.declared.feed.spot.Spot.{Spot}
+use Rattle.ion_text_in.specs.declared.feed.spot.Start.{Start}
 use Rattle.ion_text_in.specs.Blanks.{blanks}
 use Rattle.ion_text_in.specs.Expecting.{wanted, MayExpect}
-use Rattle.ion_text_in.specs.Feeding.{expected_of, notes, state, IsBare, IsBehind, IsBehindColons, IsBehindNote, IsNoted, IsSimpleWord, IsStart, Onward, StandsNoted}
+use Rattle.ion_text_in.specs.Feeding.{expected_of, notes, place_in, state, BeginsAs, IsBehind, IsBehindColons, IsBehindNote, IsNoted, IsStart, IsStartAs, Onward, StandsNoted}
 use Rattle.ion_text_in.specs.Meaning.{at}
 use Rattle.ion_text_in.specs.Positions.{Wants, a_value, in_sexp, innermost}
 use Rattle.ion_text_in.specs.Reading.{take as taken, behind_colons, colons_at, colons_behind, cost, onward_step, symbol_step}
 use Rattle.ion_text_in.specs.Steps.{comes, later}
 use Rattle.ion_text_in.specs.Token as tokens
-use Rattle.ion_text_in.specs.Token.{First, first_at, token_of}
+use Rattle.ion_text_in.specs.Token.{First, first_at}
 use Rattle.ion_text_in.proofs.BlankTurns.{no-slash}
 use Rattle.ion_text_in.proofs.FeedNames.{read-text}
-use Rattle.ion_text_in.proofs.FeedReading.{behind-then, later-token, may-value, onward-blanks, onward-then, some-behind}
+use Rattle.ion_text_in.proofs.FeedReading.{behind-then, later-token, may-value, onward-blanks, onward-then, some-behind, IsToken}
 
 not-less : (n m : ℕ) → m ≤ n → nat_lt n m ≡ false
 not-less n m h = grind (arith, h)
@@ -54,21 +56,20 @@ unfolding first_at
 both-colons true bytes = refl
 both-colons false bytes = refl
 
--- two colons show themselves
-pub colons-first : (bytes : List ℕ) → 2 ≤ length bytes → get_or bytes 0 0 ≡ 58 → get_or bytes 1 0 ≡ 58 → (in_sexp : Bool) (more : List ℕ) → first_at in_sexp (bytes ++ more) ≡ tokens.two_colons
-colons-first [] two first second sexp more = absurd (omega (arith, two))
-colons-first (a ∷ []) two first second sexp more = absurd (omega (arith, two))
-colons-first (a ∷ b ∷ bytes) two first second sexp more =
-    ap (λ (x : ℕ). first_at sexp (x ∷ b ∷ (bytes ++ more))) first ∙ (ap (λ (x : ℕ). first_at sexp (58 ∷ x ∷ (bytes ++ more))) second ∙ both-colons sexp (bytes ++ more))
-
 pub colons-same : (bytes : List ℕ) → 2 ≤ length bytes → get_or bytes 0 0 ≡ 58 → get_or bytes 1 0 ≡ 58 → take 2 bytes ≡ codes "::"
 colons-same [] two first second = absurd (omega (arith, two))
 colons-same (a ∷ []) two first second = absurd (omega (arith, two))
 colons-same (a ∷ b ∷ bytes) two first second = ap (λ (x : ℕ). x ∷ b ∷ []) first ∙ ap (λ (x : ℕ). 58 ∷ x ∷ []) second
 
-pub colons-bare : (bytes : List ℕ) → 2 ≤ length bytes → get_or bytes 0 0 ≡ 58 → IsBare bytes
-colons-bare [] two first = absurd (omega (arith, two))
-colons-bare (a ∷ bytes) two first = λ p more. ap (λ (x : ℕ). blanks (at p (x ∷ (bytes ++ more)))) first ∙ (no-slash p 58 (bytes ++ more) refl refl ∙ ap (λ (x : ℕ). Ok (at p (x ∷ (bytes ++ more)))) (sym first))
+-- two colons show themselves
+pub colons-begin : (bytes : List ℕ) → 2 ≤ length bytes → get_or bytes 0 0 ≡ 58 → get_or bytes 1 0 ≡ 58 → BeginsAs tokens.two_colons bytes
+colons-begin [] two first second = absurd (omega (arith, two))
+colons-begin (a ∷ []) two first second = absurd (omega (arith, two))
+colons-begin (a ∷ b ∷ bytes) two first second = record {
+  bare = λ p more. ap (λ (x : ℕ). blanks (at p (x ∷ b ∷ (bytes ++ more)))) first ∙ (no-slash p 58 (b ∷ (bytes ++ more)) refl refl ∙ ap (λ (x : ℕ). Ok (at p (x ∷ b ∷ (bytes ++ more)))) (sym first));
+  some = omega arith;
+  first = λ sexp more. ap (λ (x : ℕ). first_at sexp (x ∷ b ∷ (bytes ++ more))) first ∙ (ap (λ (x : ℕ). first_at sexp (58 ∷ x ∷ (bytes ++ more))) second ∙ both-colons sexp (bytes ++ more));
+}
 
 two-behind : (bytes more : List ℕ) (p : ℕ) → 2 ≤ length bytes → skip 2 (at p (bytes ++ more)) ≡ at (p + 2) (drop 2 bytes ++ more)
 two-behind [] more p two = absurd (omega (arith, two))
@@ -91,30 +92,18 @@ unfolding taken
 symbol-taken limits place quoted text word here is kinds top field before c =
     ap (λ (a : SymbolAt). comes limits (part place (symbol_step limits kinds top field before quoted a c (behind_colons (in_sexp (innermost kinds)) c)))) (read-text text place word here is)
 
-pub symbol-token : (limits : Limits) (place : ℕ) (first : First) (quoted : Bool) (text : TextAt) (word bytes rest : List ℕ) → text.place ≡ place → text.text.now ≡ word → IsBehind bytes rest → length rest ≤ length bytes
-    → IsBare bytes → 0 < length bytes → ((in_sexp : Bool) (more : List ℕ) → first_at in_sexp (bytes ++ more) ≡ first)
-    → ((q : ℕ) (more : List ℕ) → place + length bytes ≡ q + length rest → token_of (Some limits.scalar) first (at place (bytes ++ more)) ≡ Ok (tokens.name quoted (value.Text word), at q (rest ++ more)))
-    → IsSymbol limits place bytes text rest
-symbol-token limits place first quoted text word bytes rest here is behind fewer bare some begins shown = record {
-  behind = behind;
-  fewer = fewer;
-  quoted = quoted;
-  same = λ kinds top q field before more e.
-      later-token limits kinds top place q (a_value field before) bytes rest more first (tokens.name quoted (value.Text word)) bare some begins (may-value field before first) (shown q more e)
-      ∙ symbol-taken limits place quoted text word here is kinds top field before (at q (rest ++ more));
-}
-
-pub symbol-word : (limits : Limits) (place n : ℕ) (text : TextAt) (bytes rest : List ℕ) → text.place ≡ place → text.text.now ≡ take n bytes → rest ≡ drop n bytes
-    → IsBare bytes → ((in_sexp : Bool) (more : List ℕ) → first_at in_sexp (bytes ++ more) ≡ tokens.a_word) → IsSimpleWord limits.scalar bytes n → IsSymbol limits place bytes text rest
-symbol-word limits place n text bytes rest here is behind bare begins word =
-    let within = word.within in
-    let some = word.some in
-    let long = length-drop n bytes in
-    subst (λ (l : List ℕ). IsSymbol limits place bytes text l) (sym behind)
-    (symbol-token limits place tokens.a_word false text (take n bytes) bytes (drop n bytes) here is (some-behind bytes n within) (omega (arith, long)) bare (omega (arith, within, some)) begins
-    (λ q more e.
-    let q_is : place + n ≡ q = omega (arith, e, long, within) in
-    word.shown place more ∙ ap (λ (k : ℕ). Ok (tokens.name false (value.Text (take n bytes)), at k (drop n bytes ++ more))) q_is))
+pub symbol-token : {limits : Limits} {place : ℕ} {first : First} {word bytes rest : List ℕ} (quoted : Bool) (text : TextAt) → text.place ≡ place → text.text.now ≡ word
+    → IsToken limits.scalar first (tokens.name quoted (value.Text word)) place bytes rest → IsSymbol limits place bytes text rest
+symbol-token {limits} {place} {first} {word} {bytes} {rest} quoted text here is token =
+    let fewer = token.fewer in
+    record {
+      behind = token.part;
+      fewer = omega (arith, fewer);
+      quoted = quoted;
+      same = λ kinds top q field before more e.
+          later-token limits kinds top place q (a_value field before) bytes rest more first (tokens.name quoted (value.Text word)) token.begins (may-value field before first) (token.shown q more e)
+          ∙ symbol-taken limits place quoted text word here is kinds top field before (at q (rest ++ more));
+    }
 
 -- an annotation behind others, the two colons and the blanks behind them
 pub onward-note : (limits : Limits) (kinds : List Kind) (top place : ℕ) (field : Option SymbolAt) (before : List SymbolAt) (note : TextAt) (bytes colon : List ℕ) (next : Next) → IsSymbol limits place bytes note colon
@@ -134,8 +123,8 @@ onward-note limits kinds top place field before note bytes colon next is costs h
           let sexp : Bool = in_sexp (innermost kinds) in
           let colons_place : ℕ = place + (length bytes - length colon) in
           let there : behind_colons sexp (at colons_place (colon ++ more)) ≡ Some (at (colons_place + 2) (drop 2 colon ++ more)) =
-          ap (colons_behind sexp) (h.bare colons_place more)
-          ∙ (ap (λ (f : First). colons_at f (at colons_place (colon ++ more))) (h.first sexp more) ∙ ap (λ (c : Cursor). Some c) (two-behind colon more colons_place two)) in
+          ap (colons_behind sexp) (h.shown.bare colons_place more)
+          ∙ (ap (λ (f : First). colons_at f (at colons_place (colon ++ more))) (h.shown.first sexp more) ∙ ap (λ (c : Cursor). Some c) (two-behind colon more colons_place two)) in
           is.same kinds top colons_place field before more (omega (arith, first))
           ∙ (note-stepped limits kinds top place field before is.quoted note (at colons_place (colon ++ more)) (at (colons_place + 2) (drop 2 colon ++ more)) there costs
           ∙ (onward-blanks limits kinds top (colons_place + 2) wants (drop 2 colon) rest h.passes).same q more (omega (arith, e, two, behind_long, first)));
@@ -181,18 +170,15 @@ some-opened expected.Field = (a_kind.Struct ∷ [], (refl, refl, refl))
 some-opened expected.Separator = ([], (refl, refl))
 
 -- it begins in what is to come
-pub start-part : (limits : Limits) (spot : Spot) (place : ℕ) (start : Start) → IsStart limits spot place start → IsBehind spot.rest.now start.next.rest.now
-start-part limits spot place start is = let opened = some-opened (expected_of spot) in (is.onward opened.0 opened.1).part
-
-pub start-fewer : (limits : Limits) (spot : Spot) (place : ℕ) (start : Start) → IsStart limits spot place start → length start.next.rest.now ≤ length spot.rest.now
-start-fewer limits spot place start is = let opened = some-opened (expected_of spot) in (is.onward opened.0 opened.1).fewer
+pub start-part : {raw : Option SymbolAt} {pair : Option SecondAt} {bounds : Bounds} {spot : Spot} {start : Start} → IsStartAs raw pair bounds spot start → IsBehind spot.rest.now start.next.rest.now × (length start.next.rest.now ≤ length spot.rest.now)
+start-part {bounds} {spot} is = let opened = some-opened (expected_of spot) in let onward = is.onward opened.0 opened.1 in (onward.part, onward.fewer)
 
 -- a value begins behind the annotation that was read
-pub note-behind : (limits : Limits) (place : ℕ) (start : Start) (note : TextAt) (colon : List ℕ) (noted : Option Start) → IsSymbol limits place start.next.rest.now note colon → IsRightlySimple note
+pub note-behind : {limits : Limits} {place : ℕ} {note : TextAt} {colon : List ℕ} (start : Start) (noted : Option Start) → IsSymbol limits place start.next.rest.now note colon → IsRightlySimple note
     → (take 2 colon ≡ codes "::" → note.simple ≡ true → StandsNoted place start.next.rest.now note)
     → first_is (λ b. b == 36) note.text.now ≡ false → IfSome noted (IsBehindNote limits start note colon) → IfSome noted (IsNoted limits place start)
-note-behind limits place start note colon None is simple stands free h = tt
-note-behind limits place start note colon (Some s) is simple stands free h =
+note-behind start None is simple stands free h = tt
+note-behind {limits} {place} {note} {colon} start (Some s) is simple stands free h =
     let costs = one-costs note in
     let within = h.costs in
     record {
@@ -206,20 +192,21 @@ note-behind limits place start note colon (Some s) is simple stands free h =
       begins = h.behind.begins;
     }
 
-pub start-noted : (limits : Limits) (spot : Spot) (end : ℕ) (start noted : Start) → length spot.rest.now ≤ end → IsStart limits spot (end - length spot.rest.now) start → start.note ≡ None
-    → IsNoted limits (end - length start.next.rest.now) start noted → IsStart limits spot (end - length spot.rest.now) noted
-start-noted limits spot end start noted within is bare h =
+pub start-noted : {bounds : Bounds} {spot : Spot} {start noted : Start} → length spot.rest.now ≤ bounds.end → IsStart bounds spot start → start.note ≡ None
+    → IsNoted bounds.limits (place_in bounds start.next.rest.now) start noted → IsStart bounds spot noted
+start-noted {bounds} {spot} {start} {noted} within is bare h =
+    let limits = bounds.limits in
     let field = option_map placed_text start.field in
-    let at_spot : ℕ = end - length spot.rest.now in
-    let at_start : ℕ = end - length start.next.rest.now in
-    let ahead = start-fewer limits spot at_spot start is in
+    let at_spot = place_in bounds spot.rest.now in
+    let at_start = place_in bounds start.next.rest.now in
+    let ahead = (start-part is).1 in
     record {
       known = rw h.same is.known;
       free = rw h.is (h.free, tt);
       field = rw h.same is.field;
       note = rw h.is h.simple;
       second = tt;
-      stands = rw h.is (λ simple. stands-further at_spot at_start spot.rest.now start.next.rest.now h.text (start-part limits spot at_spot start is) (omega (arith, ahead, within)) (h.stands simple));
+      stands = rw h.is (λ simple. stands-further at_spot at_start spot.rest.now start.next.rest.now h.text (start-part is).0 (omega (arith, ahead, within)) (h.stands simple));
       onward = λ kinds may.
           let before = is.onward kinds may in
           let fewer = before.fewer in

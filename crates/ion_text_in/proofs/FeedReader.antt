@@ -14,9 +14,10 @@ use Rattle.ion_value.specs.Items.{named_item}
 use Rattle.ion_value.specs.Reading.{Reading}
 use Rattle.ion_value.proofs.Handing.{feeds-under}
 use Rattle.ion_text_in.specs.declared.reader.TextReader.{TextReader}
-use Rattle.ion_text_in.specs.declared.feed.Spot.{Spot}
+use Rattle.ion_text_in.specs.declared.feed.spot.Bounds.{Bounds}
+use Rattle.ion_text_in.specs.declared.feed.spot.Spot.{Spot}
 use Rattle.ion_text_in.specs.Expecting.{kind_in, wanted}
-use Rattle.ion_text_in.specs.Feeding.{expected_of, joint, lane, reader_lane, state, window_end, IsBehind, Lane, MovedBy, MovedFor, PassedLent}
+use Rattle.ion_text_in.specs.Feeding.{bounds_of, expected_of, joint, lane, reader_lane, state, window_end, IsBehind, Lane, MovedBy, MovedFor, PassedLent}
 use Rattle.ion_text_in.specs.Steps.{later, opened_in, state_behind, to_come_by, unless_unfinished}
 use Rattle.ion_text_in.proofs.Shown.{behind_lent, lent-left}
 
@@ -45,19 +46,18 @@ behind-count bytes rest b =
     let count : b.count ≡ length bytes - length rest = omega (arith, long, same, within) in
     b.same ∙ ap (λ (k : ℕ). drop k bytes) count
 
-module _ {W O A : Type 0} (w : WriterOf W O A) (limits : Limits) where
+module _ {W O A : Type 0} (w : WriterOf W O A) where
   -- the lane over a window, and the bytes that it moved over being passed over
-  pub moved-window : {sees : (ℕ → Option (List ℕ)) → Type 0} {I : Type 0} (s t : Incoming I) (end : ℕ) (l n : Lane W O) → Stands s → l.rest ≡ lent s → end ≡ s.place + length (lent s) → MovedFor w limits end sees l n → IsPassed s t (length l.rest - length n.rest)
-      → MovedFor w limits (window_end s) sees (record l { rest = lent s }) (record n { rest = lent t })
-  moved-window {sees} s t end l n stands bytes ends moved passed =
+  pub moved-window : {sees : (ℕ → Option (List ℕ)) → Type 0} {I : Type 0} (s t : Incoming I) (bounds : Bounds) (l n : Lane W O) → Stands s → l.rest ≡ lent s → MovedFor w bounds sees l n → IsPassed s t (length l.rest - length n.rest)
+      → MovedFor w bounds sees (record l { rest = lent s }) (record n { rest = lent t })
+  moved-window {sees} s t bounds l n stands bytes moved passed =
       let count : ℕ = length l.rest - length n.rest in
       let fewer = moved.fewer in
       let long = ap (λ (x : List ℕ). length x) bytes in
       let rest : n.rest ≡ lent t =
       behind-count l.rest n.rest moved.part ∙ (ap (λ (x : List ℕ). drop count x) bytes ∙ sym (lent-passed s t count stands.well (omega (arith, fewer, long)) passed)) in
-      subst (λ (x : List ℕ). MovedFor w limits (window_end s) sees (record l { rest = lent s }) (record n { rest = x })) rest
-      (subst (λ (x : List ℕ). MovedFor w limits (window_end s) sees (record l { rest = x }) n) bytes
-      (subst (λ (e : ℕ). MovedFor w limits e sees l n) ends moved))
+      subst (λ (x : List ℕ). MovedFor w bounds sees (record l { rest = lent s }) (record n { rest = x })) rest
+      (subst (λ (x : List ℕ). MovedFor w bounds sees (record l { rest = x }) n) bytes moved)
 
 -- a lane as the code has it, over what the window of a reader lends
 pub lane-of : {I A W O : Type 0} (r : TextReader I A) (spot : Spot) (values : ℕ) (writer : W) (sink : Outgoing O) (m : Counts) → spot.rest.now ≡ lent r.source → spot.top ≡ r.top → spot.values ≡ values
@@ -78,7 +78,7 @@ came device r limits more place same finished all here =
 module _ {W O A I B : Type 0} (w : WriterOf W O A) (device : InputOf I) where
   pub feeds-reader : (r n : TextReader I B) (texts : ℕ → Option (List ℕ)) (reads : Type 0) (values : ℕ) (writer after : W) (sink behind : Outgoing O) (m k : Counts)
       → r.unfinished ≡ None → n.unfinished ≡ None → n.limits ≡ r.limits → PassedLent r.source n.source → Stands r.source
-      → MovedBy w r.limits (window_end r.source) texts (reader_lane r 0 writer sink m) (reader_lane n values after behind k)
+      → MovedBy w (bounds_of r) texts (reader_lane r 0 writer sink m) (reader_lane n values after behind k)
       → Feeds w (named_item texts) reads
       (record { coming = to_come_by device r; opened = opened_in r; writer = writer; pending = sink.pending; values = 0 })
       (record { coming = to_come_by device n; opened = opened_in n; writer = after; pending = behind.pending; values = values })
@@ -102,5 +102,5 @@ module _ {W O A I B : Type 0} (w : WriterOf W O A) (device : InputOf I) where
       let b = came device n r.limits more (end - length (lent t)) same still behind_all there in
       let new : Joint W = record { coming = to_come_by device n; opened = opened_in n; writer = after; pending = behind.pending; values = values } in
       subst (λ (c : Reading). Feeds w (named_item texts) reads (record { coming = c; opened = opened_in r; writer = writer; pending = sink.pending; values = 0 }) new) a
-      (subst (λ (c : Reading). Feeds w (named_item texts) reads (joint r.limits end more (reader_lane r 0 writer sink m)) (record { coming = c; opened = opened_in n; writer = after; pending = behind.pending; values = values })) b
+      (subst (λ (c : Reading). Feeds w (named_item texts) reads (joint (bounds_of r) more (reader_lane r 0 writer sink m)) (record { coming = c; opened = opened_in n; writer = after; pending = behind.pending; values = values })) b
       (feeds-under w (λ _. tt) (moved.feeds texts refl more)))

@@ -11,10 +11,11 @@ use Rattle.ion_value.specs.Reading.{Gives, More}
 use Rattle.ion_value.specs.Value as value
 use Rattle.ion_value.specs.Value.{SymbolAt, Scalar, Head}
 use Rattle.ion_text_in.specs.Blanks.{blanks, is_white}
-use Rattle.ion_text_in.specs.declared.feed.Found.{Found}
-use Rattle.ion_text_in.specs.declared.feed.Next.{Next}
-use Rattle.ion_text_in.specs.declared.feed.Spot.{Spot}
-use Rattle.ion_text_in.specs.declared.feed.Start.{Start}
+use Rattle.ion_text_in.specs.declared.feed.spot.Bounds.{Bounds}
+use Rattle.ion_text_in.specs.declared.feed.spot.Found.{Found}
+use Rattle.ion_text_in.specs.declared.feed.spot.Next.{Next}
+use Rattle.ion_text_in.specs.declared.feed.spot.Spot.{Spot}
+use Rattle.ion_text_in.specs.declared.feed.spot.Start.{Start}
 use Rattle.ion_text_in.specs.declared.expected.Expected.{Expected}
 use Rattle.ion_text_in.specs.declared.expected.Expected.TheVariants as codes
 use Rattle.ion_text_in.specs.declared.number.Number.{Number}
@@ -28,7 +29,7 @@ use Rattle.ion_text_in.specs.Views.{as_number, number_token}
 use Rattle.ion_value.specs.Items.{raw_head}
 use Rattle.ion_value.specs.PlainItems.{IsKnownScalar, IsTextOf}
 use Rattle.ion_value.specs.Standing.{InRange}
-use Rattle.ion_text_in.specs.Feeding.{expected_of, item_in, state, Begins, IsBare, IsBehind, IsFound, IsHead, IsNext, IsStart, Onward, PassesBlanks}
+use Rattle.ion_text_in.specs.Feeding.{expected_of, item_in, place_in, state, Begins, BeginsAs, IsBehind, IsFound, IsHead, IsHeadAs, IsNext, IsStart, Onward, PassesBlanks}
 use Rattle.ion_text_in.specs.Meaning.{at}
 use Rattle.ion_text_in.specs.Positions.{Wants, a_value, a_field, a_separator, innermost, in_sexp}
 use Rattle.ion_text_in.specs.Reading.{take as taken, may_come, at_member, behind_member, is_same, item_step, item_of, member_of, top_of}
@@ -119,14 +120,35 @@ some-longer (b ∷ bytes) more some = omega arith
 
 -- a token that begins here and is taken
 pub later-token : (limits : Limits) (kinds : List Kind) (top place q : ℕ) (wants : Wants) (bytes rest more : List ℕ) (first : First) (token : Token)
-    → IsBare bytes → 0 < length bytes → ((in_sexp : Bool) (more : List ℕ) → first_at in_sexp (bytes ++ more) ≡ first) → may_come wants first ≡ true
+    → BeginsAs first bytes → may_come wants first ≡ true
     → token_of (Some limits.scalar) first (at place (bytes ++ more)) ≡ Ok (token, at q (rest ++ more))
     → later limits (state kinds top wants place (bytes ++ more)) ≡ comes limits (taken limits kinds top wants place token (at q (rest ++ more)))
-later-token limits kinds top place q wants bytes rest more first token bare some begins may is =
+later-token limits kinds top place q wants bytes rest more first token begins may is =
     let s = state kinds top wants place (bytes ++ more) in
     let c = at place (bytes ++ more) in
-    step-part limits s c first (bare place more) (some-longer bytes more some) (begins (in_sexp (innermost kinds)) more)
+    step-part limits s c first (begins.bare place more) (some-longer bytes more begins.some) (begins.first (in_sexp (innermost kinds)) more)
     ∙ part-token limits (moved_to c s) c (at q (rest ++ more)) first token may is
+
+-- a token stands at the front of some bytes, which are at a place, and these behind it, whatever follows
+pub record IsToken (limit : ℕ) (first : First) (token : Token) (place : ℕ) (bytes rest : List ℕ) : Type 0 where
+  pub part : IsBehind bytes rest
+  pub fewer : length rest < length bytes
+  pub begins : BeginsAs first bytes
+  pub shown : (q : ℕ) (more : List ℕ) → place + length bytes ≡ q + length rest → token_of (Some limit) first (at place (bytes ++ more)) ≡ Ok (token, at q (rest ++ more))
+
+-- one of so many bytes
+pub token-front : {limit place n : ℕ} {first : First} {token : Token} {bytes rest : List ℕ} → rest ≡ drop n bytes → 0 < n → n ≤ length bytes
+    → ((place : ℕ) (more : List ℕ) → token_of (Some limit) first (at place (bytes ++ more)) ≡ Ok (token, at (place + n) (drop n bytes ++ more))) → BeginsAs first bytes → IsToken limit first token place bytes rest
+token-front {limit} {place} {n} {first} {token} {bytes} {rest} behind counts within shown begins =
+    let long = length-drop n bytes in
+    subst (λ (l : List ℕ). IsToken limit first token place bytes l) (sym behind) (record {
+      part = some-behind bytes n within;
+      fewer = omega (arith, long, counts, within);
+      begins = begins;
+      shown = λ q more e.
+          let q_is : place + n ≡ q = omega (arith, e, long, within) in
+          shown place more ∙ ap (λ (k : ℕ). Ok (token, at k (drop n bytes ++ more))) q_is;
+    })
 
 -- ---- punctuation
 
@@ -162,15 +184,15 @@ may-end kind (a_value field annotations) = refl
 may-end kind a_field = refl
 may-end kind a_separator = refl
 
-pub onward-comma : (limits : Limits) (kinds : List Kind) (top place : ℕ) (bytes : List ℕ) → IsBare bytes → 0 < length bytes
-    → ((in_sexp : Bool) (more : List ℕ) → first_at in_sexp (bytes ++ more) ≡ tokens.a_comma) → Onward limits kinds top place a_separator bytes (at_member (innermost kinds)) (drop 1 bytes)
-onward-comma limits kinds top place bytes bare some begins =
+onward-comma : (limits : Limits) (kinds : List Kind) (top place : ℕ) (bytes : List ℕ) → BeginsAs tokens.a_comma bytes → Onward limits kinds top place a_separator bytes (at_member (innermost kinds)) (drop 1 bytes)
+onward-comma limits kinds top place bytes begins =
+    let some = begins.some in
     let long = length-drop 1 bytes in
     record {
       part = some-behind bytes 1 (omega (arith, some));
       fewer = omega (arith, long);
       same = λ q more e.
-          later-token limits kinds top place q a_separator bytes (drop 1 bytes) more tokens.a_comma tokens.comma bare some begins (may-comma a_separator)
+          later-token limits kinds top place q a_separator bytes (drop 1 bytes) more tokens.a_comma tokens.comma begins (may-comma a_separator)
           (comma-token (Some limits.scalar) (at place (bytes ++ more)) ∙ ap (λ (c : Cursor). Ok (tokens.comma, c)) (mark-behind bytes more place q some e))
           ∙ comma-taken limits kinds top place (at q (drop 1 bytes ++ more));
     }
@@ -193,11 +215,11 @@ unfolding taken
 begin-taken limits kinds top place field annotations k c few =
     ap (λ (b : Bool). comes limits (part place (refuse b DepthLimit >> Ok (item_step kinds top field annotations place (value.begin k) (k ∷ kinds) (member_of k) c)))) few
 
-plain-taken : (limits : Limits) (kinds : List Kind) (top place : ℕ) (field : Option SymbolAt) (annotations : List SymbolAt) (body : Scalar SymbolAt) (c : Cursor)
-    → comes limits (taken limits kinds top (a_value field annotations) place (tokens.plain body) c)
-    ≡ More (item_in kinds top field annotations place (value.whole body)) (later limits (record { kinds = kinds; top = top_of kinds top annotations place; wants = behind_member (innermost kinds); cursor = c }))
+pub plain-taken : (limits : Limits) (kinds : List Kind) (top place q : ℕ) (field : Option SymbolAt) (annotations : List SymbolAt) (body : Scalar SymbolAt) (rest : List ℕ)
+    → comes limits (taken limits kinds top (a_value field annotations) place (tokens.plain body) (at q rest))
+    ≡ More (item_in kinds top field annotations place (value.whole body)) (later limits (state kinds (top_of kinds top annotations place) (behind_member (innermost kinds)) q rest))
 unfolding taken
-plain-taken limits kinds top place field annotations body c = refl
+plain-taken limits kinds top place q field annotations body rest = refl
 
 pub may-value : (field : Option SymbolAt) (annotations : List SymbolAt) (first : First) → may_come (a_value field annotations) first ≡ true
 unfolding may_come
@@ -206,23 +228,23 @@ may-value field annotations first = refl
 not_as_many : (n m : ℕ) → m < n → nat_le n m ≡ false
 not_as_many n m h = grind (arith, h)
 
-pub begin-gives : (limits : Limits) (place q : ℕ) (k : Kind) (bytes : List ℕ) → IsBare bytes → 0 < length bytes → ((in_sexp : Bool) (more : List ℕ) → first_at in_sexp (bytes ++ more) ≡ tokens.a_begin k)
-    → (kinds : List Kind) (top : ℕ) (field : Option SymbolAt) (annotations : List SymbolAt) (more : List ℕ) → length kinds < limits.depth → place + length bytes ≡ q + length (drop 1 bytes)
-    → later limits (state kinds top (a_value field annotations) place (bytes ++ more))
-    ≡ More (item_in kinds top field annotations place (value.begin k)) (later limits (state (k ∷ kinds) (top_of kinds top annotations place) (member_of k) q (drop 1 bytes ++ more)))
-begin-gives limits place q k bytes bare some begins kinds top field annotations more few e =
-    later-token limits kinds top place q (a_value field annotations) bytes (drop 1 bytes) more (tokens.a_begin k) (tokens.begin k) bare some begins (may-value field annotations (tokens.a_begin k))
-    (begin-token (Some limits.scalar) k (at place (bytes ++ more)) ∙ ap (λ (c : Cursor). Ok (tokens.begin k, c)) (mark-behind bytes more place q some e))
-    ∙ begin-taken limits kinds top place field annotations k (at q (drop 1 bytes ++ more)) (not_as_many limits.depth (length kinds) few)
-
-pub plain-gives : (limits : Limits) (place q : ℕ) (first : First) (body : Scalar SymbolAt) (bytes rest : List ℕ) → IsBare bytes → 0 < length bytes → ((in_sexp : Bool) (more : List ℕ) → first_at in_sexp (bytes ++ more) ≡ first)
-    → (kinds : List Kind) (top : ℕ) (field : Option SymbolAt) (annotations : List SymbolAt) (more : List ℕ)
-    → token_of (Some limits.scalar) first (at place (bytes ++ more)) ≡ Ok (tokens.plain body, at q (rest ++ more))
-    → later limits (state kinds top (a_value field annotations) place (bytes ++ more))
-    ≡ More (item_in kinds top field annotations place (value.whole body)) (later limits (state kinds (top_of kinds top annotations place) (behind_member (innermost kinds)) q (rest ++ more)))
-plain-gives limits place q first body bytes rest bare some begins kinds top field annotations more is =
-    later-token limits kinds top place q (a_value field annotations) bytes rest more first (tokens.plain body) bare some begins (may-value field annotations first) is
-    ∙ plain-taken limits kinds top place field annotations body (at q (rest ++ more))
+-- a scalar that is read as `raw`
+pub head-token : {limits : Limits} {place : ℕ} {first : First} {token : Token} {bytes rest : List ℕ} (raw head : Scalar SymbolAt) → IsKnownScalar head → InRange head → IsToken limits.scalar first token place bytes rest
+    → ((kinds : List Kind) (top q : ℕ) (field : Option SymbolAt) (annotations : List SymbolAt) (more : List ℕ)
+    → comes limits (taken limits kinds top (a_value field annotations) place token (at q (rest ++ more)))
+    ≡ More (item_in kinds top field annotations place (value.whole raw)) (later limits (state kinds (top_of kinds top annotations place) (behind_member (innermost kinds)) q (rest ++ more))))
+    → IsHeadAs (value.whole raw) limits place bytes (value.whole head) rest
+head-token {limits} {place} {first} {token} {bytes} {rest} raw head known range is takes = record {
+  part = is.part;
+  fewer = is.fewer;
+  known = known;
+  range = range;
+  member = λ kinds. refl;
+  value = refl;
+  gives = λ kinds top q field annotations more fits e.
+      later-token limits kinds top place q (a_value field annotations) bytes rest more first token is.begins (may-value field annotations first) (is.shown q more e)
+      ∙ takes kinds top q field annotations more;
+}
 
 -- ---- a container's end
 
@@ -243,20 +265,20 @@ end-taken limits j k kinds top place _ c at_field same =
 end-taken limits j k kinds top place _ c at_separator same =
     ap (λ (b : Bool). comes limits (part place (refuse (not b) BadToken >> Ok (Gives (item_of top None [] place value.end) (record { kinds = kinds; top = top; wants = behind_member (innermost kinds); cursor = c }))))) same
 
-pub end-gives : (limits : Limits) (j k : Kind) (kinds : List Kind) (top place q : ℕ) (wants : Wants) (bytes more : List ℕ) → MayEnd wants → is_same j k ≡ true → IsBare bytes → 0 < length bytes
-    → ((in_sexp : Bool) (more : List ℕ) → first_at in_sexp (bytes ++ more) ≡ tokens.an_end k) → place + length bytes ≡ q + length (drop 1 bytes)
+pub end-gives : (limits : Limits) (j k : Kind) (kinds : List Kind) (top place q : ℕ) (wants : Wants) (bytes more : List ℕ) → MayEnd wants → is_same j k ≡ true → BeginsAs (tokens.an_end k) bytes → place + length bytes ≡ q + length (drop 1 bytes)
     → later limits (state (j ∷ kinds) top wants place (bytes ++ more))
     ≡ More (item_of top None [] place value.end) (later limits (state kinds top (behind_member (innermost kinds)) q (drop 1 bytes ++ more)))
-end-gives limits j k kinds top place q wants bytes more may same bare some begins e =
-    later-token limits (j ∷ kinds) top place q wants bytes (drop 1 bytes) more (tokens.an_end k) (tokens.end k) bare some begins (may-end k wants)
+end-gives limits j k kinds top place q wants bytes more may same begins e =
+    let some = begins.some in
+    later-token limits (j ∷ kinds) top place q wants bytes (drop 1 bytes) more (tokens.an_end k) (tokens.end k) begins (may-end k wants)
     (end-token (Some limits.scalar) k (at place (bytes ++ more)) ∙ ap (λ (c : Cursor). Ok (tokens.end k, c)) (mark-behind bytes more place q some e))
     ∙ end-taken limits j k kinds top place wants (at q (drop 1 bytes ++ more)) may same
 
 -- ---- what is found
 
-pub head-begin : (limits : Limits) (place : ℕ) (k : Kind) (bytes rest : List ℕ) → rest ≡ drop 1 bytes
-    → IsBare bytes → 0 < length bytes → ((in_sexp : Bool) (more : List ℕ) → first_at in_sexp (bytes ++ more) ≡ tokens.a_begin k) → IsHead limits place bytes (value.begin k) rest
-head-begin limits place k bytes rest behind bare some begins =
+pub head-begin : (limits : Limits) (place : ℕ) (k : Kind) (bytes rest : List ℕ) → rest ≡ drop 1 bytes → BeginsAs (tokens.a_begin k) bytes → IsHead limits place bytes (value.begin k) rest
+head-begin limits place k bytes rest behind begins =
+    let some = begins.some in
     let long = length-drop 1 bytes in
     subst (λ (l : List ℕ). IsHead limits place bytes (value.begin k) l) (sym behind) (record {
       part = some-behind bytes 1 (omega (arith, some));
@@ -265,7 +287,10 @@ head-begin limits place k bytes rest behind bare some begins =
       range = tt;
       member = λ kinds. refl;
       value = refl;
-      gives = λ kinds top q field annotations more few e. begin-gives limits place q k bytes bare some begins kinds top field annotations more few e;
+      gives = λ kinds top q field annotations more few e.
+          later-token limits kinds top place q (a_value field annotations) bytes (drop 1 bytes) more (tokens.a_begin k) (tokens.begin k) begins (may-value field annotations (tokens.a_begin k))
+          (begin-token (Some limits.scalar) k (at place (bytes ++ more)) ∙ ap (λ (c : Cursor). Ok (tokens.begin k, c)) (mark-behind bytes more place q some e))
+          ∙ begin-taken limits kinds top place field annotations k (at q (drop 1 bytes ++ more)) (not_as_many limits.depth (length kinds) few);
     })
 
 pub number-simple : (x : Number) → IsKnownScalar (as_number x)
@@ -273,34 +298,23 @@ number-simple (numbers.Int i) = tt
 number-simple (numbers.Decimal d) = tt
 number-simple (numbers.Timestamp t) = tt
 
-head-number : (limits : Limits) (place : ℕ) (x : Quick) (bytes rest : List ℕ) (head : Head SymbolAt) → head ≡ value.whole (as_number (as_quick x)) → rest ≡ drop x.count bytes → 0 < x.count
-    → Shows number_token bytes (Whole (as_quick x) x.count) (token_of (Some limits.scalar) tokens.a_run) → InRange (as_number (as_quick x))
-    → IsBare bytes → 0 < length bytes → ((in_sexp : Bool) (more : List ℕ) → first_at in_sexp (bytes ++ more) ≡ tokens.a_run) → IsHead limits place bytes head rest
-head-number limits place x bytes rest head is behind counts shows range bare some begins =
-    let long = length-drop x.count bytes in
-    let n : x.count ≤ length bytes = shows.0 in
-    subst (λ (h : Head SymbolAt). IsHead limits place bytes h rest) (sym is)
-    (subst (λ (l : List ℕ). IsHead limits place bytes (value.whole (as_number (as_quick x))) l) (sym behind) (record {
-      part = some-behind bytes x.count n;
-      fewer = omega (arith, long, counts, n);
-      known = number-simple (as_quick x);
-      range = range;
-      member = λ kinds. refl;
-      value = refl;
-      gives = λ kinds top q field annotations more fits e.
-          let q_is : place + x.count ≡ q = omega (arith, e, long, n) in
-          plain-gives limits place q tokens.a_run (as_number (as_quick x)) bytes (drop x.count bytes) bare some begins kinds top field annotations more
-          (shows.1 place more ∙ ap (λ (k : ℕ). Ok (number_token (as_quick x), at k (drop x.count bytes ++ more))) q_is);
-    }))
+pub head-number : {limits : Limits} {place n : ℕ} {bytes rest : List ℕ} (x : Number) → rest ≡ drop n bytes → 0 < n → Shows number_token bytes (Whole x n) (token_of (Some limits.scalar) tokens.a_run)
+    → InRange (as_number x) → BeginsAs tokens.a_run bytes → IsHead limits place bytes (value.whole (as_number x)) rest
+head-number {limits} {place} {n} {bytes} {rest} x behind counts shows range begins =
+    head-token (as_number x) (as_number x) (number-simple x) range (token-front behind counts shows.0 shows.1 begins) (λ kinds top q field annotations more. plain-taken limits kinds top place q field annotations (as_number x) (rest ++ more))
 
 -- the code found a number that it read in one pass
 pub found-number : {limits : Limits} {place : ℕ} {bytes : List ℕ} {found : Found} (x : Quick) → raw_head found.head ≡ value.whole (as_number (as_quick x)) → found.rest.now ≡ drop x.count bytes → 0 < x.count
     → IfSome found.spelled (λ text. IsTextOf text.now (value.whole (as_number (as_quick x)))) → Shows number_token bytes (Whole (as_quick x) x.count) (token_of (Some limits.scalar) tokens.a_run) → InRange (as_number (as_quick x))
-    → IsBare bytes → 0 < length bytes → ((in_sexp : Bool) (more : List ℕ) → first_at in_sexp (bytes ++ more) ≡ tokens.a_run) → IsFound limits place bytes found
-found-number {limits} {place} {bytes} {found} x is behind counts spelled shows range bare some begins = record {
-  head = head-number limits place x bytes found.rest.now (raw_head found.head) is behind counts shows range bare some begins;
+    → BeginsAs tokens.a_run bytes → IsFound limits place bytes found
+found-number {limits} {place} {bytes} {found} x is behind counts spelled shows range begins = record {
+  head = subst (λ (h : Head SymbolAt). IsHead limits place bytes h found.rest.now) (sym is) (head-number (as_quick x) behind counts shows range begins);
   spelled = subst (λ (h : Head SymbolAt). IfSome found.spelled (λ text. IsTextOf text.now h)) (sym is) spelled;
 }
+
+-- a head whose text is not known
+pub found-as : {limits : Limits} {place : ℕ} {bytes : List ℕ} {found made : Found} → found ≡ made → made.spelled ≡ None → IsHead limits place bytes (raw_head made.head) made.rest.now → IsFound limits place bytes found
+found-as {limits} {place} {bytes} is none head = subst (λ (f : Found). IsFound limits place bytes f) (sym is) (record { head = head; spelled = rw none tt })
 
 -- ---- where a value begins
 
@@ -311,15 +325,14 @@ onward-separator limits opened top place expected after bytes rest behind separa
     let fewer = passes.fewer in
     rw (separator, wants, is)
     (onward-then limits opened top place (place + (length bytes - length rest)) a_separator a_separator (at_member (innermost opened)) bytes rest (drop 1 rest) (omega (arith, fewer))
-    (onward-blanks limits opened top place a_separator bytes rest passes) (onward-comma limits opened top (place + (length bytes - length rest)) rest passes.bare some comma))
+    (onward-blanks limits opened top place a_separator bytes rest passes) (onward-comma limits opened top (place + (length bytes - length rest)) rest (record { bare = passes.bare; some = some; first = comma })))
 
-pub start-value : (limits : Limits) (spot : Spot) (place : ℕ) (next : Next) (start : Option Start) → expected_of spot ≡ codes.Value → IsNext spot.rest.now next
-    → IfSome start (λ s. s.field ≡ None) → IfSome start (λ s. s.note ≡ None) → IfSome start (λ s. s.next ≡ next) → IfSome start (λ s. 0 < length next.rest.now) → IfSome start (IsStart limits spot place)
-start-value limits spot place next None value is none bare same some = tt
-start-value limits spot place next (Some s) value is none bare same some =
+pub start-value : (bounds : Bounds) (spot : Spot) (next : Next) (start : Option Start) → expected_of spot ≡ codes.Value → IsNext spot.rest.now next
+    → IfSome start (λ s. s.field ≡ None) → IfSome start (λ s. s.note ≡ None) → IfSome start (λ s. s.next ≡ next) → IfSome start (λ s. 0 < length next.rest.now) → IfSome start (IsStart bounds spot)
+start-value bounds spot next None value is none bare same some = tt
+start-value bounds spot next (Some s) value is none bare same some =
     let passes = is.passes some in
     let at_next : Begins next = record { some = some; tells = is.tells; bare = passes.bare } in
-    let begins : Begins s.next = subst (λ (n : Next). Begins n) (sym same) at_next in
     record {
       known = rw none tt;
       free = rw bare tt;
@@ -327,7 +340,7 @@ start-value limits spot place next (Some s) value is none bare same some =
       note = rw bare tt;
       second = tt;
       stands = rw bare tt;
-      onward = λ kinds may. rw (none, bare, same, value) (onward-blanks limits kinds spot.top place (a_value None []) spot.rest.now next.rest.now passes);
+      onward = λ kinds may. rw (none, bare, same, value) (onward-blanks bounds.limits kinds spot.top (place_in bounds spot.rest.now) (a_value None []) spot.rest.now next.rest.now passes);
       named = λ kinds may. rw none (subst (λ (e : Expected). MayExpect e kinds None []) value may);
-      begins = begins;
+      begins = subst (λ (n : Next). Begins n) (sym same) at_next;
     }

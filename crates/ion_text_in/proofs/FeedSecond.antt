@@ -1,17 +1,17 @@
 -- Second annotations in a lane.
-use Rattle.std.proofs.Common.{◌≡◌, ℕ, ◌+◌, ◌-◌, ◌≤◌, true, List, [], ◌∷◌, ◌++◌, length, take, codes, Option, Some, None, IfSome, ap, subst, ◌∙◌, arith}
+use Rattle.std.proofs.Common.{◌≡◌, ℕ, ◌+◌, ◌≤◌, true, List, [], ◌∷◌, ◌++◌, length, take, codes, Option, Some, None, IfSome, ap, subst, ◌∙◌, arith}
 use Rattle.std.specs.Prelude.{option_map, sum_by}
 use Rattle.std.proofs.Math.Seq.{take-append-add}
-use Rattle.ion_meter.specs.declared.limits.Limits.{Limits}
 use Rattle.ion_value.specs.declared.plain_item.TextAt.{TextAt}
 use Rattle.ion_value.specs.declared.plain_item.SecondAt.{SecondAt}
 use Rattle.ion_value.specs.Name.{is_simple}
 use Rattle.ion_value.specs.PlainItems.{placed_text, second_text, IsRightlySimple}
-use Rattle.ion_text_in.specs.declared.feed.Spot.{Spot}
-use Rattle.ion_text_in.specs.declared.feed.Start.{Start}
-use Rattle.ion_text_in.specs.declared.feed.Further.{Further}
+use Rattle.ion_text_in.specs.declared.feed.spot.Bounds.{Bounds}
+use Rattle.ion_text_in.specs.declared.feed.spot.Spot.{Spot}
+use Rattle.ion_text_in.specs.declared.feed.spot.Start.{Start}
+use Rattle.ion_text_in.specs.declared.feed.spot.Further.{Further}
 use Rattle.ion_text_in.specs.Expecting.{wanted}
-use Rattle.ion_text_in.specs.Feeding.{expected_of, notes, IsBehindSecond, IsFurther, IsStart, Onward}
+use Rattle.ion_text_in.specs.Feeding.{expected_of, notes, place_in, IsBehindSecond, IsFurther, IsStart, Onward}
 use Rattle.ion_text_in.specs.Positions.{a_value}
 use Rattle.ion_text_in.specs.Reading.{cost}
 use Rattle.ion_text_in.proofs.FeedHeads.{simple-free}
@@ -36,16 +36,17 @@ pair-taken count bytes text word is =
     ∙ (take-append-add text tail (2 + count) ∙ ap (λ (l : List ℕ). text ++ l) (take-append-add (codes "::") word count)))
 
 -- a value begins behind the second annotation that was read
-pub start-second : (limits : Limits) (spot : Spot) (end : ℕ) (start : Start) (note : TextAt) (second : SecondAt) (colon : List ℕ) (seconded : Option Further)
-    → length spot.rest.now ≤ end → IsStart limits spot (end - length spot.rest.now) start → start.note ≡ Some note → note.simple ≡ true
-    → IsSymbol limits (end - length start.next.rest.now) start.next.rest.now (as_text second) colon → is_simple second.text.now ≡ true
+pub start-second : (bounds : Bounds) (spot : Spot) (start : Start) (note : TextAt) (second : SecondAt) (colon : List ℕ) (seconded : Option Further)
+    → length spot.rest.now ≤ bounds.end → IsStart bounds spot start → start.note ≡ Some note → note.simple ≡ true
+    → IsSymbol bounds.limits (place_in bounds start.next.rest.now) start.next.rest.now (as_text second) colon → is_simple second.text.now ≡ true
     → second.pair.now ≡ note.text.now ++ (codes "::" ++ second.text.now)
-    → IfSome seconded (IsBehindSecond limits start note second colon) → IfSome seconded (λ f. IsFurther f.second limits spot (end - length spot.rest.now) f.start)
-start-second limits spot end start note second colon None within is noted simple symbol other pair h = tt
-start-second limits spot end start note second colon (Some s) within is noted simple symbol other pair h =
+    → IfSome seconded (IsBehindSecond bounds.limits start note second colon) → IfSome seconded (λ f. IsFurther f.second bounds spot f.start)
+start-second bounds spot start note second colon None within is noted simple symbol other pair h = tt
+start-second bounds spot start note second colon (Some s) within is noted simple symbol other pair h =
+    let limits = bounds.limits in
     let field = option_map placed_text start.field in
-    let at_spot : ℕ = end - length spot.rest.now in
-    let at_start : ℕ = end - length start.next.rest.now in
+    let at_spot = place_in bounds spot.rest.now in
+    let at_start = place_in bounds start.next.rest.now in
     let one : is_simple note.text.now ≡ true = subst (λ (n : Option TextAt). IfSome n IsRightlySimple) noted is.note simple in
     let costs = two-cost note (as_text second) in
     let few = h.costs in

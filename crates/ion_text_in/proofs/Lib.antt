@@ -77,7 +77,6 @@ pub mod FeedComments
 pub mod FeedHeads
 pub mod FeedNoted
 pub mod FeedSecond
-pub mod FeedQuotes
 pub mod FeedLanes
 pub mod FeedItems
 pub mod FeedIds

@@ -1,9 +1,9 @@
 -- A lane over the bytes of a window: where it stands, what it reads of them, and what it moves.
-use Rattle.std.specs.Prelude.{◌≡◌, ℕ, ◌+◌, ◌*◌, ◌-◌, ◌^◌, ◌<◌, ◌≤◌, ◌==◌, Bool, get_or, true, false, List, [], ◌∷◌, ◌++◌, take, drop, length, reverse, is_some, codes, Option, Some, None, Ok, option_map, IfSome}
+use Rattle.std.specs.Prelude.{◌≡◌, ℕ, ◌+◌, ◌*◌, ◌-◌, ◌^◌, ◌<◌, ◌≤◌, ◌==◌, max, Bool, get_or, true, false, List, [], ◌∷◌, ◌++◌, take, drop, length, reverse, is_some, codes, Option, Some, None, Ok, option_map, IfSome}
 use Rattle.ion_meter.specs.Counts.{Counts}
 use Rattle.ion_meter.specs.declared.limits.Limits.{Limits}
 use Rattle.ion_meter.specs.Limits.{AreChecked}
-use Rattle.ion_meter.specs.Sources.{Cursor}
+use Rattle.ion_meter.specs.Sources.{Cursor, skip}
 use Rattle.ion_meter.specs.Windows.{Incoming, lent, Outgoing, IsPassed}
 use Rattle.ion_value.specs.declared.ion_type.Kind.{Kind}
 use Rattle.ion_value.specs.declared.plain_item.TextAt.{TextAt}
@@ -11,6 +11,7 @@ use Rattle.ion_value.specs.declared.plain_item.SecondAt.{SecondAt}
 use Rattle.ion_value.specs.declared.writer.ValueWriter.{Ghosts as WriterOf}
 use Rattle.ion_value.specs.Feeding.{CanTake, Feeds, Joint, StaysWell}
 use Rattle.ion_value.specs.Items.{named_at, named_item, raw_head}
+use Rattle.ion_value.specs.Outcome.{one_if_closed}
 use Rattle.ion_value.specs.Parts.{Placed}
 use Rattle.ion_value.specs.PlainItems.{listed, placed_text, with_second, StandsBehind, HasKnownName, HasNoDollar, HaveNoDollar, IsKnownHead, IsRightlySimple, IsTextOf}
 use Rattle.ion_value.specs.Reading.{More}
@@ -20,24 +21,29 @@ use Rattle.ion_value.specs.Value as value
 use Rattle.ion_value.specs.Value.{SymbolAt, Head, PlacedItem, map_head}
 use Rattle.ion_text_in.specs.declared.expected.Expected.{Expected}
 use Rattle.ion_text_in.specs.declared.reader.TextReader.{TextReader}
-use Rattle.ion_text_in.specs.declared.feed.Spot.{Spot}
-use Rattle.ion_text_in.specs.declared.feed.Next.{Next}
-use Rattle.ion_text_in.specs.declared.feed.Start.{Start}
-use Rattle.ion_text_in.specs.declared.feed.Further.{Further}
-use Rattle.ion_text_in.specs.declared.feed.Found.{Found}
+use Rattle.ion_text_in.specs.declared.feed.spot.Bounds.{Bounds}
+use Rattle.ion_text_in.specs.declared.feed.spot.Spot.{Spot}
+use Rattle.ion_text_in.specs.declared.feed.spot.Next.{Next}
+use Rattle.ion_text_in.specs.declared.feed.spot.Start.{Start}
+use Rattle.ion_text_in.specs.declared.feed.spot.Further.{Further}
+use Rattle.ion_text_in.specs.declared.feed.spot.Found.{Found}
+use Rattle.ion_text_in.specs.declared.feed.texts.Between.{Between}
+use Rattle.ion_text_in.specs.declared.quoted.Quote.{Quote as CodeQuote}
+use Rattle.ion_text_in.specs.declared.quoted.Quote.TheVariants as quotes
 use Rattle.ion_text_in.specs.declared.scanned.Scanned.{Scanned}
 use Rattle.ion_text_in.specs.declared.scanned.Scanned.TheVariants.{Whole, Fault, Cut}
 use Rattle.ion_text_in.specs.declared.word.Word.{Word}
 use Rattle.ion_text_in.specs.declared.word.Word.TheVariants as word
 use Rattle.ion_text_in.specs.Blanks.{blanks}
-use Rattle.ion_text_in.specs.Expecting.{expected_in, kind_in, wanted, MayExpect}
+use Rattle.ion_text_in.specs.Expecting.{expected_in, is_separated, kind_in, wanted, MayExpect}
 use Rattle.ion_text_in.specs.Firsts.{numbered}
 use Rattle.ion_text_in.specs.Meaning.{at}
 use Rattle.ion_text_in.specs.Positions.{State, Wants, a_field, a_value, innermost}
+use Rattle.ion_text_in.specs.Quoted.{Quote, text_at}
 use Rattle.ion_text_in.specs.Reading.{behind_member, item_of, member_of, top_of}
 use Rattle.ion_text_in.specs.Runs.{EndBehind}
 use Rattle.ion_text_in.specs.Steps.{later}
-use Rattle.ion_text_in.specs.Token.{a_colon, a_word, first_at, in_word, name, token_of, two_colons}
+use Rattle.ion_text_in.specs.Token.{First, a_colon, a_quoted, a_short, a_word, first_at, in_word, name, token_of, two_colons}
 use Rattle.ion_value.specs.Name.{is_identifier_start, is_simple}
 
 -- ---- bytes
@@ -64,6 +70,27 @@ pub record LeadsTo (one other : ℕ → List ℕ → Placed Cursor) (bytes rest 
   pub part : IsBehind bytes rest
   pub fewer : length rest ≤ length bytes
   pub same : (p q : ℕ) (more : List ℕ) → p + length bytes ≡ q + length rest → one p (bytes ++ more) ≡ other q (rest ++ more)
+
+-- a token of a kind begins at the front of some bytes, whatever follows
+pub record BeginsAs (kind : First) (bytes : List ℕ) : Type 0 where
+  pub bare : IsBare bytes
+  pub some : 0 < length bytes
+  pub first : (in_sexp : Bool) (more : List ℕ) → first_at in_sexp (bytes ++ more) ≡ kind
+
+-- a symbol or a string does, by its quotes
+abbrev pub BeginsText : CodeQuote → List ℕ → Type 0
+BeginsText quotes.Symbol bytes = BeginsAs a_quoted bytes
+BeginsText quotes.Short bytes = BeginsAs a_short bytes
+BeginsText quotes.ShortClob bytes = ⊥
+BeginsText quotes.Long bytes = ⊥
+BeginsText quotes.LongClob bytes = ⊥
+
+-- a text stands between quotes at the front of some bytes, whatever follows
+pub record IsBetween (quote : Quote) (limit : ℕ) (bytes : List ℕ) (found : Between) : Type 0 where
+  pub part : IsBehind bytes found.rest.now
+  pub fewer : length found.rest.now < length bytes
+  pub shown : (place q : ℕ) (more : List ℕ) → place + length bytes ≡ q + length found.rest.now
+      → text_at quote (Some limit) (skip 1 (at place (bytes ++ more))) ≡ Ok (found.text.now, at q (found.rest.now ++ more))
 
 -- what a slice shows of the next token behind blanks, by the number of what its first byte or two tell: 0 is known of nothing
 pub record IsNext (bytes : List ℕ) (next : Next) : Type 0 where
@@ -185,9 +212,8 @@ pub record IsNamedBy (texts : ℕ → Option (List ℕ)) (limits : Limits) (plac
 -- two colons stand here, and a value begins behind them
 pub record IsBehindColons (colons : List ℕ) (next : Next) : Type 0 where
   pub two : 2 ≤ length colons
-  pub bare : IsBare colons
   pub same : take 2 colons ≡ codes "::"
-  pub first : (in_sexp : Bool) (more : List ℕ) → first_at in_sexp (colons ++ more) ≡ two_colons
+  pub shown : BeginsAs two_colons colons
   pub passes : PassesBlanks (drop 2 colons) next.rest.now
   pub begins : Begins next
 
@@ -225,42 +251,53 @@ pub record IsNoted (limits : Limits) (place : ℕ) (start noted : Start) : Type 
       → Onward limits kinds top place (a_value field []) start.next.rest.now (a_value field (placed_text text ∷ [])) noted.next.rest.now
   pub begins : Begins noted.next
 
+-- the place where bytes begin that a window ends with
+abbrev pub place_in : Bounds → List ℕ → ℕ
+place_in bounds bytes = bounds.end - length bytes
+
 -- what must come where a lane stands
 abbrev pub expected_of : Spot → Expected
 expected_of spot = expected_in spot.separator spot.kind
 
+-- a comma is passed over where one must come and stands there
+pub record PassesComma (old new : Spot) : Type 0 where
+  pub onward : (limits : Limits) (opened : List Kind) (place : ℕ) → kind_in opened ≡ old.kind
+      → Onward limits opened old.top place (wanted (expected_of old) None []) old.rest.now (wanted (expected_of new) None []) new.rest.now
+  pub expects : (opened : List Kind) → kind_in opened ≡ old.kind → MayExpect (expected_of old) opened None [] → MayExpect (expected_of new) opened None []
+  pub same : new ≡ record old { rest = new.rest; separator = new.separator }
+
 -- a value begins here, behind the name of a field where one must come, which is read as `raw`, and behind its annotations, two at most; a first one that is said to be simple
 -- stands in the bytes with its two colons
-pub record IsStartAs (raw : Option SymbolAt) (pair : Option SecondAt) (limits : Limits) (spot : Spot) (place : ℕ) (start : Start) : Type 0 where
+pub record IsStartAs (raw : Option SymbolAt) (pair : Option SecondAt) (bounds : Bounds) (spot : Spot) (start : Start) : Type 0 where
   pub known : HasKnownName (option_map placed_text start.field)
   pub free : HaveNoDollar (with_second (notes start.note) pair)
   pub field : IfSome start.field IsRightlySimple
   pub note : IfSome start.note IsRightlySimple
   pub second : IfSome pair (StandsBehind start.note)
-  pub stands : IfSome start.note (λ t. t.simple ≡ true → StandsNoted place spot.rest.now t)
+  pub stands : IfSome start.note (λ t. t.simple ≡ true → StandsNoted (place_in bounds spot.rest.now) spot.rest.now t)
   pub onward : (kinds : List Kind) → MayExpect (expected_of spot) kinds None []
-      → Onward limits kinds spot.top place (wanted (expected_of spot) None []) spot.rest.now (a_value raw (with_second (notes start.note) pair)) start.next.rest.now
+      → Onward bounds.limits kinds spot.top (place_in bounds spot.rest.now) (wanted (expected_of spot) None []) spot.rest.now (a_value raw (with_second (notes start.note) pair)) start.next.rest.now
   pub named : (kinds : List Kind) → MayExpect (expected_of spot) kinds None [] → is_some start.field ≡ in_struct kinds
   pub begins : Begins start.next
 
 -- the name is a text, and behind the annotation another may stand
-abbrev pub IsFurther : Option SecondAt → Limits → Spot → ℕ → Start → Type 0
-IsFurther pair limits spot place start = IsStartAs (option_map placed_text start.field) pair limits spot place start
+abbrev pub IsFurther : Option SecondAt → Bounds → Spot → Start → Type 0
+IsFurther pair bounds spot start = IsStartAs (option_map placed_text start.field) pair bounds spot start
 
 -- the same of one annotation at most
-abbrev pub IsStart : Limits → Spot → ℕ → Start → Type 0
-IsStart limits spot place start = IsFurther None limits spot place start
+abbrev pub IsStart : Bounds → Spot → Start → Type 0
+IsStart bounds spot start = IsFurther None bounds spot start
 
 -- however the name is read
-pub record IsStartRead (pair : Option SecondAt) (limits : Limits) (spot : Spot) (place : ℕ) (start : Start) : Type 0 where
+pub record IsStartRead (pair : Option SecondAt) (bounds : Bounds) (spot : Spot) (start : Start) : Type 0 where
   pub raw : Option SymbolAt
-  pub read : IsStartAs raw pair limits spot place start
+  pub read : IsStartAs raw pair bounds spot start
 
 -- the name is a text, or an id of this text
-pub record IsStartBy (texts : ℕ → Option (List ℕ)) (pair : Option SecondAt) (limits : Limits) (spot : Spot) (place : ℕ) (start : Start) : Type 0 where
+pub record IsStartBy (texts : ℕ → Option (List ℕ)) (pair : Option SecondAt) (bounds : Bounds) (spot : Spot) (start : Start) : Type 0 where
   pub raw : Option SymbolAt
   pub seen : option_map (named_at texts) raw ≡ option_map placed_text start.field
-  pub read : IsStartAs raw pair limits spot place start
+  pub read : IsStartAs raw pair bounds spot start
 
 -- a head stands at the front of some bytes, and these behind it; it is read as `raw`
 pub record IsHeadAs (raw : Head SymbolAt) (limits : Limits) (place : ℕ) (bytes : List ℕ) (head : Head SymbolAt) (rest : List ℕ) : Type 0 where
@@ -325,9 +362,9 @@ lane kinds spot writer sink meter = record {
 }
 
 -- the same as a reader and a writer stand, where the window ends at a place, and with what follows it
-abbrev pub joint : {W O : Type 0} → Limits → ℕ → List ℕ → Lane W O → Joint W
-joint limits end more l = record {
-  coming = later limits (state (reverse l.kinds) l.top (wanted l.expected None []) (end - length l.rest) (l.rest ++ more));
+abbrev pub joint : {W O : Type 0} → Bounds → List ℕ → Lane W O → Joint W
+joint bounds more l = record {
+  coming = later bounds.limits (state (reverse l.kinds) l.top (wanted l.expected None []) (place_in bounds l.rest) (l.rest ++ more));
   opened = reverse l.kinds;
   writer = l.writer;
   pending = l.sink.pending;
@@ -343,48 +380,113 @@ abbrev pub lane_share : {W O A : Type 0} → WriterOf W O A → Limits → Lane 
 lane_share w limits l = 16 * limits.depth + w.most l.writer
 
 -- it may go on
-pub record CanFeed {W O A : Type 0} (w : WriterOf W O A) (limits : Limits) (end : ℕ) (l : Lane W O) : Type 0 where
+pub record CanFeed {W O A : Type 0} (w : WriterOf W O A) (bounds : Bounds) (l : Lane W O) : Type 0 where
   pub room : l.meter.held ≤ 2 ^ 61 + lane_held w l
   pub held : lane_held w l ≤ l.meter.held
   pub countable : l.meter.refused < 2 ^ 64 - 1
-  pub checked : AreChecked limits
-  pub within : length l.rest ≤ end
-  pub low : end ≤ 2 ^ 62
+  pub checked : AreChecked bounds.limits
+  pub within : length l.rest ≤ bounds.end
+  pub low : bounds.end ≤ 2 ^ 62
   pub small : l.values + length l.rest ≤ 2 ^ 62
-  pub few : length l.kinds ≤ limits.depth
+  pub few : length l.kinds ≤ bounds.limits.depth
   pub kind : kind_in (reverse l.kinds) ≡ l.kind
   pub expects : MayExpect l.expected (reverse l.kinds) None []
-  pub takes : CanTake w limits.depth (reverse l.kinds) l.writer l.sink
+  pub takes : CanTake w bounds.limits.depth (reverse l.kinds) l.writer l.sink
   pub share : WritesWithin (w.own l.writer) (w.most l.writer)
 
 -- what it does: items go from the bytes to the writer, nothing fails, and the device is not used. The writer has them by the texts that ids have, where
 -- `sees` holds of these texts
-pub record MovedFor {W O A : Type 0} (w : WriterOf W O A) (limits : Limits) (end : ℕ) (sees : (ℕ → Option (List ℕ)) → Type 0) (old new : Lane W O) : Type 0 where
-  pub feeds : (texts : ℕ → Option (List ℕ)) → sees texts → (more : List ℕ) → Feeds w (named_item texts) (Unit {0}) (joint limits end more old) (joint limits end more new)
+pub record MovedFor {W O A : Type 0} (w : WriterOf W O A) (bounds : Bounds) (sees : (ℕ → Option (List ℕ)) → Type 0) (old new : Lane W O) : Type 0 where
+  pub feeds : (texts : ℕ → Option (List ℕ)) → sees texts → (more : List ℕ) → Feeds w (named_item texts) (Unit {0}) (joint bounds more old) (joint bounds more new)
   pub falls : new.values + length new.rest ≤ old.values + length old.rest
+  pub opens : length new.kinds + length new.rest ≤ length old.kinds + length old.rest
   pub part : IsBehind old.rest new.rest
   pub fewer : length new.rest ≤ length old.rest
-  pub few : length new.kinds ≤ limits.depth
+  pub few : length new.kinds ≤ bounds.limits.depth
   pub kind : kind_in (reverse new.kinds) ≡ new.kind
   pub expects : MayExpect new.expected (reverse new.kinds) None []
-  pub takes : CanTake w limits.depth (reverse new.kinds) new.writer new.sink
+  pub takes : CanTake w bounds.limits.depth (reverse new.kinds) new.writer new.sink
   pub share : WritesWithin (w.own new.writer) (w.most new.writer)
   pub stays : StaysWell w old.writer new.writer old.sink new.sink old.meter new.meter
-  pub charges : Charges old.meter new.meter (lane_held w old) (lane_held w new) (lane_share w limits old)
+  pub charges : Charges old.meter new.meter (lane_held w old) (lane_held w new) (lane_share w bounds.limits old)
 
 -- whatever texts ids have
-abbrev pub Moved : {W O A : Type 0} → WriterOf W O A → Limits → ℕ → Lane W O → Lane W O → Type 0
-Moved w limits end old new = MovedFor w limits end (λ _. Unit {0}) old new
+abbrev pub Moved : {W O A : Type 0} → WriterOf W O A → Bounds → Lane W O → Lane W O → Type 0
+Moved w bounds old new = MovedFor w bounds (λ _. Unit {0}) old new
 
 -- by the texts that ids have
-abbrev pub MovedBy : {W O A : Type 0} → WriterOf W O A → Limits → ℕ → (ℕ → Option (List ℕ)) → Lane W O → Lane W O → Type 0
-MovedBy w limits end texts old new = MovedFor w limits end (λ t. t ≡ texts) old new
+abbrev pub MovedBy : {W O A : Type 0} → WriterOf W O A → Bounds → (ℕ → Option (List ℕ)) → Lane W O → Lane W O → Type 0
+MovedBy w bounds texts old new = MovedFor w bounds (λ t. t ≡ texts) old new
+
+-- one turn of it: some bytes are passed over where it goes on
+pub record TurnsFor {W O A : Type 0} (w : WriterOf W O A) (bounds : Bounds) (sees : (ℕ → Option (List ℕ)) → Type 0) (goes_on : Bool) (old new : Lane W O) : Type 0 where
+  pub moved : MovedFor w bounds sees old new
+  pub less : goes_on ≡ true → length new.rest < length old.rest
+
+abbrev pub Turns : {W O A : Type 0} → WriterOf W O A → Bounds → Bool → Lane W O → Lane W O → Type 0
+Turns w bounds goes_on old new = TurnsFor w bounds (λ _. Unit {0}) goes_on old new
+
+abbrev pub TurnsBy : {W O A : Type 0} → WriterOf W O A → Bounds → (ℕ → Option (List ℕ)) → Bool → Lane W O → Lane W O → Type 0
+TurnsBy w bounds texts goes_on old new = TurnsFor w bounds (λ t. t ≡ texts) goes_on old new
+
+-- ---- one item
+
+-- the kind of container that a head begins, if it does
+abbrev pub begun : Head SymbolAt → Option Kind
+begun (value.whole body) = None
+begun (value.begin kind) = Some kind
+begun value.end = None
+begun value.marker = None
+
+-- the open containers behind it, the innermost last, and what its entry costs
+abbrev pub with_begun : List Kind → Option Kind → List Kind
+with_begun kinds None = kinds
+with_begun kinds (Some kind) = kinds ++ kind ∷ []
+
+abbrev pub begun_cost : Option Kind → ℕ
+begun_cost None = 0
+begun_cost (Some kind) = 16
+
+-- it is open, so many at most, and its entry counted
+pub record Opens (depth : ℕ) (begins : Option Kind) (old new : List Kind) (earlier later : Counts) : Type 0 where
+  pub is : new ≡ with_begun old begins
+  pub few : length new ≤ depth
+  pub held : later.held ≡ earlier.held + begun_cost begins
+  pub peak : later.peak ≤ max earlier.peak later.held
+  pub rises : earlier.peak ≤ later.peak
+  pub refused : later.refused ≡ earlier.refused
+
+-- where a lane stands behind an item, where these containers were open
+abbrev pub values_behind : Option Kind → List Kind → ℕ → ℕ
+values_behind None opened values = values + one_if_closed opened
+values_behind (Some kind) opened values = values
+
+abbrev pub separator_behind : Option Kind → Kind → Bool
+separator_behind None kind = is_separated kind
+separator_behind (Some kind) outer = false
+
+abbrev pub kind_behind : Option Kind → Kind → Kind
+kind_behind None kind = kind
+kind_behind (Some kind) outer = kind
+
+abbrev pub passed : Option Kind → List Kind → Spot → Found → ℕ → Spot
+passed begins opened spot found top = record {
+  rest = found.rest;
+  top = top;
+  values = values_behind begins opened spot.values;
+  separator = separator_behind begins spot.kind;
+  kind = kind_behind begins spot.kind;
+}
 
 -- ---- the lane of a reader
 
 -- where its window ends, within its limit
 abbrev pub window_end : {I : Type 0} → Incoming I → ℕ
 window_end s = s.place + length (lent s)
+
+-- how far it may go
+abbrev pub bounds_of : {I A : Type 0} → TextReader I A → Bounds
+bounds_of r = record { limits = r.limits; end = window_end r.source }
 
 -- a lane over what its window lends, where so many values have ended
 abbrev pub reader_lane : {I A W O : Type 0} → TextReader I A → ℕ → W → Outgoing O → Counts → Lane W O

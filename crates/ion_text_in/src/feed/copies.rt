@@ -1,21 +1,24 @@
 //! Copies for calls, part by part: so that only these are in memory, and the rest stays in registers.
 ghost use Rattle.std.specs.Prelude.{◌≡◌};
 
-use super::{Next, Spot, Start};
+use super::spot::{Bounds, Next, Spot, Start};
 use ion_meter::limits::Limits;
 use ion_value::plain_item::TextAt;
 
-/// A copy of limits.
+/// A copy of bounds.
 #[inline(always)]
-pub(super) fn limits_for_call(limits: Limits) -> Limits
-    ensures { result ≡ limits }
+pub(super) fn bounds_for_call(bounds: Bounds) -> Bounds
+    ensures { result ≡ bounds }
 {
-    Limits {
-        depth: limits.depth,
-        scalar: limits.scalar,
-        symbols: limits.symbols,
-        value: limits.value,
-        input: limits.input,
+    Bounds {
+        limits: Limits {
+            depth: bounds.limits.depth,
+            scalar: bounds.limits.scalar,
+            symbols: bounds.limits.symbols,
+            value: bounds.limits.value,
+            input: bounds.limits.input,
+        },
+        end: bounds.end,
     }
 }
 

@@ -1,20 +1,22 @@
 //! The heads of items in a lane.
-ghost use Rattle.std.specs.Prelude.{◌≡◌, ◌≢◌, ◌<◌, ℕ, Bool, List, ◌++◌, length, true, None, Some, IfSome};
-ghost use Rattle.ion_value.specs.declared.ion_type.Kind as kind_of;
-ghost use Rattle.ion_text_in.specs.Feeding.{Begins, IsBare, IsFound, IsSimpleWord};
+ghost use Rattle.std.specs.Prelude.{◌≡◌, take, true, None, Some, IfSome};
+ghost use Rattle.ion_text_in.specs.Feeding.{Begins, BeginsAs, IsFound, IsSimpleWord};
 ghost use Rattle.ion_text_in.specs.Firsts.{first_of};
+ghost use Rattle.ion_text_in.specs.declared.scanned.Scanned.TheVariants as Scanned;
 ghost use Rattle.ion_text_in.specs.Quick.{as_quick, AreSpelled};
-ghost use Rattle.ion_text_in.specs.Token.{a_begin, a_quoted, a_run, a_short, a_word, first_at};
-ghost use Rattle.ion_text_in.specs.Views.{as_number};
+ghost use Rattle.ion_text_in.specs.Scanners.{Shows};
+ghost use Rattle.ion_text_in.specs.Token.{a_begin, a_quoted, a_run, a_short, a_word, token_of};
+ghost use Rattle.ion_text_in.specs.Views.{as_number, word_token_of};
 ghost use Rattle.ion_value.specs.Items.{raw_head};
 ghost use Rattle.ion_value.specs.PlainItems.{IsTextOf};
 ghost use Rattle.ion_value.specs.Value.{whole};
 
-use super::{Found, Next, next_told};
+use super::spot::{Found, Next, next_told};
+use super::texts::text_between;
 use crate::first::First;
 use crate::number::{Number, scan_number};
 use crate::quick::{Quick, scaled, scan_quick, signed_int};
-use crate::quoted::{Quote, scan_text};
+use crate::quoted::Quote;
 use crate::scanned::Scanned;
 use crate::slice::{behind, front};
 use crate::word::{Word, scan_simple};
@@ -25,7 +27,7 @@ use ion_value::item::{Head, Sym, SymAt};
 /// The head of the item that begins so, where it lies whole in the bytes and is a frequent one.
 #[inline(always)]
 pub(super) fn scan_head<'a>(limits: Limits, place: u64, next: Next<'a>) -> Option<Found<'a>>
-    requires begins { Begins next }
+    requires { Begins next }
     ensures { IfSome result (IsFound limits place next.entry.rest.now) }
 {
     match token(next) {
@@ -38,29 +40,32 @@ pub(super) fn scan_head<'a>(limits: Limits, place: u64, next: Next<'a>) -> Optio
     }
 }
 
+// A head whose canonical text is not known.
+#[inline(always)]
+fn found_as<'a>(head: Head<'a>, rest: &'a [u8]) -> Found<'a>
+    ensures { result ≡ record { head = head.entry; spelled = None; rest = rest.entry } }
+{
+    Found {
+        head,
+        spelled: None,
+        rest,
+    }
+}
+
 /// A container's beginning.
 #[inline(always)]
 pub(super) fn begin_head<'a>(limits: Limits, place: u64, kind: Kind, bytes: &'a [u8]) -> Found<'a>
-    requires bare { IsBare bytes.now }
-    requires first { (in_sexp : Bool) (more : List ℕ)
-        → first_at in_sexp (bytes.now ++ more) ≡ a_begin kind }
-    requires some { 0 < length bytes.now }
-    ensures found { IsFound limits place bytes.now result }
-    ensures begins { result.head ≡ Head.Begin kind }
+    requires { BeginsAs (a_begin kind) bytes.now }
+    ensures { IsFound limits place bytes.now result }
 {
-    Found {
-        head: Head::Begin(kind),
-        spelled: None,
-        rest: behind(1, bytes),
-    }
+    found_as(Head::Begin(kind), behind(1, bytes))
 }
 
 /// An int that was read in one pass, as a head.
 #[inline(always)]
 pub(super) fn int_head<'a>(quick: Quick) -> Head<'a>
-    requires int { quick.exponent ≡ None }
-    ensures is { raw_head result ≡ whole (as_number (as_quick quick)) }
-    ensures whole { (kind : kind_of.Kind) → result ≢ Head.Begin kind }
+    requires { quick.exponent ≡ None }
+    ensures { raw_head result ≡ whole (as_number (as_quick quick)) }
 {
     Head::Int(signed_int(quick.negative, quick.number))
 }
@@ -68,9 +73,8 @@ pub(super) fn int_head<'a>(quick: Quick) -> Head<'a>
 /// A decimal that was read in one pass, as a head.
 #[inline(always)]
 pub(super) fn decimal_head<'a>(quick: Quick, exponent: i32) -> Head<'a>
-    requires decimal { quick.exponent ≡ Some exponent }
-    ensures is { raw_head result ≡ whole (as_number (as_quick quick)) }
-    ensures whole { (kind : kind_of.Kind) → result ≢ Head.Begin kind }
+    requires { quick.exponent ≡ Some exponent }
+    ensures { raw_head result ≡ whole (as_number (as_quick quick)) }
 {
     Head::Decimal(scaled(quick.negative, quick.number, exponent))
 }
@@ -110,18 +114,11 @@ fn head_of<'a>(number: Number) -> Head<'a>
 // Any number or timestamp.
 #[inline(never)]
 fn run_head<'a>(limits: Limits, place: u64, bytes: &'a [u8]) -> Option<Found<'a>>
-    requires bare { IsBare bytes.now }
-    requires first { (in_sexp : Bool) (more : List ℕ)
-        → first_at in_sexp (bytes.now ++ more) ≡ a_run }
-    requires some { 0 < length bytes.now }
+    requires { BeginsAs a_run bytes.now }
     ensures { IfSome result (IsFound limits place bytes.now) }
 {
     match scan_number(limits.scalar, bytes) {
-        Scanned::Whole(number, count) => Some(Found {
-            head: head_of(number),
-            spelled: None,
-            rest: behind(count, bytes),
-        }),
+        Scanned::Whole(number, count) => Some(found_as(head_of(number), behind(count, bytes))),
         _ => None,
     }
 }
@@ -129,10 +126,7 @@ fn run_head<'a>(limits: Limits, place: u64, bytes: &'a [u8]) -> Option<Found<'a>
 // A number: an int or a decimal is mostly read in one pass.
 #[inline(always)]
 fn number_head<'a>(limits: Limits, place: u64, bytes: &'a [u8]) -> Option<Found<'a>>
-    requires bare { IsBare bytes.now }
-    requires first { (in_sexp : Bool) (more : List ℕ)
-        → first_at in_sexp (bytes.now ++ more) ≡ a_run }
-    requires some { 0 < length bytes.now }
+    requires { BeginsAs a_run bytes.now }
     ensures { IfSome result (IsFound limits place bytes.now) }
 {
     let Some(quick) = scan_quick(limits.scalar, bytes) else {
@@ -148,45 +142,46 @@ fn number_head<'a>(limits: Limits, place: u64, bytes: &'a [u8]) -> Option<Found<
 /// A string of plain bytes alone.
 #[inline(always)]
 pub(super) fn string_head<'a>(limits: Limits, place: u64, bytes: &'a [u8]) -> Option<Found<'a>>
-    requires bare { IsBare bytes.now }
-    requires first { (in_sexp : Bool) (more : List ℕ)
-        → first_at in_sexp (bytes.now ++ more) ≡ a_short }
-    requires some { 0 < length bytes.now }
-    ensures found { IfSome result (IsFound limits place bytes.now) }
-    ensures whole { IfSome result (λ f. (kind : kind_of.Kind) → f.head ≢ Head.Begin kind) }
+    requires { BeginsAs a_short bytes.now }
+    ensures { IfSome result (IsFound limits place bytes.now) }
 {
-    let text = behind(1, bytes);
-    match scan_text(Quote::Short, limits.scalar, text) {
-        Scanned::Whole(plain, count) => Some(Found {
-            head: Head::String(front(plain, text)),
-            spelled: None,
-            rest: behind(count, text),
-        }),
-        _ => None,
-    }
+    let Some(string) = text_between(Quote::Short, limits.scalar, bytes) else {
+        return None;
+    };
+    Some(found_as(Head::String(string.text), string.rest))
 }
 
 // A word: a null, a bool, or a symbol behind which no two colons come.
 #[inline(always)]
 fn word_head<'a>(limits: Limits, place: u64, bytes: &'a [u8]) -> Option<Found<'a>>
-    requires bare { IsBare bytes.now }
-    requires first { (in_sexp : Bool) (more : List ℕ)
-        → first_at in_sexp (bytes.now ++ more) ≡ a_word }
-    requires some { 0 < length bytes.now }
+    requires { BeginsAs a_word bytes.now }
     ensures { IfSome result (IsFound limits place bytes.now) }
 {
     match scan_simple(limits.scalar, bytes) {
         Scanned::Whole(Word::Name, count) => symbol_head(limits, place, count, bytes),
-        Scanned::Whole(Word::Null(ion_type), count) => Some(Found {
-            head: Head::Null(ion_type),
-            spelled: None,
-            rest: behind(count, bytes),
-        }),
-        Scanned::Whole(Word::Bool(truth), count) => Some(Found {
-            head: Head::Bool(truth),
-            spelled: None,
-            rest: behind(count, bytes),
-        }),
+        Scanned::Whole(word, count) => keyword_head(limits, place, word, count, bytes),
+        _ => None,
+    }
+}
+
+/// A null or a bool that has so many bytes.
+#[inline(always)]
+pub(super) fn keyword_head<'a>(
+    limits: Limits,
+    place: u64,
+    word: Word,
+    count: usize,
+    bytes: &'a [u8],
+) -> Option<Found<'a>>
+    requires begins { BeginsAs a_word bytes.now }
+    requires shows { Shows (word_token_of (take count bytes.now)) bytes.now
+        (Scanned.Whole word count) (token_of (Some limits.scalar) a_word) }
+    ensures { IfSome result (IsFound limits place bytes.now) }
+{
+    let rest = behind(count, bytes);
+    match word {
+        Word::Null(ion_type) => Some(found_as(Head::Null(ion_type), rest)),
+        Word::Bool(truth) => Some(found_as(Head::Bool(truth), rest)),
         _ => None,
     }
 }
@@ -199,16 +194,12 @@ pub(super) fn symbol_head<'a>(
     count: usize,
     bytes: &'a [u8],
 ) -> Option<Found<'a>>
-    requires bare { IsBare bytes.now }
-    requires first { (in_sexp : Bool) (more : List ℕ)
-        → first_at in_sexp (bytes.now ++ more) ≡ a_word }
+    requires begins { BeginsAs a_word bytes.now }
     requires word { IsSimpleWord limits.scalar bytes.now count }
-    ensures found { IfSome result (IsFound limits place bytes.now) }
-    ensures whole { IfSome result (λ f. (kind : kind_of.Kind) → f.head ≢ Head.Begin kind) }
+    ensures { IfSome result (IsFound limits place bytes.now) }
 {
     let rest = behind(count, bytes);
-    let next = next_told(rest);
-    if next.told == 0 {
+    if next_told(rest).told == 0 {
         return None;
     }
     let text = front(count, bytes);
@@ -226,41 +217,27 @@ pub(super) fn symbol_head<'a>(
 /// A symbol in quotes of plain bytes alone, where a token is told behind it that is no two colons.
 #[inline(never)]
 pub(super) fn quoted_head<'a>(limits: Limits, place: u64, bytes: &'a [u8]) -> Option<Found<'a>>
-    requires bare { IsBare bytes.now }
-    requires first { (in_sexp : Bool) (more : List ℕ)
-        → first_at in_sexp (bytes.now ++ more) ≡ a_quoted }
-    requires some { 0 < length bytes.now }
-    ensures found { IfSome result (IsFound limits place bytes.now) }
-    ensures whole { IfSome result (λ f. (kind : kind_of.Kind) → f.head ≢ Head.Begin kind) }
+    requires { BeginsAs a_quoted bytes.now }
+    ensures { IfSome result (IsFound limits place bytes.now) }
 {
-    let text = behind(1, bytes);
-    match scan_text(Quote::Symbol, limits.scalar, text) {
-        Scanned::Whole(plain, count) => {
-            let rest = behind(count, text);
-            let next = next_told(rest);
-            if next.told == 0 {
-                return None;
-            }
-            let name = SymAt {
-                sym: Sym::Text(front(plain, text)),
-                place,
-            };
-            Some(Found {
-                head: Head::Symbol(name),
-                spelled: None,
-                rest,
-            })
-        }
-        _ => None,
+    let Some(symbol) = text_between(Quote::Symbol, limits.scalar, bytes) else {
+        return None;
+    };
+    if next_told(symbol.rest).told == 0 {
+        return None;
     }
+    let name = SymAt {
+        sym: Sym::Text(symbol.text),
+        place,
+    };
+    Some(found_as(Head::Symbol(name), symbol.rest))
 }
 
 /// The kind of token that begins so, where it begins an item that may be handed on.
 #[inline(always)]
 pub(super) fn token(next: Next<'_>) -> Option<First>
-    requires begins { Begins next }
-    ensures { IfSome result (λ f. (in_sexp : Bool) (more : List ℕ)
-        → first_at in_sexp (next.entry.rest.now ++ more) ≡ first_of f) }
+    requires { Begins next }
+    ensures { IfSome result (λ f. BeginsAs (first_of f) next.entry.rest.now) }
 {
     match next.told {
         1 => Some(First::Word),
@@ -278,10 +255,7 @@ pub(super) fn token(next: Next<'_>) -> Option<First>
 #[tactic(auto, unfolding(crate::specs::Token::first_at, crate::specs::Blanks::blanks_at))]
 #[inline(always)]
 fn begins_quoted(bytes: &[u8]) -> bool
-    ensures some { result ≡ true → 0 < length bytes.now }
-    ensures bare { result ≡ true → IsBare bytes.now }
-    ensures first { result ≡ true → (in_sexp : Bool) (more : List ℕ)
-        → first_at in_sexp (bytes.now ++ more) ≡ a_quoted }
+    ensures { result ≡ true → BeginsAs a_quoted bytes.now }
 {
     match bytes {
         [b'\'', next, ..] => *next != b'\'',

@@ -1,16 +1,13 @@
 //! Members in a lane that have an id: their name is one, or they are one.
-ghost use Rattle.std.specs.Prelude.{◌≡◌, ◌≢◌, ◌+◌, ◌-◌, ◌^◌, ◌<◌, ◌≤◌, ◌==◌, ℕ, List, Option, None, true, length, IfSome};
-ghost use Rattle.ion_value.specs.declared.ion_type.Kind as kind_of;
+ghost use Rattle.std.specs.Prelude.{◌≡◌, ◌<◌, ◌≤◌, ◌==◌, None, true, length, IfSome};
 ghost use Rattle.ion_value.specs.Digits.{first_is};
-ghost use Rattle.ion_text_in.specs.Feeding.{lane, CanFeed, IsFoundBy, IsIdOf, IsNamedBy, IsNext, IsStartBy, IsStartRead, MovedBy};
+ghost use Rattle.ion_text_in.specs.Feeding.{lane, place_in, Begins, CanFeed, IsFoundBy, IsIdOf, IsNamedBy, IsNext, IsStartBy, MovedBy, TurnsBy};
 
-use super::any::by_head;
+use super::forward::forward_any;
 use super::heads::scan_head;
-use super::names::behind_name;
+use super::names::{behind_name, to_start};
 use super::noted::begins_dollar;
-use super::{
-    Found, Next, Spot, Start, begin, next_told, place_behind, scalar, to_member, to_start,
-};
+use super::spot::{Bounds, Found, Further, Next, Spot, Start, next_told, place_behind, to_member};
 use crate::blank::run_without;
 use crate::scanned::Scanned;
 use crate::slice::behind;
@@ -50,24 +47,21 @@ pub(super) fn is_dollar_near(bytes: &[u8]) -> bool {
 pub(super) fn id_turns<'a, N: Names, W: ValueWriter<O, A>, O: Output, A: Allocator + Copy>(
     spot: Spot<'a>,
     names: &'a N,
-    limits: Limits,
-    end: u64,
+    bounds: Bounds,
     kinds: &mut Stack<Kind, A>,
     meter: &mut Meter<A>,
     writer: &mut W,
     sink: &mut Sink<O, A>,
 ) -> Spot<'a>
-    requires can { CanFeed W.ValueWriter limits end
+    requires { CanFeed W.ValueWriter bounds
         (lane kinds.old spot writer.old sink.old meter.old) }
-    ensures moved { MovedBy W.ValueWriter limits end (N.text names.now)
+    ensures { MovedBy W.ValueWriter bounds (N.text names.now)
         (lane kinds.old spot.entry writer.old sink.old meter.old)
         (lane kinds.new result writer.new sink.new meter.new) }
-    ensures goes { length kinds.new + length result.rest.now
-        ≤ length kinds.old + length spot.entry.rest.now }
 {
     let mut at = spot;
     'items: loop {
-        if !id_turn(&mut at, names, limits, end, kinds, meter, writer, sink) {
+        if !id_turn(&mut at, names, bounds, kinds, meter, writer, sink) {
             return at;
         }
     }
@@ -78,29 +72,30 @@ pub(super) fn id_turns<'a, N: Names, W: ValueWriter<O, A>, O: Output, A: Allocat
 fn id_turn<'a, N: Names, W: ValueWriter<O, A>, O: Output, A: Allocator + Copy>(
     at: &mut Spot<'a>,
     names: &'a N,
-    limits: Limits,
-    end: u64,
+    bounds: Bounds,
     kinds: &mut Stack<Kind, A>,
     meter: &mut Meter<A>,
     writer: &mut W,
     sink: &mut Sink<O, A>,
 ) -> bool
-    requires can { CanFeed W.ValueWriter limits end
+    requires { CanFeed W.ValueWriter bounds
         (lane kinds.old at.old writer.old sink.old meter.old) }
-    ensures moved { MovedBy W.ValueWriter limits end (N.text names.now)
+    ensures { TurnsBy W.ValueWriter bounds (N.text names.now) result
         (lane kinds.old at.old writer.old sink.old meter.old)
         (lane kinds.new at.new writer.new sink.new meter.new) }
-    ensures goes { length kinds.new + length at.new.rest.now
-        ≤ length kinds.old + length at.old.rest.now }
-    ensures falls { result ≡ true → length at.new.rest.now < length at.old.rest.now }
 {
     let next = to_member(at);
-    match id_start(*at, next, names, limits, end - at.rest.len() as u64) {
-        Some(start) => id_value(
-            at, next.rest, start, names, limits, end, kinds, meter, writer, sink,
-        ),
-        None => false,
-    }
+    let Some(start) = id_start(*at, next, names, bounds) else {
+        return false;
+    };
+    let Some(found) = id_found(next.rest, start.next, names, bounds) else {
+        return false;
+    };
+    let further = Further {
+        start,
+        second: None,
+    };
+    forward_any(at, further, found, bounds, kinds, meter, writer, sink)
 }
 
 // What the value begins with that may begin here, behind the name of its field where one must come: an id,
@@ -110,18 +105,22 @@ fn id_start<'a, N: Names>(
     spot: Spot<'a>,
     next: Next<'a>,
     names: &'a N,
-    limits: Limits,
-    place: u64,
+    bounds: Bounds,
 ) -> Option<Start<'a>>
     requires next { IsNext spot.rest.now next }
-    requires small { place + length spot.rest.now < 2 ^ 63 }
-    ensures { IfSome result (IsStartBy (N.text names.now) None limits spot.entry place) }
+    requires within { length spot.rest.now ≤ bounds.end }
+    ensures { IfSome result (IsStartBy (N.text names.now) None bounds spot.entry) }
 {
     match spot.kind {
         Kind::Struct if !spot.separator && begins_dollar(next.rest) => {
-            id_name(next.rest, names, limits, place_behind(place, spot, next))
+            id_name(
+                next.rest,
+                names,
+                bounds.limits,
+                place_behind(bounds, spot, next),
+            )
         }
-        _ => to_start(spot, next, limits, place),
+        _ => to_start(spot, next, bounds),
     }
 }
 
@@ -133,7 +132,7 @@ fn id_name<'a, N: Names>(
     limits: Limits,
     place: u64,
 ) -> Option<Start<'a>>
-    requires dollar { first_is (λ b. b == 36) bytes.now ≡ true }
+    requires { first_is (λ b. b == 36) bytes.now ≡ true }
     ensures { IfSome result (IsNamedBy (N.text names.now) limits place bytes.now) }
 {
     let Some(id) = id_text(bytes, names, limits.scalar) else {
@@ -150,7 +149,7 @@ fn id_name<'a, N: Names>(
 // The id at the front of these bytes, where it has a simple text.
 #[inline(always)]
 fn id_text<'a, N: Names>(bytes: &[u8], names: &'a N, limit: u64) -> Option<IdText<'a>>
-    requires some { 0 < length bytes.now }
+    requires { 0 < length bytes.now }
     ensures { IfSome result
         (λ id. IsIdOf (N.text names.now) limit bytes.now id.text.now id.count) }
 {
@@ -163,44 +162,27 @@ fn id_text<'a, N: Names>(bytes: &[u8], names: &'a N, limit: u64) -> Option<IdTex
     }
 }
 
-// Hands on the value here, where it is an id, or the name before it, at the front of these bytes, is one.
+// The head that stands here, where it is an id, or the name before it, at the front of these bytes, is one.
 #[inline(always)]
-fn id_value<'a, N: Names, W: ValueWriter<O, A>, O: Output, A: Allocator + Copy>(
-    at: &mut Spot<'a>,
+fn id_found<'a, N: Names>(
     name: &[u8],
-    start: Start<'a>,
+    next: Next<'a>,
     names: &'a N,
-    limits: Limits,
-    end: u64,
-    kinds: &mut Stack<Kind, A>,
-    meter: &mut Meter<A>,
-    writer: &mut W,
-    sink: &mut Sink<O, A>,
-) -> bool
-    requires can { CanFeed W.ValueWriter limits end
-        (lane kinds.old at.old writer.old sink.old meter.old) }
-    requires start { IsStartBy (N.text names.now) None limits at.old
-        (end - length at.old.rest.now) start }
-    ensures moved { MovedBy W.ValueWriter limits end (N.text names.now)
-        (lane kinds.old at.old writer.old sink.old meter.old)
-        (lane kinds.new at.new writer.new sink.new meter.new) }
-    ensures goes { length kinds.new + length at.new.rest.now
-        ≤ length kinds.old + length at.old.rest.now }
-    ensures falls { result ≡ true → length at.new.rest.now < length at.old.rest.now }
+    bounds: Bounds,
+) -> Option<Found<'a>>
+    requires begins { Begins next }
+    requires within { length next.rest.now ≤ bounds.end }
+    ensures { IfSome result (IsFoundBy (N.text names.now) bounds.limits
+        (place_in bounds next.entry.rest.now) next.entry.rest.now) }
 {
-    if begins_dollar(start.next.rest) {
-        let place = end - start.next.rest.len() as u64;
-        return match id_head(start.next.rest, names, limits, place) {
-            Some(found) => scalar(
-                at, start, None, found, limits, end, kinds, meter, writer, sink,
-            ),
-            None => false,
-        };
+    let place = bounds.end - next.rest.len() as u64;
+    if begins_dollar(next.rest) {
+        return id_head(next.rest, names, bounds.limits, place);
     }
     if begins_dollar(name) {
-        return by_head(at, start, None, limits, end, kinds, meter, writer, sink);
+        return scan_head(bounds.limits, place, next);
     }
-    false
+    None
 }
 
 // A symbol that is an id, where a token is told behind it that is no two colons.
@@ -211,16 +193,14 @@ fn id_head<'a, N: Names>(
     limits: Limits,
     place: u64,
 ) -> Option<Found<'a>>
-    requires dollar { first_is (λ b. b == 36) bytes.now ≡ true }
-    ensures found { IfSome result (IsFoundBy (N.text names.now) limits place bytes.now) }
-    ensures whole { IfSome result (λ f. (kind : kind_of.Kind) → f.head ≢ Head.Begin kind) }
+    requires { first_is (λ b. b == 36) bytes.now ≡ true }
+    ensures { IfSome result (IsFoundBy (N.text names.now) limits place bytes.now) }
 {
     let Some(id) = id_text(bytes, names, limits.scalar) else {
         return None;
     };
     let rest = behind(id.count, bytes);
-    let next = next_told(rest);
-    if next.told == 0 {
+    if next_told(rest).told == 0 {
         return None;
     }
     let name = SymAt {

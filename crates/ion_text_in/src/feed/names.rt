@@ -1,25 +1,42 @@
-//! The names of fields in a lane.
-ghost use Rattle.std.specs.Prelude.{◌≡◌, ◌<◌, ◌++◌, ℕ, Bool, List, length, IfSome};
-ghost use Rattle.ion_text_in.specs.Feeding.{Begins, IsBare, IsBehindName, IsNamed, ToColon};
-ghost use Rattle.ion_text_in.specs.Token.{a_quoted, a_short, first_at};
+//! The names of fields in a lane, and where a value begins.
+ghost use Rattle.std.specs.Prelude.{◌≡◌, ◌<◌, ◌≤◌, length, None, IfSome};
+ghost use Rattle.ion_text_in.specs.Feeding.{Begins, BeginsText, IsBehindName, IsNamed, IsNext, IsStart, ToColon};
 
 use super::heads::token;
-use super::quotes::quoted_text;
-use super::{Next, Start, WORD, next_told};
+use super::spot::{Bounds, Next, Spot, Start, WORD, next_told, place_behind, value_start};
+use super::texts::{quoted_text, text_between};
 use crate::comments::behind_blanks;
 use crate::first::{First, shows_colon};
-use crate::quoted::{Quote, scan_text};
-use crate::scanned::Scanned;
+use crate::quoted::Quote;
 use crate::slice::{behind, front};
 use crate::word::simple_word;
 use ion_meter::limits::Limits;
+use ion_value::ion_type::Kind;
 use ion_value::plain_item::TextAt;
 
-/// What the value begins with behind the name that must come, and that begins at a place: none behind a
-/// name between quotes, so that of those here it is known, and asked of none, that they are simple.
+/// What the value begins with that may begin here, behind the name of its field where one must come, which
+/// stands without quotes.
 #[inline(always)]
-pub(super) fn field_start<'a>(next: Next<'a>, limits: Limits, place: u64) -> Option<Start<'a>>
-    requires begins { 0 < next.told → Begins next }
+pub(super) fn to_start<'a>(spot: Spot<'a>, next: Next<'a>, bounds: Bounds) -> Option<Start<'a>>
+    requires next { IsNext spot.rest.now next }
+    requires within { length spot.rest.now ≤ bounds.end }
+    ensures start { IfSome result (IsStart bounds spot.entry) }
+    ensures bare { IfSome result (λ s. s.note ≡ None) }
+{
+    if spot.separator {
+        return None;
+    }
+    match spot.kind {
+        Kind::Struct => field_start(next, bounds.limits, place_behind(bounds, spot, next)),
+        Kind::List | Kind::Sexp => value_start(next),
+    }
+}
+
+// What the value begins with behind the name that must come, and that begins at a place: none behind a
+// name between quotes, so that of those here it is known, and asked of none, that they are simple.
+#[inline(always)]
+fn field_start<'a>(next: Next<'a>, limits: Limits, place: u64) -> Option<Start<'a>>
+    requires { 0 < next.told → Begins next }
     ensures { IfSome result (IsNamed limits place next.entry.rest.now) }
 {
     if next.told != WORD {
@@ -39,54 +56,26 @@ pub(super) fn field_start<'a>(next: Next<'a>, limits: Limits, place: u64) -> Opt
 /// What the value begins with after a field's name between quotes.
 #[inline(always)]
 pub(super) fn quoted_start<'a>(next: Next<'a>, limits: Limits, place: u64) -> Option<Start<'a>>
-    requires begins { Begins next }
+    requires { Begins next }
     ensures { IfSome result (IsNamed limits place next.entry.rest.now) }
 {
     match token(next) {
-        Some(First::QuotedSymbol) => symbol_start(limits, place, next.rest),
-        Some(First::String) => string_start(limits, place, next.rest),
+        Some(First::QuotedSymbol) => text_start(Quote::Symbol, limits, place, next.rest),
+        Some(First::String) => text_start(Quote::Short, limits, place, next.rest),
         _ => None,
     }
 }
 
-// What the value begins with after a field's name that is a symbol in quotes of plain bytes alone.
+// What the value begins with after a field's name of plain bytes alone between such quotes.
 #[inline(always)]
-fn symbol_start<'a>(limits: Limits, place: u64, bytes: &'a [u8]) -> Option<Start<'a>>
-    requires bare { IsBare bytes.now }
-    requires first { (in_sexp : Bool) (more : List ℕ)
-        → first_at in_sexp (bytes.now ++ more) ≡ a_quoted }
-    requires some { 0 < length bytes.now }
+fn text_start<'a>(quote: Quote, limits: Limits, place: u64, bytes: &'a [u8]) -> Option<Start<'a>>
+    requires { BeginsText quote bytes.now }
     ensures { IfSome result (IsNamed limits place bytes.now) }
 {
-    let text = behind(1, bytes);
-    match scan_text(Quote::Symbol, limits.scalar, text) {
-        Scanned::Whole(plain, count) => {
-            let word = front(plain, text);
-            let name = quoted_text(word, place);
-            behind_name(name, behind(count, text))
-        }
-        _ => None,
-    }
-}
-
-// What the value begins with after a field's name that is a string of plain bytes alone.
-#[inline(always)]
-fn string_start<'a>(limits: Limits, place: u64, bytes: &'a [u8]) -> Option<Start<'a>>
-    requires bare { IsBare bytes.now }
-    requires first { (in_sexp : Bool) (more : List ℕ)
-        → first_at in_sexp (bytes.now ++ more) ≡ a_short }
-    requires some { 0 < length bytes.now }
-    ensures { IfSome result (IsNamed limits place bytes.now) }
-{
-    let text = behind(1, bytes);
-    match scan_text(Quote::Short, limits.scalar, text) {
-        Scanned::Whole(plain, count) => {
-            let string = front(plain, text);
-            let name = quoted_text(string, place);
-            behind_name(name, behind(count, text))
-        }
-        _ => None,
-    }
+    let Some(name) = text_between(quote, limits.scalar, bytes) else {
+        return None;
+    };
+    behind_name(quoted_text(name.text, place), name.rest)
 }
 
 /// What the value begins with behind a name, where a colon stands behind that.

@@ -1,13 +1,12 @@
 //! Annotations in a lane.
-ghost use Rattle.std.specs.Prelude.{◌≡◌, ◌==◌, ◌+◌, ◌-◌, ◌^◌, ◌<◌, ◌≤◌, ◌++◌, ℕ, Bool, List, true, take, length, codes, IfSome};
+ghost use Rattle.std.specs.Prelude.{◌≡◌, ◌==◌, ◌+◌, ◌-◌, ◌^◌, ◌<◌, ◌≤◌, ◌++◌, true, take, length, codes, IfSome};
 ghost use Rattle.ion_value.specs.Digits.{first_is};
-ghost use Rattle.ion_text_in.specs.Feeding.{Begins, IsBare, IsBehind, IsBehindColons, IsBehindNote, IsBehindSecond, IsFurther, IsNoted, IsSimpleWord, IsStart, StandsNoted};
-ghost use Rattle.ion_text_in.specs.Token.{a_quoted, a_word, first_at, two_colons};
+ghost use Rattle.ion_text_in.specs.Feeding.{BeginsAs, IsBehind, IsBehindColons, IsBehindNote, IsBehindSecond, IsFurther, IsNoted, IsSimpleWord, IsStart, StandsNoted};
+ghost use Rattle.ion_text_in.specs.Token.{a_quoted, a_word, two_colons};
 
-use super::quotes::quoted_text;
-use super::{Further, Next, Spot, Start, WORD, next_told};
-use crate::quoted::{Quote, scan_text};
-use crate::scanned::Scanned;
+use super::spot::{Bounds, Further, Next, Spot, Start, WORD, next_told};
+use super::texts::{quoted_text, text_between};
+use crate::quoted::Quote;
 use crate::slice::{behind, front};
 use crate::word::simple_word;
 use ion_meter::limits::Limits;
@@ -22,9 +21,7 @@ pub(super) fn noted<'a>(
     place: u64,
     count: usize,
 ) -> Option<Start<'a>>
-    requires begins { Begins start.next }
-    requires first { (in_sexp : Bool) (more : List ℕ)
-        → first_at in_sexp (start.next.rest.now ++ more) ≡ a_word }
+    requires begins { BeginsAs a_word start.next.rest.now }
     requires word { IsSimpleWord limits.scalar start.next.rest.now count }
     ensures { IfSome result (IsNoted limits place start.entry) }
 {
@@ -40,23 +37,16 @@ pub(super) fn noted<'a>(
 /// two colons follow, and a value begins after them.
 #[inline(never)]
 pub(super) fn quoted_noted<'a>(start: Start<'a>, limits: Limits, place: u64) -> Option<Start<'a>>
-    requires begins { Begins start.next }
-    requires first { (in_sexp : Bool) (more : List ℕ)
-        → first_at in_sexp (start.next.rest.now ++ more) ≡ a_quoted }
+    requires { BeginsAs a_quoted start.next.rest.now }
     ensures { IfSome result (IsNoted limits place start.entry) }
 {
-    let text = behind(1, start.next.rest);
-    match scan_text(Quote::Symbol, limits.scalar, text) {
-        Scanned::Whole(plain, count) => {
-            let word = front(plain, text);
-            if begins_dollar(word) {
-                return None;
-            }
-            let note = quoted_text(word, place);
-            behind_note(start, note, behind(count, text), limits)
-        }
-        _ => None,
+    let Some(note) = text_between(Quote::Symbol, limits.scalar, start.next.rest) else {
+        return None;
+    };
+    if begins_dollar(note.text) {
+        return None;
     }
+    behind_note(start, quoted_text(note.text, place), note.rest, limits)
 }
 
 // Behind an annotation: where two colons stand here, its bytes are no more than may be, and a value
@@ -101,18 +91,12 @@ fn behind_colons(colons: &[u8]) -> Option<Next<'_>>
 /// Behind the second annotation, where one stands right behind the two colons of the first and both
 /// are simple. Else the value begins where it did.
 #[inline(always)]
-pub(super) fn with_second<'a>(
-    spot: Spot<'a>,
-    start: Start<'a>,
-    limits: Limits,
-    end: u64,
-) -> Further<'a>
-    requires within { length spot.rest.now ≤ end }
-    requires start { IsStart limits spot (end - length spot.rest.now) start }
-    ensures { IsFurther result.second limits spot.entry
-        (end - length spot.entry.rest.now) result.start }
+pub(super) fn with_second<'a>(spot: Spot<'a>, start: Start<'a>, bounds: Bounds) -> Further<'a>
+    requires within { length spot.rest.now ≤ bounds.end }
+    requires start { IsStart bounds spot start }
+    ensures { IsFurther result.second bounds spot.entry result.start }
 {
-    match second_start(spot, start, limits, end) {
+    match second_start(spot, start, bounds) {
         Some(further) => further,
         None => Further {
             start,
@@ -123,16 +107,10 @@ pub(super) fn with_second<'a>(
 
 // After a second annotation, where there is one.
 #[inline(always)]
-fn second_start<'a>(
-    spot: Spot<'a>,
-    start: Start<'a>,
-    limits: Limits,
-    end: u64,
-) -> Option<Further<'a>>
-    requires within { length spot.rest.now ≤ end }
-    requires start { IsStart limits spot (end - length spot.rest.now) start }
-    ensures { IfSome result (λ f. IsFurther f.second limits spot.entry
-        (end - length spot.entry.rest.now) f.start) }
+fn second_start<'a>(spot: Spot<'a>, start: Start<'a>, bounds: Bounds) -> Option<Further<'a>>
+    requires within { length spot.rest.now ≤ bounds.end }
+    requires start { IsStart bounds spot start }
+    ensures { IfSome result (λ f. IsFurther f.second bounds spot.entry f.start) }
 {
     let Some(note) = start.note else {
         return None;
@@ -140,15 +118,16 @@ fn second_start<'a>(
     if start.next.told != WORD || !note.simple {
         return None;
     }
-    let Some(bytes) = from_note(spot, note, start.next.rest, end) else {
+    let Some(bytes) = from_note(spot, note, start.next.rest, bounds.end) else {
         return None;
     };
+    let limits = bounds.limits;
     let Some(count) = simple_word(limits.scalar, start.next.rest) else {
         return None;
     };
     let text = front(count, start.next.rest);
     let pair = front(note.text.len() + 2 + count, bytes);
-    let place = end - start.next.rest.len() as u64;
+    let place = bounds.end - start.next.rest.len() as u64;
     let second = SecondAt { text, place, pair };
     behind_second(start, note, second, behind(count, start.next.rest), limits)
 }
@@ -205,10 +184,8 @@ fn behind_second<'a>(
 #[inline(always)]
 fn shows_colons(bytes: &[u8]) -> bool
     ensures some { result ≡ true → 2 ≤ length bytes.now }
-    ensures bare { result ≡ true → IsBare bytes.now }
     ensures same { result ≡ true → take 2 bytes.now ≡ codes "::" }
-    ensures first { result ≡ true → (in_sexp : Bool) (more : List ℕ)
-        → first_at in_sexp (bytes.now ++ more) ≡ two_colons }
+    ensures begins { result ≡ true → BeginsAs two_colons bytes.now }
 {
     if bytes.len() < 2 || bytes[0] != b':' || bytes[1] != b':' {
         return false;

@@ -1,12 +1,13 @@
 //! What lies whole in the window, handed to a writer.
 ghost use Rattle.std.specs.Prelude.{◌≡◌, ◌+◌, ◌*◌, ◌-◌, ◌≤◌};
 ghost use Rattle.ion_meter.specs.Sources.{Stands};
-ghost use Rattle.ion_text_in.specs.Feeding.{reader_lane, window_end, CanFeed, MovedBy, PassedLent};
+ghost use Rattle.ion_text_in.specs.Feeding.{bounds_of, reader_lane, CanFeed, MovedBy, PassedLent};
 ghost use Rattle.ion_text_in.specs.Steps.{held_by, left_to};
 
 use super::TextReader;
 use crate::expected::{expected_in, is_separator, member_kind};
-use crate::feed::{Spot, feed_items, innermost};
+use crate::feed::feed_items;
+use crate::feed::spot::{Bounds, Spot, innermost};
 use ion_meter::device::{Input, Output};
 use ion_meter::meter::Meter;
 use ion_meter::sink::Sink;
@@ -25,10 +26,9 @@ impl<I: Input, A: Allocator + Copy> TextReader<I, A> {
         sink: &mut Sink<O, A>,
     ) -> u64
         requires stands { Stands self.old.source }
-        requires can { CanFeed W.ValueWriter self.old.limits (window_end self.old.source)
+        requires can { CanFeed W.ValueWriter (bounds_of self.old)
             (reader_lane self.old 0 writer.old sink.old meter.old) }
-        ensures moved { MovedBy W.ValueWriter self.old.limits (window_end self.old.source)
-            (N.text names.now)
+        ensures moved { MovedBy W.ValueWriter (bounds_of self.old) (N.text names.now)
             (reader_lane self.old 0 writer.old sink.old meter.old)
             (reader_lane self.new result writer.new sink.new meter.new) }
         ensures passed { PassedLent self.old.source self.new.source }
@@ -50,17 +50,11 @@ impl<I: Input, A: Allocator + Copy> TextReader<I, A> {
             separator: is_separator(self.expected),
             kind: member_kind(innermost(&self.kinds)),
         };
-        let end = self.source.place() + count as u64;
-        let last = feed_items(
-            spot,
-            names,
-            self.limits,
-            end,
-            &mut self.kinds,
-            meter,
-            writer,
-            sink,
-        );
+        let bounds = Bounds {
+            limits: self.limits,
+            end: self.source.place() + count as u64,
+        };
+        let last = feed_items(spot, names, bounds, &mut self.kinds, meter, writer, sink);
         let taken = count - last.rest.len();
         self.expected = expected_in(last.separator, last.kind);
         self.top = last.top;

@@ -1,26 +1,9 @@
-use Rattle.std.proofs.Common.{arith}
-use Rattle.std.proofs.lemmas.Grind.{common_steps}
-use Rattle.ion_text_in.specs.Feeding.{lane}
-use Rattle.ion_text_in.proofs.FeedLanes.{moved-none}
+use Rattle.ion_text_in.proofs.FeedLanes.{turns-none}
 use Rattle.ion_text_in.proofs.FeedNoted.{start-noted}
 use Rattle.ion_text_in.proofs.feed.note.Goals as goal
 
 pub rare-requires-clause-start : goal.rare-requires-clause-start
-rare-requires-clause-start g c =
-    start-noted c.args.limits c.args.at.now c.args.end c.args.start c.in-Some.start c.requires.can.within c.requires.start c.requires.bare c.in-Some.ensures
+rare-requires-clause-start g c = start-noted c.requires.can.within c.requires.start c.requires.bare c.in-Some.ensures
 
-pub returns-in-None-clause-moved : goal.returns-in-None-clause-moved
-returns-in-None-clause-moved g c =
-    moved-none g.W.ValueWriter c.args.limits c.args.end (lane c.args.kinds.now c.args.at.now c.args.writer.now c.args.sink.now c.args.meter.now) c.requires.can
-
-pub returns-in-Some-clause-falls : goal.returns-in-Some-clause-falls
-returns-in-Some-clause-falls g c = grind (arith, common_steps)
-
-pub returns-in-None-clause-falls : goal.returns-in-None-clause-falls
-returns-in-None-clause-falls g c = grind (arith, common_steps) steps 400000
-
-pub returns-in-Some-clause-goes : goal.returns-in-Some-clause-goes
-returns-in-Some-clause-goes g c = grind (arith, common_steps) steps 400000
-
-pub returns-in-Some-clause-moved : goal.returns-in-Some-clause-moved
-returns-in-Some-clause-moved g c = grind (arith, common_steps)
+pub returns-in-None : goal.returns-in-None
+returns-in-None g c = turns-none c.requires.can

@@ -6,7 +6,7 @@ use Rattle.ion_text_in.specs.Quick.{number_by}
 use Rattle.ion_text_in.specs.Views.{as_number}
 use Rattle.ion_text_in.proofs.feed.heads.int_head.Goals as goal
 
-pub returns-clause-is : goal.returns-clause-is
-returns-clause-is c =
+pub returns : goal.returns
+returns c =
     let quick = c.args.quick in
-    ap (λ (i : Int). whole (int i)) c.signed_int.ensures ∙ ap (λ (e : Option ℤ). whole (as_number (number_by quick.negative quick.number e))) (sym c.requires.int)
+    ap (λ (i : Int). whole (int i)) c.signed_int.ensures ∙ ap (λ (e : Option ℤ). whole (as_number (number_by quick.negative quick.number e))) (sym c.requires)

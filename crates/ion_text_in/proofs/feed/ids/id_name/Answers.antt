@@ -1,14 +1,14 @@
 use Rattle.std.proofs.Common.{refl, true}
 use Rattle.ion_value.specs.declared.plain_item.TextAt.{TextAt}
-use Rattle.ion_text_in.proofs.FeedIds.{dollar-some, named-id}
+use Rattle.ion_text_in.proofs.FeedIds.{dollar-begins, named-id}
 use Rattle.ion_text_in.proofs.feed.ids.id_name.Goals as goal
 
 pub id_text-requires : goal.id_text-requires
-id_text-requires g c = record { some = dollar-some c.args.bytes.now c.requires.dollar }
+id_text-requires g c = (dollar-begins c.args.bytes.now c.requires).some
 
 pub returns : goal.returns
 returns g c =
     let a = c.args in
     let id = c.in-Some.id in
     let name : TextAt = record { text = id.text; simple = true; place = a.place } in
-    named-id (g.N.Names.text a.names.now) a.limits a.place id.count name a.bytes.now c.behind.result.now c.behind_name.result refl c.in-Some.ensures c.behind.ensures c.requires.dollar c.behind_name.ensures
+    named-id (g.N.Names.text a.names.now) a.limits a.place id.count name a.bytes.now c.behind.result.now c.behind_name.result refl c.in-Some.ensures c.behind.ensures c.requires c.behind_name.ensures

@@ -6,4 +6,4 @@ returns-in-Some g c =
     let a = c.args in
     let w = c.in-Whole-Id-default in
     let names = c.in-Some.ensures in
-    id-shown (g.N.Names.text a.names.now) a.limit a.bytes.now c.in-Some.text.now w.field-0 w.id w.count c.requires.some w.ensures.shows w.field-0-is names.0 names.1
+    id-shown (g.N.Names.text a.names.now) a.limit a.bytes.now c.in-Some.text.now w.field-0 w.id w.count c.requires w.ensures.shows w.field-0-is names.0 names.1

@@ -1,67 +1,26 @@
-use Rattle.std.proofs.Common.{reverse, arith}
-use Rattle.ion_text_in.specs.Feeding.{lane}
-use Rattle.ion_text_in.proofs.FeedItems.{moved-member}
-use Rattle.ion_text_in.proofs.FeedLanes.{can-moved, moved-by, moved-then}
+use Rattle.std.proofs.Common.{arith}
+use Rattle.ion_text_in.proofs.FeedItems.{can-member, turns-member}
+use Rattle.ion_text_in.proofs.FeedLanes.{turns-none}
+use Rattle.ion_text_in.proofs.FeedNoted.{start-part}
 use Rattle.ion_text_in.proofs.feed.ids.id_turn.Goals as goal
 
-pub overflow_sub-end : goal.overflow_sub-end
-overflow_sub-end g c =
-    let a = c.args in
-    let fewer = (c.to_member-next.ensures.onward a.limits (reverse a.kinds.now) 0 c.requires.can.kind).fewer in
-    let within = c.requires.can.within in
+pub id_start-requires-clause-within : goal.id_start-requires-clause-within
+id_start-requires-clause-within g c = (can-member c.to_member-next.ensures.comma c.requires).within
+
+pub id_found-requires-clause-within : goal.id_found-requires-clause-within
+id_found-requires-clause-within g c =
+    let within = (can-member c.to_member-next.ensures.comma c.requires).within in
+    let fewer = (start-part c.in-Some.ensures.read).1 in
     omega (arith, fewer, within)
 
-pub id_start-requires-clause-small : goal.id_start-requires-clause-small
-id_start-requires-clause-small g c =
-    let a = c.args in
-    let fewer = (c.to_member-next.ensures.onward a.limits (reverse a.kinds.now) 0 c.requires.can.kind).fewer in
-    let within = c.requires.can.within in
-    let low = c.requires.can.low in
-    omega (arith, fewer, within, low)
+pub returns-in_default : goal.returns-in_default
+returns-in_default g c = let comma = c.to_member-next.ensures.comma in turns-member comma c.requires (turns-none (can-member comma c.requires))
 
-pub id_value-requires-clause-can : goal.id_value-requires-clause-can
-id_value-requires-clause-can g c =
-    let a = c.args in
-    let m = c.to_member-next in
-    let old = lane a.kinds.now a.at.now a.writer.now a.sink.now a.meter.now in
-    let there = lane a.kinds.now m.new.at a.writer.now a.sink.now a.meter.now in
-    let moved = moved-member g.W.ValueWriter a.limits a.end a.at.now m.new.at m.ensures.same m.ensures.expects m.ensures.onward c.requires.can in
-    can-moved g.W.ValueWriter a.limits a.end old there c.requires.can moved
+pub returns-in_default-id_found : goal.returns-in_default-id_found
+returns-in_default-id_found g c = let comma = c.to_member-next.ensures.comma in turns-member comma c.requires (turns-none (can-member comma c.requires))
 
-pub returns-in-None-clause-moved : goal.returns-in-None-clause-moved
-returns-in-None-clause-moved g c =
-    let a = c.args in
-    let m = c.to_member-next in
-    let old = lane a.kinds.now a.at.now a.writer.now a.sink.now a.meter.now in
-    let there = lane a.kinds.now m.new.at a.writer.now a.sink.now a.meter.now in
-    let moved = moved-member g.W.ValueWriter a.limits a.end a.at.now m.new.at m.ensures.same m.ensures.expects m.ensures.onward c.requires.can in
-    moved-by g.W.ValueWriter a.limits a.end (g.N.Names.text a.names.now) old there moved
+pub forward_any-requires-clause-can : goal.forward_any-requires-clause-can
+forward_any-requires-clause-can g c = can-member c.to_member-next.ensures.comma c.requires
 
-pub returns-in-Some-clause-moved : goal.returns-in-Some-clause-moved
-returns-in-Some-clause-moved g c =
-    let a = c.args in
-    let m = c.to_member-next in
-    let old = lane a.kinds.now a.at.now a.writer.now a.sink.now a.meter.now in
-    let there = lane a.kinds.now m.new.at a.writer.now a.sink.now a.meter.now in
-    let moved = moved-member g.W.ValueWriter a.limits a.end a.at.now m.new.at m.ensures.same m.ensures.expects m.ensures.onward c.requires.can in
-    moved-then g.W.ValueWriter a.limits a.end old there (lane c.id_value.new.kinds c.id_value.new.at c.id_value.new.writer c.id_value.new.sink c.id_value.new.meter) c.requires.can (moved-by g.W.ValueWriter a.limits a.end (g.N.Names.text a.names.now) old there moved) c.id_value.ensures.moved
-
-pub returns-in-None-clause-goes : goal.returns-in-None-clause-goes
-returns-in-None-clause-goes g c =
-    let a = c.args in
-    let fewer = (c.to_member-next.ensures.onward a.limits (reverse a.kinds.now) 0 c.requires.can.kind).fewer in
-    omega (arith, fewer)
-
-pub returns-in-Some-clause-goes : goal.returns-in-Some-clause-goes
-returns-in-Some-clause-goes g c =
-    let a = c.args in
-    let fewer = (c.to_member-next.ensures.onward a.limits (reverse a.kinds.now) 0 c.requires.can.kind).fewer in
-    let goes = c.id_value.ensures.goes in
-    omega (arith, fewer, goes)
-
-pub returns-in-Some-clause-falls : goal.returns-in-Some-clause-falls
-returns-in-Some-clause-falls g c = λ more.
-    let a = c.args in
-    let fewer = (c.to_member-next.ensures.onward a.limits (reverse a.kinds.now) 0 c.requires.can.kind).fewer in
-    let less = c.id_value.ensures.falls more in
-    omega (arith, fewer, less)
+pub returns : goal.returns
+returns g c = turns-member c.to_member-next.ensures.comma c.requires (c.forward_any.ensures (g.N.Names.text c.args.names.now) c.in-Some.ensures c.in-Some-id_found.ensures)

@@ -1,4 +1,4 @@
-use Rattle.std.proofs.Common.{◌∙◌, List, ℕ, drop, refl, sym, subst}
+use Rattle.std.proofs.Common.{◌∙◌, List, ℕ, refl, sym, subst}
 use Rattle.ion_text_in.specs.Feeding.{IsNext}
 use Rattle.ion_text_in.proofs.FeedNames.{next-begins, not-empty}
 use Rattle.ion_text_in.proofs.feed.names.behind_name.Goals as goal
@@ -15,5 +15,5 @@ returns c =
       bare = refl;
       to_colon = c.in-Some.ensures;
       passes = is.passes some;
-      begins = next-begins (drop 1 colon) value is some;
+      begins = next-begins is some;
     }

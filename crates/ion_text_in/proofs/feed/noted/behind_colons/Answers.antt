@@ -1,4 +1,4 @@
-use Rattle.std.proofs.Common.{◌∙◌, ℕ, List, drop, refl, sym, subst}
+use Rattle.std.proofs.Common.{◌∙◌, ℕ, List, refl, sym, subst}
 use Rattle.ion_text_in.specs.Feeding.{IsNext}
 use Rattle.ion_text_in.proofs.FeedNames.{next-begins, not-empty}
 use Rattle.ion_text_in.proofs.feed.noted.behind_colons.Goals as goal
@@ -11,9 +11,8 @@ returns c =
     let some = not-empty value.rest.now (sym c.is_empty.ensures ∙ c.if-is_empty.false) in
     record {
       two = colons.some refl;
-      bare = colons.bare refl;
       same = colons.same refl;
-      first = colons.first refl;
+      shown = colons.begins refl;
       passes = is.passes some;
-      begins = next-begins (drop 2 c.args.colons.now) value is some;
+      begins = next-begins is some;
     }

@@ -1,7 +1,7 @@
 -- A reading as text, in which worked rows show it: the items, and how they end. An item has its place, behind a slash that of
 -- its top-level value where this is another one, its field, its annotations and its head. A symbol has its place behind an `@`.
 -- A byte that is no printable character, a quote or a backslash is two hex digits behind a backslash.
-use Rattle.std.specs.Prelude.{codes, decimal, ℕ, ◌+◌, ◌/◌, ◌%◌, not, ◌&&◌, ◌==◌, nat_lt, if◌then◌else◌, List, [], ◌∷◌, ◌++◌, Option, Some, None}
+use Rattle.std.specs.Prelude.{◌≡◌, codes, decimal, ℕ, map, ◌+◌, ◌/◌, ◌%◌, not, ◌&&◌, ◌==◌, nat_lt, if◌then◌else◌, List, [], ◌∷◌, ◌++◌, Option, Some, None}
 use Rattle.std.specs.List.{flat_map}
 use Rattle.std.specs.Str.{is_utf8, chars}
 use Rattle.std.specs.Fmt.{digits}
@@ -90,9 +90,6 @@ reading_shown Finished = codes "done"
 reading_shown (Stopped reason place) = name_of reason ++ (codes " at " ++ decimal place)
 reading_shown (More item rest) = item_shown item ++ (codes "; " ++ reading_shown rest)
 
-abbrev pub shown : String → List ℕ
-shown text = codes text
-
 abbrev pub limits_of : ℕ → ℕ → Limits
 limits_of depth scalar =
     record { depth = depth; scalar = scalar; symbols = 1048576; value = 16777216; input = 281474976710656 }
@@ -105,3 +102,7 @@ read_within depth scalar text =
 
 abbrev pub read : String → List ℕ
 read text = read_within 64 1048576 text
+
+-- worked rows: the name of each, what is read, and how that is shown
+abbrev pub AreAsShown : List (String × List ℕ × String) → Type 0
+AreAsShown rows = map (λ row. row.1) rows ≡ map (λ row. codes row.2) rows

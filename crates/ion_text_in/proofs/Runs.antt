@@ -22,6 +22,10 @@ pub second-byte : (bytes : List ℕ) (b c : ℕ) → slice_get bytes 0 ≡ Some 
 second-byte [] b c e f = absurd (cc e)
 second-byte (x ∷ bytes) b c e f = let same : x ≡ b = cc e in ap (λ (x : ℕ). x ∷ bytes) same ∙ ap (λ (l : List ℕ). b ∷ l) (first-byte bytes c f)
 
+pub first-off : (test : ℕ → Bool) (bytes : List ℕ) (b : ℕ) → slice_get bytes 0 ≡ Some b → first_is test bytes ≡ false → test b ≡ false
+first-off test [] b e off = absurd (cc e)
+first-off test (c ∷ bytes) b e off = let same : c ≡ b = cc e in rw same at off
+
 pub no-byte : (bytes : List ℕ) → slice_get bytes 0 ≡ None → bytes ≡ []
 no-byte [] e = refl
 no-byte (b ∷ bytes) e = absurd (cc e)

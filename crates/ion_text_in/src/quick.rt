@@ -5,6 +5,7 @@ ghost use Rattle.std.specs.Simd.Lanes.{mask_l};
 ghost use Rattle.ion_value.specs.Digits.{all_are, first_is, is_digit};
 ghost use Rattle.ion_value.specs.Number.{signed};
 ghost use Rattle.ion_value.specs.Standing.{InRange};
+ghost use Rattle.ion_text_in.specs.Overrun.{IsRun};
 ghost use Rattle.ion_text_in.specs.Quick.{as_quick, number_after, scaled, signed_int, signed_text, stops, AreSpelled, AreWhole, IsMantissa, IsQuick};
 ghost use Rattle.ion_text_in.specs.declared.scanned.Scanned.TheVariants.{Whole};
 ghost use Rattle.ion_text_in.specs.Scanners.{Shows};
@@ -358,8 +359,7 @@ const BLOCK: usize = 16;
 // shows where their digits end.
 #[inline(always)]
 fn digit_run(bytes: &[u8]) -> usize
-    ensures within { result ≤ length bytes.now }
-    ensures digits { all_are is_digit (take result bytes.now) ≡ true }
+    ensures { IsRun is_digit bytes.now result }
 {
     if bytes.len() >= BLOCK {
         let others = no_digits(u8x16::from_slice(bytes));
@@ -373,8 +373,7 @@ fn digit_run(bytes: &[u8]) -> usize
 // How many digits stand at the front of these bytes, block by block.
 #[inline(always)]
 fn many_digits(bytes: &[u8]) -> usize
-    ensures within { result ≤ length bytes.now }
-    ensures digits { all_are is_digit (take result bytes.now) ≡ true }
+    ensures { IsRun is_digit bytes.now result }
 {
     let mut at = 0;
     'skip: while bytes.len() - at >= BLOCK {
@@ -398,8 +397,7 @@ fn no_digits(bytes: u8x16) -> u64
 // How many digits stand at the front of these bytes, one after the other.
 #[inline(always)]
 fn few_digits(bytes: &[u8]) -> usize
-    ensures within { result ≤ length bytes.now }
-    ensures digits { all_are is_digit (take result bytes.now) ≡ true }
+    ensures { IsRun is_digit bytes.now result }
 {
     for (i, byte) in bytes.iter().enumerate() {
         if !byte.is_ascii_digit() {

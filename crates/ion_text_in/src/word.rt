@@ -201,10 +201,10 @@ pub(crate) fn next_word<I: Input, A: Allocator + Copy>(
 {
     match scan_word(limits.scalar, source.buffer()) {
         Scanned::Whole(word, count) => match word {
-            Word::Name => match copy(source, text, count, limits, meter) {
-                Ok(()) => Ok(Word::Name),
-                Err(fault) => Err(fault),
-            },
+            Word::Name => {
+                copy(source, text, count, limits, meter)?;
+                Ok(Word::Name)
+            }
             _ => {
                 source.consume(count);
                 Ok(word)
@@ -237,9 +237,7 @@ fn gather_word<I: Input, A: Allocator + Copy>(
         (λ word. prepaid_word text.new word ≤ 8 * passed_over source.old source.new) }
 {
     let place = source.place();
-    if let Err(fault) = gather_typed(source, text, limits, meter) {
-        return Err(fault);
-    }
+    gather_typed(source, text, limits, meter)?;
     match word_by(text.as_slice()) {
         Ok(word) => Ok(word),
         Err(reason) => Err(Fault::Refused(reason, place)),
@@ -265,9 +263,7 @@ fn gather_typed<I: Input, A: Allocator + Copy>(
     ensures fresh { OnOk result (length text.new ≤ 8 * passed_over source.old source.new) }
 {
     let place = source.place();
-    if let Err(fault) = gather_token(source, text, Run::Word, limits, meter) {
-        return Err(fault);
-    }
+    gather_token(source, text, Run::Word, limits, meter)?;
     if !is_text(text.as_slice(), b"null") {
         return Ok(());
     }
@@ -290,16 +286,10 @@ fn gather_type<I: Input, A: Allocator + Copy>(
     ensures goes { GrowsWithin meter.old meter.new (length text.old) (length text.new)
         (8 * passed_over source.old source.new) }
 {
-    let next = match source.peek(0) {
-        Err(fault) => return Err(fault),
-        Ok(next) => next,
-    };
-    if !is_point(next) {
+    if !is_point(source.peek(0)?) {
         return Ok(());
     }
-    if let Err(fault) = append(source, text, 1, limits, place, meter) {
-        return Err(fault);
-    }
+    append(source, text, 1, limits, place, meter)?;
     gather(source, text, Run::Word, limits, place, meter)
 }
 
@@ -384,6 +374,7 @@ fn has_dollar(word: &[u8]) -> bool
 }
 
 // What a word is that begins as a keyword does.
+#[tactic(auto, unfolding(crate::specs::Token::word_token))]
 #[inline(always)]
 fn keyword_or_name(word: &[u8]) -> Result<Word, Reason>
     requires { first_is (λ b. b == 36) word.now ≡ false }
@@ -394,10 +385,10 @@ fn keyword_or_name(word: &[u8]) -> Result<Word, Reason>
         return Ok(Word::Null(IonType::Null));
     }
     if is_typed_null(word) {
-        return match type_named(&word[5..]) {
-            Some(ion_type) => Ok(Word::Null(ion_type)),
-            None => Err(Reason::BadToken),
+        let Some(ion_type) = type_named(&word[5..]) else {
+            return Err(Reason::BadToken);
         };
+        return Ok(Word::Null(ion_type));
     }
     if is_true(word) {
         return Ok(Word::Bool(true));

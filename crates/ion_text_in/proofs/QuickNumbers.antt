@@ -21,8 +21,8 @@ use Rattle.ion_text_in.specs.Quick.{number_after, scaled, signed_int, signed_tex
 use Rattle.ion_text_in.specs.Runs.{EndBehind, stays}
 use Rattle.ion_text_in.specs.Token.{bytes_of, in_run, run_token}
 use Rattle.ion_text_in.specs.Views.{number_token, AreShown}
-use Rattle.ion_text_in.proofs.Meaning.{run-more, run-none}
-use Rattle.ion_text_in.proofs.RunEnds.{stays-on, token-shown}
+use Rattle.ion_text_in.proofs.RunEnds.{go-end, token-shown}
+use Rattle.ion_text_in.proofs.SureRuns.{all-go}
 use Rattle.ion_text_in.proofs.RunTokens.{int-token, decimal-token}
 
 -- ---- digits
@@ -95,12 +95,7 @@ stop-ends bytes k less e more =
     ap (λ (l : List ℕ). in_run (l ++ more)) (drop_more bytes k 0 less) ∙ in_run-stop (get_or bytes k 0) (drop (k + 1) bytes ++ more) e
 
 ends-at : (xs : List ℕ) (n : ℕ) → n < length xs → all_are (stays run.Number) (take n xs) ≡ true → ((more : List ℕ) → in_run (drop n xs ++ more) ≡ false) → EndBehind in_run xs n
-ends-at [] n less goes ends = absurd (omega (arith, less))
-ends-at (x ∷ xs) zero less goes ends = λ more. run-none in_run (x ∷ (xs ++ more)) (ends more)
-ends-at (x ∷ xs) (suc n) less goes ends = λ more.
-    let parts = and_parts (stays run.Number x) (all_are (stays run.Number) (take n xs)) goes in
-    run-more in_run x (xs ++ more) (stays-on run.Number x (xs ++ more) parts.0)
-    ∙ ap (λ (z : List ℕ × List ℕ). (x ∷ z.0, z.1)) (ends-at xs n (omega (arith, less)) parts.1 ends more)
+ends-at xs n less goes ends = go-end in_run xs n (all-go run.Number xs n (omega (arith, less)) goes) ends
 
 one-less : (bytes : List ℕ) (n : ℕ) → AreShown (bytes_of in_run) bytes (1 + n) → AreShown (bytes_of in_run) bytes (n + 1)
 one-less bytes n shown = let same : 1 + n ≡ n + 1 = omega arith in subst (λ (k : ℕ). AreShown (bytes_of in_run) bytes k) same shown

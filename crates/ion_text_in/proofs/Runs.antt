@@ -36,11 +36,7 @@ ends-shown test [] more n less ends = absurd (omega (arith, less))
 ends-shown test (b ∷ bytes) more zero less ends = ends
 ends-shown test (b ∷ bytes) more (suc n) less ends = ends-shown test bytes more n (omega (arith, less)) ends
 
--- a byte that was found is the one that was looked for
-pub found-is : (o : Option ℕ) (n : ℕ) → option_eq eqb o (Some n) ≡ true → o ≡ Some n
-found-is None n e = absurd (cc e)
-found-is (Some b) n e = ap (λ (x : ℕ). Some x) (eqb-true b n e)
-
+-- another byte than one that was found
 pub found-not : (o : Option ℕ) (n : ℕ) → option_eq eqb o (Some n) ≡ false → o ≡ Some n → ⊥
 found-not o n e is = true≢false (sym (eq-eqb n n refl) ∙ subst (λ (o : Option ℕ). option_eq eqb o (Some n) ≡ false) is e)
 

@@ -31,7 +31,7 @@ extent-ended kind bytes n less goes ends =
     record { within = omega (arith, less); behind = λ _. less; goes = goes; ends = λ _. ends; unsure = λ e. absurd (cc e) }
 
 module _ (kind : Run) where
-  all-go : (bytes : List ℕ) (n : ℕ) → n ≤ length bytes → all_are (stays kind) (take n bytes) ≡ true → GoOn (goes_on kind) bytes n
+  pub all-go : (bytes : List ℕ) (n : ℕ) → n ≤ length bytes → all_are (stays kind) (take n bytes) ≡ true → GoOn (goes_on kind) bytes n
   all-go bytes zero within e = λ more. refl
   all-go [] (suc n) within e = let no : ⊥ = omega arith in absurd no
   all-go (x ∷ bytes) (suc n) within e = λ more.

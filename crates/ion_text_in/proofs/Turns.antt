@@ -86,19 +86,6 @@ turn-behind device p t bytes n is fits passed =
           ∙ ap (λ (l : List ℕ). drop n l ++ more) (sym is),
     )
 
--- and the first of them, in the window
-pub turn-first : {I : Type 0} (p t : Incoming I) (bytes : List ℕ) (n b : ℕ) → bytes ≡ lent p → n ≤ length bytes → IsPassed p t n → slice_get (drop n bytes) 0 ≡ Some b
-    → slice_get t.buffered 0 ≡ Some b
-turn-first p t bytes n b is fits passed first =
-    let more : List ℕ = behind_lent p.fault (p.limit - p.place) p.buffered in
-    let there : n ≤ length (lent p) = subst (λ (l : List ℕ). n ≤ length l) is fits in
-    let same : t.buffered ≡ drop n bytes ++ more =
-    passed.buffered
-    ∙ ap (λ (l : List ℕ). drop n l) (lent_by-all p.fault (p.limit - p.place) p.buffered)
-    ∙ drop-append-le n (lent p) more there
-    ∙ ap (λ (l : List ℕ). drop n l ++ more) (sym is) in
-    ap (λ (l : List ℕ). slice_get l 0) same ∙ first-shown (drop n bytes) more b first
-
 -- what was given is given still
 pub given-kept : {I : Type 0} (device : InputOf I) (s p : Incoming I) (ahead : ℕ) → Extends device.rest device.observable s p → IsGiven s ahead → IsGiven p ahead
 given-kept device s p ahead kept given =

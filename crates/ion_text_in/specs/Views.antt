@@ -85,10 +85,6 @@ may_be_keyword (b ∷ bytes) = 110 == b || 116 == b || 102 == b
 abbrev pub id_in : List ℕ → Option ℕ
 id_in digits = if nat_lt 0 (length digits) && all_are is_digit digits then Some (raw_id (number 10 (map digit_value digits))) else None
 
--- the types of texts, lobs and containers by their names
-abbrev pub text_or_container : List ℕ → Option IonType
-text_or_container name = named_in (type.String ∷ type.Clob ∷ type.Blob ∷ type.List ∷ type.Sexp ∷ type.Struct ∷ []) name
-
 -- there is a byte, and it is a point
 abbrev pub is_point : Option ℕ → Bool
 is_point (Some b) = b == 46

@@ -146,18 +146,6 @@ pub(crate) fn token_extent(run: Run, bytes: &[u8]) -> Option<usize>
     Some(1 + extent.len)
 }
 
-// Which bytes go on with a number or a timestamp, whatever follows them.
-static NUMBER_BYTES: [u8; 256] = [
-    1, 1, 1, 1, 1, 1, 1, 1, 1, 0, 0, 0, 0, 0, 1, 1, 1, 1, 1, 1, 1, 1, 1, 1, 1, 1, 1, 1, 1, 1, 1, 1,
-    0, 1, 0, 1, 1, 1, 1, 0, 0, 0, 1, 1, 0, 1, 1, 0, 1, 1, 1, 1, 1, 1, 1, 1, 1, 1, 1, 1, 1, 1, 1, 1,
-    1, 1, 1, 1, 1, 1, 1, 1, 1, 1, 1, 1, 1, 1, 1, 1, 1, 1, 1, 1, 1, 1, 1, 1, 1, 1, 1, 0, 1, 0, 1, 1,
-    1, 1, 1, 1, 1, 1, 1, 1, 1, 1, 1, 1, 1, 1, 1, 1, 1, 1, 1, 1, 1, 1, 1, 1, 1, 1, 1, 0, 1, 0, 1, 1,
-    1, 1, 1, 1, 1, 1, 1, 1, 1, 1, 1, 1, 1, 1, 1, 1, 1, 1, 1, 1, 1, 1, 1, 1, 1, 1, 1, 1, 1, 1, 1, 1,
-    1, 1, 1, 1, 1, 1, 1, 1, 1, 1, 1, 1, 1, 1, 1, 1, 1, 1, 1, 1, 1, 1, 1, 1, 1, 1, 1, 1, 1, 1, 1, 1,
-    1, 1, 1, 1, 1, 1, 1, 1, 1, 1, 1, 1, 1, 1, 1, 1, 1, 1, 1, 1, 1, 1, 1, 1, 1, 1, 1, 1, 1, 1, 1, 1,
-    1, 1, 1, 1, 1, 1, 1, 1, 1, 1, 1, 1, 1, 1, 1, 1, 1, 1, 1, 1, 1, 1, 1, 1, 1, 1, 1, 1, 1, 1, 1, 1,
-];
-
 // Which bytes end a number or a timestamp, whatever follows them.
 static NUMBER_ENDS: [u8; 256] = [
     0, 0, 0, 0, 0, 0, 0, 0, 0, 1, 1, 1, 1, 1, 0, 0, 0, 0, 0, 0, 0, 0, 0, 0, 0, 0, 0, 0, 0, 0, 0, 0,
@@ -182,21 +170,13 @@ static OPERATOR_BYTES: [u8; 256] = [
     0, 0, 0, 0, 0, 0, 0, 0, 0, 0, 0, 0, 0, 0, 0, 0, 0, 0, 0, 0, 0, 0, 0, 0, 0, 0, 0, 0, 0, 0, 0, 0,
 ];
 
-// Whether a byte goes on with a number or a timestamp, whatever follows it.
-#[inline(always)]
-fn is_number_byte(byte: u8) -> bool
-    ensures { result ≡ stays Run.Number byte }
-{
-    NUMBER_BYTES[byte as usize] > 0
-}
-
 // Whether a byte goes on with a token, whatever follows it.
 #[inline(always)]
 fn stays(run: Run, byte: u8) -> bool
     ensures { result ≡ stays run byte }
 {
     match run {
-        Run::Number => is_number_byte(byte),
+        Run::Number => !stops_number(byte) && byte != b'/',
         Run::Word => is_identifier_byte(byte),
         Run::Operator => is_operator_byte(byte) && byte != b'/',
     }

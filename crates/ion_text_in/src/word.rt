@@ -11,7 +11,7 @@ ghost use Rattle.ion_text_in.specs.Token.{a_word, token_of, word_of, word_token}
 ghost use Rattle.ion_text_in.specs.Feeding.{IfName, IsBegun, IsSimpleWord};
 ghost use Rattle.ion_value.specs.Shares.{GrowsWithin};
 ghost use Rattle.ion_text_in.specs.Symbols.{prepaid_word};
-ghost use Rattle.ion_text_in.specs.Views.{AreShown, IsWithin, id_in, is_point, may_be_keyword, shown_text, spelled, with_name, text_or_container, word_token_of};
+ghost use Rattle.ion_text_in.specs.Views.{AreShown, IsWithin, id_in, is_point, may_be_keyword, shown_text, spelled, with_name, word_token_of};
 
 use crate::gather::{append, copy, gather, gather_token};
 use crate::run::{Run, word_run};
@@ -415,52 +415,34 @@ fn type_named(name: &[u8]) -> Option<IonType>
     ensures { result ≡ type_named name.now }
 {
     if is_text(name, b"null") {
-        return Some(IonType::Null);
+        Some(IonType::Null)
+    } else if is_text(name, b"bool") {
+        Some(IonType::Bool)
+    } else if is_text(name, b"int") {
+        Some(IonType::Int)
+    } else if is_text(name, b"float") {
+        Some(IonType::Float)
+    } else if is_text(name, b"decimal") {
+        Some(IonType::Decimal)
+    } else if is_text(name, b"timestamp") {
+        Some(IonType::Timestamp)
+    } else if is_text(name, b"symbol") {
+        Some(IonType::Symbol)
+    } else if is_text(name, b"string") {
+        Some(IonType::String)
+    } else if is_text(name, b"clob") {
+        Some(IonType::Clob)
+    } else if is_text(name, b"blob") {
+        Some(IonType::Blob)
+    } else if is_text(name, b"list") {
+        Some(IonType::List)
+    } else if is_text(name, b"sexp") {
+        Some(IonType::Sexp)
+    } else if is_text(name, b"struct") {
+        Some(IonType::Struct)
+    } else {
+        None
     }
-    if is_text(name, b"bool") {
-        return Some(IonType::Bool);
-    }
-    if is_text(name, b"int") {
-        return Some(IonType::Int);
-    }
-    if is_text(name, b"float") {
-        return Some(IonType::Float);
-    }
-    if is_text(name, b"decimal") {
-        return Some(IonType::Decimal);
-    }
-    if is_text(name, b"timestamp") {
-        return Some(IonType::Timestamp);
-    }
-    if is_text(name, b"symbol") {
-        return Some(IonType::Symbol);
-    }
-    text_or_container(name)
-}
-
-// The type of a name that is that of a text, a lob or a container.
-fn text_or_container(name: &[u8]) -> Option<IonType>
-    ensures { result ≡ text_or_container name.now }
-{
-    if is_text(name, b"string") {
-        return Some(IonType::String);
-    }
-    if is_text(name, b"clob") {
-        return Some(IonType::Clob);
-    }
-    if is_text(name, b"blob") {
-        return Some(IonType::Blob);
-    }
-    if is_text(name, b"list") {
-        return Some(IonType::List);
-    }
-    if is_text(name, b"sexp") {
-        return Some(IonType::Sexp);
-    }
-    if is_text(name, b"struct") {
-        return Some(IonType::Struct);
-    }
-    None
 }
 
 // The id or symbol of a word that begins with a dollar sign.

@@ -1,5 +1,5 @@
 -- Turns of a loop that passes over bytes in the window of a source, more of the device having been read.
-use Rattle.std.proofs.Common.{◌≡◌, ℕ, ◌+◌, ◌-◌, ◌≤◌, List, [], ◌++◌, length, take, drop, slice_get, None, Some, Ok, arith, refl, sym, ap, subst, ◌∙◌}
+use Rattle.std.proofs.Common.{◌≡◌, ℕ, ◌+◌, ◌-◌, ◌≤◌, List, [], ◌++◌, length, take, drop, None, Ok, arith, refl, sym, ap, subst, ◌∙◌}
 use Rattle.std.proofs.lemmas.List.{append_assoc, take-append-drop, length-take-le, drop-append-le, length-append, append-nil}
 use Rattle.ion_meter.specs.declared.device.Input.{Ghosts as InputOf}
 use Rattle.ion_meter.specs.Windows.{Incoming, left, lent, Extends, IsGiven, IsPassed}
@@ -9,8 +9,7 @@ use Rattle.ion_value.specs.Calls.{Reads}
 use Rattle.ion_value.proofs.Cursors.{moves-then}
 use Rattle.ion_value.proofs.Passing.{Passed-lent}
 use Rattle.ion_text_in.specs.Meaning.{at}
-use Rattle.ion_text_in.proofs.Shown.{behind_lent, lent_by-all, lent-left}
-use Rattle.ion_text_in.proofs.Runs.{first-shown}
+use Rattle.ion_text_in.proofs.Shown.{behind_lent, lent-left}
 
 -- a source that went on and has not failed
 pub record Gone {I : Type 0} (device : InputOf I) (old new : Incoming I) : Type 0 where

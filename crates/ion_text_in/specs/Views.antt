@@ -3,11 +3,9 @@ use Rattle.std.specs.Prelude.{◌≡◌, ℕ, ◌<◌, ◌≤◌, Bool, false, �
 use Rattle.ion_meter.specs.declared.fault.Reason.{Reason}
 use Rattle.ion_meter.specs.Sources.{Cursor}
 use Rattle.ion_value.specs.Parts.{◌>>=◌}
-use Rattle.ion_value.specs.declared.ion_type.IonType.{IonType}
-use Rattle.ion_value.specs.declared.ion_type.IonType.TheVariants as type
 use Rattle.ion_value.specs.Number.{number}
 use Rattle.ion_value.specs.Digits.{is_digit, digit_value, all_are, first_is}
-use Rattle.ion_value.specs.Name.{raw_id, named_in}
+use Rattle.ion_value.specs.Name.{raw_id}
 use Rattle.ion_value.specs.Value as value
 use Rattle.ion_value.specs.Value.{Scalar, SymbolAt}
 use Rattle.ion_text_in.specs.declared.number.Number.{Number}

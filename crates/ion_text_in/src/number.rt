@@ -118,6 +118,7 @@ fn gather_number<I: Input, A: Allocator + Copy>(
 }
 
 // The number or timestamp of a run.
+#[tactic(auto, unfolding(ion_value::specs::Scalar::scalar_of_run))]
 #[inline(always)]
 fn number_of(run: &[u8]) -> Result<Number, Reason>
     ensures gives { MatchResult result (λ x. run_token run.now ≡ Ok (number_token x))
@@ -143,6 +144,7 @@ fn number_of(run: &[u8]) -> Result<Number, Reason>
 }
 
 // The decimal or timestamp of a run that is no int.
+#[tactic(auto, unfolding(ion_value::specs::Scalar::scalar_of_run))]
 #[inline(always)]
 fn no_int(run: &[u8]) -> Result<Number, Reason>
     requires { int_of_text run.now ≡ Err Reason.BadToken }
@@ -160,6 +162,7 @@ fn no_int(run: &[u8]) -> Result<Number, Reason>
 }
 
 // The timestamp of a run that is neither an int nor a decimal.
+#[tactic(auto, unfolding(ion_value::specs::Scalar::scalar_of_run))]
 #[inline]
 fn no_number(run: &[u8]) -> Result<Number, Reason>
     requires no_int { int_of_text run.now ≡ Err Reason.BadToken }

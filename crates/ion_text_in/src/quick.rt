@@ -288,13 +288,9 @@ fn wide_number(digits: &[u8]) -> u128
     requires many { 19 ≤ length digits.now }
     ensures { result ≡ number_after 0 digits.now }
 {
-    let mut number = number_after(0, &digits[..NARROW]) as u128;
-    let mut rest = &digits[NARROW..];
-    while let [digit, others @ ..] = rest {
-        number = number * 10 + u128::from(*digit - b'0');
-        rest = others;
-    }
-    number
+    let front = number_after(0, &digits[..NARROW]);
+    let rest = &digits[NARROW..];
+    front as u128 * 10_u128.pow(rest.len() as u32) + number_after(0, rest) as u128
 }
 
 // The number that these digits spell behind another: read by fours, and then those that are left.

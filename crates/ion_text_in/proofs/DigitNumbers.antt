@@ -1,6 +1,6 @@
 -- What digits spell behind a number, and how great it may be.
 use Rattle.std.proofs.Common.{◌≡◌, ℕ, ◌+◌, ◌*◌, ◌-◌, ◌^◌, ◌<◌, ◌≤◌, true, List, [], ◌∷◌, ◌++◌, length, take, drop, get_or, refl, sym, ap, ◌∙◌, arith}
-use Rattle.std.proofs.Math.Nat.{pow-le-pow_right, pow-suc, mul-le-mul, mul-le-mul_left, mul-le-mul_right}
+use Rattle.std.proofs.Math.Nat.{pow-le-pow_right, pow-suc, mul-le-mul_left, mul-le-mul_right}
 use Rattle.std.proofs.lemmas.Nat.{pow-add}
 use Rattle.std.proofs.lemmas.Bool.{and_parts}
 use Rattle.std.proofs.lemmas.Bool.Decides.{nat_tests}
@@ -30,9 +30,6 @@ cut-digits k ds e =
 digit-less : (b : ℕ) → is_digit b ≡ true → b < 58
 digit-less b e = grind (arith, nat_tests)
 
-digit-from : (b : ℕ) → is_digit b ≡ true → 48 ≤ b
-digit-from b e = grind (arith, nat_tests)
-
 one-more : (n b p : ℕ) → is_digit b ≡ true → (n * 10 + (b - 48) + 1) * p ≤ (n + 1) * (p * 10)
 one-more n b p e =
     let few : n * 10 + (b - 48) + 1 ≤ (n + 1) * 10 = omega (arith, digit-less b e) in
@@ -55,13 +52,6 @@ narrow-behind xs k e few =
     let less : 10 ^ (length xs + k) ≤ 10 ^ 19 = pow-le-pow_right (omega arith) few in
     let more = mul-le-mul_right (10 ^ k) (below 0 xs e) in
     omega (arith, more, rw (pow-add 10 (length xs) k) at less)
-
-pub wide-behind : (n k : ℕ) → n < 2 ^ 64 → k ≤ 19 → (n + 1) * 10 ^ k ≤ 2 ^ 128
-wide-behind n k small few =
-    let less : 10 ^ k ≤ 10 ^ 19 = pow-le-pow_right (omega arith) few in
-    let front : n + 1 ≤ 2 ^ 64 = omega (arith, small) in
-    let more : (n + 1) * 10 ^ k ≤ 2 ^ 64 * 10 ^ 19 = mul-le-mul front less in
-    omega (arith, more)
 
 -- ---- four digits together
 

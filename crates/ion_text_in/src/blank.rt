@@ -137,7 +137,7 @@ pub(crate) fn run_in(comment: Comment, bytes: &[u8]) -> usize
     }
 }
 
-/// Whether blanks end before this byte behind such a run, whatever follows it.
+/// Whether blanks end before this byte after such a run, whatever follows it.
 #[inline(always)]
 pub(crate) fn ends_blanks(comment: Comment, first: u8) -> bool
     ensures { result ≡ ends_blanks comment first }
@@ -145,8 +145,8 @@ pub(crate) fn ends_blanks(comment: Comment, first: u8) -> bool
     matches!(comment, Comment::None) && first != b'/'
 }
 
-/// What the byte behind another one tells, behind such a run: which comment goes on, and behind how
-/// many of the two. Nothing where blanks end before them.
+/// What the second of two bytes after such a run tells: within which comment the bytes after them
+/// stand, and how many of the two to consume. None where blanks end before them.
 #[inline(always)]
 pub(crate) fn turn(comment: Comment, second: Option<u8>) -> Option<(Comment, usize)>
     ensures is { result ≡ turned comment second }
@@ -167,7 +167,7 @@ pub(crate) fn turn(comment: Comment, second: Option<u8>) -> Option<(Comment, usi
     }
 }
 
-// Where the comment begins that may stand behind a place.
+// Where the comment begins that may go on after a place.
 fn begun(comment: Comment, start: u64, place: u64) -> u64
     ensures { result ≡ begun comment start place }
 {
@@ -177,7 +177,7 @@ fn begun(comment: Comment, start: u64, place: u64) -> u64
     }
 }
 
-// Where the comment begins that the end of the input cuts.
+// Where the comment begins that the end of the input cuts off.
 fn cut_at(comment: Comment, start: u64) -> Option<u64>
     ensures { result ≡ cut_at comment start }
 {

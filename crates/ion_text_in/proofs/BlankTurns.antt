@@ -1,5 +1,5 @@
 -- Blanks that are passed over in parts: runs of bytes, and what stands between these.
-use Rattle.std.proofs.Common.{◌≡◌, ℕ, suc, ◌+◌, Bool, true, false, ◌==◌, List, [], ◌∷◌, ◌++◌, length, drop, Option, Some, None, slice_get, Ok, MatchOption, not, ◌||◌, refl, sym, ap, subst, ◌∙◌, inl, inr, arith}
+use Rattle.std.proofs.Common.{◌≡◌, ℕ, zero, suc, ◌+◌, ◌<◌, Bool, true, false, ◌==◌, List, [], ◌∷◌, ◌++◌, length, take, drop, get_or, Option, Some, None, slice_get, Ok, MatchOption, not, ◌||◌, refl, sym, ap, subst, ◌∙◌, inl, inr, arith}
 use Rattle.std.proofs.lemmas.Bool.{cases_Bool, and_parts, eqb-true, false≢true, not-false, not-true}
 use Rattle.ion_meter.specs.Sources.{Cursor, skip}
 use Rattle.ion_value.specs.Digits.{first_is, all_are}
@@ -8,10 +8,10 @@ use Rattle.ion_text_in.specs.declared.blank.Comment.TheVariants as comment
 use Rattle.ion_text_in.specs.Blanks.{is_white, is_line_end, here, blanks_at, in_line, opening, in_block, closing}
 use Rattle.ion_text_in.specs.Places.{run_of, behind_run}
 use Rattle.ion_text_in.specs.Meaning.{at}
-use Rattle.ion_text_in.specs.Overrun.{begun, cut_at, ends_blanks, overrun, stays_in, turned, within}
+use Rattle.ion_text_in.specs.Overrun.{begun, cut_at, ends_blanks, is_neither, overrun, stays_in, turned, within}
 use Rattle.ion_text_in.proofs.Meaning.{run-more, run-none}
-use Rattle.ion_text_in.proofs.Runs.{found-not, second-byte}
-use Rattle.ion_text_in.proofs.BlankRuns.{stays-first}
+use Rattle.ion_text_in.proofs.Runs.{at-front, first-off, found-not, second-byte}
+use Rattle.ion_text_in.proofs.BlankRuns.{stays-first, stays-over}
 
 -- ---- behind a run of bytes
 
@@ -91,11 +91,11 @@ slash-alone : (p : ℕ) (bytes : List ℕ) → first_is (λ c. c == 47) bytes �
 unfolding blanks_at
 slash-alone p bytes line block = rw (line, block, blanks_at) refl
 
-line-begins : (p : ℕ) (bytes : List ℕ) → blanks_at p (47 ∷ 47 ∷ bytes) ≡ in_line (p + 2) bytes
+pub line-begins : (p : ℕ) (bytes : List ℕ) → blanks_at p (47 ∷ 47 ∷ bytes) ≡ in_line (p + 2) bytes
 unfolding blanks_at in_line
 line-begins p bytes = ap (λ (n : ℕ). in_line n bytes) (two p)
 
-block-begins : (p : ℕ) (bytes : List ℕ) → blanks_at p (47 ∷ 42 ∷ bytes) ≡ in_block p (p + 2) bytes
+pub block-begins : (p : ℕ) (bytes : List ℕ) → blanks_at p (47 ∷ 42 ∷ bytes) ≡ in_block p (p + 2) bytes
 unfolding blanks_at opening
 block-begins p bytes = ap (λ (n : ℕ). in_block p n bytes) (two p)
 
@@ -145,10 +145,10 @@ star-is b off = eqb-true b 42 (either (b == 42) off)
     either true e = refl
     either false e = absurd (cc e)
 
-star-then : (start p : ℕ) (bytes : List ℕ) → slice_get bytes 0 ≡ Some 42 → slice_get bytes 1 ≡ Some 47 → in_block start p bytes ≡ blanks_at (p + 2) (drop 2 bytes)
+pub star-then : (start p : ℕ) (bytes : List ℕ) → slice_get bytes 0 ≡ Some 42 → slice_get bytes 1 ≡ Some 47 → in_block start p bytes ≡ blanks_at (p + 2) (drop 2 bytes)
 star-then start p bytes first second = ap (λ (l : List ℕ). in_block start p l) (second-byte bytes 42 47 first second) ∙ star-slash start p (drop 2 bytes)
 
-star-other : (start p : ℕ) (bytes : List ℕ) → slice_get bytes 0 ≡ Some 42 → (slice_get bytes 1 ≡ Some 47 → ⊥) → in_block start p bytes ≡ in_block start (p + 1) (drop 1 bytes)
+pub star-other : (start p : ℕ) (bytes : List ℕ) → slice_get bytes 0 ≡ Some 42 → (slice_get bytes 1 ≡ Some 47 → ⊥) → in_block start p bytes ≡ in_block start (p + 1) (drop 1 bytes)
 star-other start p [] first other = absurd (cc first)
 star-other start p (c ∷ []) first other = let same : c ≡ 42 = cc first in rw same (star-alone start p [] refl)
 star-other start p (c ∷ d ∷ bytes) first other =
@@ -197,3 +197,42 @@ pub ends-before : (c : Comment) (start p first : ℕ) (bytes : List ℕ) → fir
 ends-before comment.None start p first bytes off ends f = found-other p first bytes off f (λ e. false≢true (sym (not-true _ ends) ∙ ap (λ (b : ℕ). b == 47) e))
 ends-before comment.Line start p first bytes off ends f = absurd (cc ends)
 ends-before comment.Block start p first bytes off ends f = absurd (cc ends)
+
+-- ---- over the bytes of a slice
+
+line-cut : (p n : ℕ) (bytes rest : List ℕ) → all_are (is_neither 10 13) (take n bytes) ≡ true → n < length bytes → first_is (is_neither 10 13) (drop n bytes) ≡ false
+    → in_line p (take (suc n) bytes ++ rest) ≡ blanks_at (p + length (take (suc n) bytes)) rest
+unfolding in_line
+line-cut p n [] rest run less ends = absurd (omega (arith, less))
+line-cut p zero (b ∷ bytes) rest run less ends =
+    let end : is_line_end b ≡ true = from-not (is_line_end b) ends in
+    rw (end, in_line) (ap (λ (n : ℕ). blanks_at n rest) (one p))
+  where
+    from-not : (b : Bool) → not b ≡ false → b ≡ true
+    from-not true e = refl
+    from-not false e = absurd (false≢true (sym e))
+
+    one : (p : ℕ) → suc p ≡ p + 1
+    one p = omega arith
+line-cut p (suc n) (b ∷ bytes) rest run less ends =
+    let parts = and_parts (is_neither 10 13 b) (all_are (is_neither 10 13) (take n bytes)) run in
+    let on : is_line_end b ≡ false = not-true (is_line_end b) parts.0 in
+    rw (on, in_line) (line-cut (suc p) n bytes rest parts.1 (omega (arith, less)) ends ∙ ap (λ (n : ℕ). blanks_at n rest) (onward p (length (take (suc n) bytes))))
+  where
+    onward : (p n : ℕ) → suc p + n ≡ p + suc n
+    onward p n = omega arith
+
+pub line-over-end : (p n : ℕ) (bytes rest : List ℕ) → all_are (is_neither 10 13) (take n bytes) ≡ true → n < length bytes → first_is (is_neither 10 13) (drop n bytes) ≡ false
+    → in_line p (take (n + 1) bytes ++ rest) ≡ blanks_at (p + length (take (n + 1) bytes)) rest
+line-over-end p n bytes rest run less ends =
+    let one : n + 1 ≡ suc n = omega arith in
+    subst (λ (k : ℕ). in_line p (take k bytes ++ rest) ≡ blanks_at (p + length (take k bytes)) rest) (sym one) (line-cut p n bytes rest run less ends)
+
+pub block-over-run : (start p : ℕ) (xs rest : List ℕ) → all_are (is_neither 42 42) xs ≡ true → in_block start p (xs ++ rest) ≡ in_block start (p + length xs) rest
+block-over-run start p xs rest all = stays-over comment.Block start p xs rest all
+
+-- the star that ends a run of other bytes
+pub star-stands : (bytes : List ℕ) (n : ℕ) → n < length bytes → first_is (is_neither 42 42) (drop n bytes) ≡ false → slice_get (drop n bytes) 0 ≡ Some 42
+star-stands bytes n less ends =
+    let front = at-front bytes n less in
+    front ∙ ap Some (star-is (get_or bytes n 0) (first-off (is_neither 42 42) (drop n bytes) (get_or bytes n 0) front ends))

@@ -1,82 +1,145 @@
 -- Blanks with comments, over the bytes of a window.
-use Rattle.std.proofs.Common.{◌≡◌, ℕ, ◌+◌, ◌-◌, ◌≤◌, true, ◌==◌, List, [], ◌∷◌, ◌++◌, length, take, drop, get_or, Some, refl, sym, ap, ◌∙◌, arith, append_assoc}
-use Rattle.std.proofs.lemmas.Bool.{false≢true, not-true}
-use Rattle.std.proofs.lemmas.List.{take-append-drop, length-drop, length-take-le, drop-append-le}
+use Rattle.std.proofs.Common.{◌≡◌, ℕ, ◌+◌, ◌-◌, ◌<◌, ◌≤◌, true, false, List, [], ◌∷◌, ◌++◌, length, take, drop, get_or, Some, sym, ap, subst, ◌∙◌, arith, append_assoc}
 use Rattle.std.specs.Prelude.{slice_get}
-use Rattle.ion_text_in.specs.declared.blank.Comment.{Comment}
-use Rattle.ion_text_in.specs.declared.blank.Comment.TheVariants as comment
-use Rattle.ion_text_in.specs.Blanks.{blanks_at}
-use Rattle.ion_text_in.specs.Feeding.{IsBehind, PassesBlanks}
-use Rattle.ion_text_in.specs.Meaning.{at}
-use Rattle.ion_text_in.specs.Overrun.{begun, ends_blanks, stays_in, within, IsRun}
-use Rattle.ion_text_in.proofs.BlankRuns.{stays-over}
-use Rattle.ion_text_in.proofs.BlankTurns.{Turns}
-use Rattle.ion_text_in.proofs.FeedReading.{behind-then, none-behind, other-there, passes-white, some-behind}
+use Rattle.std.proofs.lemmas.List.{take-append-drop, length-drop, length-take-le}
+use Rattle.ion_meter.specs.Sources.{Cursor}
+use Rattle.ion_value.specs.Digits.{all_are, first_is}
+use Rattle.ion_value.specs.Parts.{Placed}
+use Rattle.ion_text_in.specs.Blanks.{blanks_at, in_block, in_line, is_white}
+use Rattle.ion_text_in.specs.Feeding.{LeadsTo, PassesBlanks}
+use Rattle.ion_text_in.specs.Overrun.{is_neither}
+use Rattle.ion_text_in.proofs.BlankRuns.{white-over}
+use Rattle.ion_text_in.proofs.BlankTurns.{block-begins, block-over-run, line-begins, line-over-end, star-other, star-stands, star-then}
+use Rattle.ion_text_in.proofs.FeedReading.{behind-then, some-behind}
 
--- blanks are read on at a rest of some bytes, whatever follows: within a comment, or where there is none
-pub record Within (c : Comment) (bytes rest : List ℕ) : Type 0 where
-  pub part : IsBehind bytes rest
-  pub fewer : length rest ≤ length bytes
-  pub same : (p : ℕ) → (start : ℕ) × ((q : ℕ) (more : List ℕ) → p + length bytes ≡ q + length rest → blanks_at p (bytes ++ more) ≡ within c start (at q (rest ++ more)))
+-- ---- one after the other
 
-pub within-not : (bytes : List ℕ) → Within comment.None bytes bytes
-within-not bytes = record {
-  part = none-behind bytes;
-  fewer = omega arith;
-  same = λ p. (p, λ q more e. let same : p ≡ q = omega (arith, e) in ap (λ (n : ℕ). blanks_at n (bytes ++ more)) same);
-}
-
-shows-two : (bytes more : List ℕ) → 2 ≤ length bytes → (slice_get (bytes ++ more) 0 ≡ Some (get_or bytes 0 0)) × (slice_get (bytes ++ more) 1 ≡ Some (get_or bytes 1 0))
-shows-two [] more two = absurd (omega (arith, two))
-shows-two (b ∷ []) more two = absurd (omega (arith, two))
-shows-two (b ∷ c ∷ bytes) more two = (refl, refl)
-
--- behind a run and what stands behind that
-pub within-turn : (c d : Comment) (bytes rest next : List ℕ) (n k : ℕ) → Within c bytes rest → IsRun (stays_in c) rest n → next ≡ drop n rest → 2 ≤ length next
-    → Turns c (get_or next 0 0) (Some (get_or next 1 0)) (d, k) → k ≤ 2 → Within d bytes (drop k next)
-within-turn c d bytes rest next n k w run is two turns most =
-    let fewer = w.fewer in
-    let fits = run.within in
-    let long : length next ≡ length rest - n = ap (λ (l : List ℕ). length l) is ∙ length-drop n rest in
-    let le : k ≤ length next = omega (arith, two, most) in
-    let last = length-drop k next in
+pub leads-then : (f g h : ℕ → List ℕ → Placed Cursor) (x y z : List ℕ) → LeadsTo f g x y → LeadsTo g h y z → LeadsTo f h x z
+leads-then f g h x y z a b =
+    let first = a.fewer in
+    let second = b.fewer in
     record {
-      part = behind-then bytes rest (drop k next) w.part (behind-then rest next (drop k next) (rw is (some-behind rest n fits)) (some-behind next k le));
-      fewer = omega (arith, fewer, long, last);
-      same = λ p.
-          let start = (w.same p).0 in
-          let here : ℕ = p + (length bytes - length rest) in (
-            begun c start (here + n),
-            λ q more e.
-                let shown = shows-two next more two in
-                let there : here + n + k ≡ q = omega (arith, e, fewer, long, last, le, fits) in
-                (w.same p).1 here more (omega (arith, fewer))
-                ∙ ap (λ (l : List ℕ). within c start (at here (l ++ more))) (sym (take-append-drop n rest) ∙ ap (λ (l : List ℕ). take n rest ++ l) (sym is))
-                ∙ ap (λ (l : List ℕ). within c start (at here l)) (append_assoc (take n rest) next more)
-                ∙ stays-over c start here (take n rest) (next ++ more) run.run
-                ∙ ap (λ (m : ℕ). within c start (at (here + m) (next ++ more))) (length-take-le n rest fits)
-                ∙ turns start (here + n) (next ++ more) shown.0 shown.1
-                ∙ ap (λ (l : List ℕ). within d (begun c start (here + n)) (at (here + n + k) l)) (drop-append-le k next more le)
-                ∙ ap (λ (m : ℕ). within d (begun c start (here + n)) (at m (drop k next ++ more))) there,
-          );
+      part = behind-then x y z a.part b.part;
+      fewer = omega (arith, first, second);
+      same = λ p r more e.
+          let q : ℕ = p + (length x - length y) in
+          a.same p q more (omega (arith, first)) ∙ b.same q r more (omega (arith, first, second, e));
     }
 
--- where blanks end behind a run
-pub within-ends : (c : Comment) (bytes rest next : List ℕ) (n : ℕ) → Within c bytes rest → IsRun (stays_in c) rest n → next ≡ drop n rest → 2 ≤ length next → ends_blanks c (get_or next 0 0) ≡ true
-    → PassesBlanks bytes next
-within-ends comment.None bytes rest next n w run is two ends =
-    let long : length next ≡ length rest - n = ap (λ (l : List ℕ). length l) is ∙ length-drop n rest in
-    let other = other-there next 0 47 (omega (arith, two)) (λ e. false≢true (sym (not-true _ ends) ∙ ap (λ (b : ℕ). b == 47) e)) in
-    let last = passes-white rest n (omega (arith, two, long)) run.run run.ends (rw is at other) in
-    let fewer = w.fewer in
-    let less = last.fewer in
-    rw is (record {
-      part = behind-then bytes rest (drop n rest) w.part last.part;
-      fewer = omega (arith, fewer, less);
-      blank = λ p q more e.
-          let here : ℕ = p + (length bytes - length rest) in
-          (w.same p).1 here more (omega (arith, fewer)) ∙ last.blank here q more (omega (arith, e, fewer));
-      bare = last.bare;
-    })
-within-ends comment.Line bytes rest next n w run is two ends = absurd (cc ends)
-within-ends comment.Block bytes rest next n w run is two ends = absurd (cc ends)
+pub passes-behind : (x y z : List ℕ) → LeadsTo blanks_at blanks_at x y → PassesBlanks y z → PassesBlanks x z
+passes-behind x y z a b =
+    let first = a.fewer in
+    let second = b.fewer in
+    record {
+      part = behind-then x y z a.part b.part;
+      fewer = omega (arith, first, second);
+      blank = λ p r more e.
+          let q : ℕ = p + (length x - length y) in
+          a.same p q more (omega (arith, first)) ∙ b.blank q r more (omega (arith, first, second, e));
+      bare = b.bare;
+    }
+
+-- over so many bytes in front
+leads-over : (f g : ℕ → List ℕ → Placed Cursor) (bytes : List ℕ) (n : ℕ) → n ≤ length bytes
+    → ((p : ℕ) (rest : List ℕ) → f p (take n bytes ++ rest) ≡ g (p + length (take n bytes)) rest) → LeadsTo f g bytes (drop n bytes)
+leads-over f g bytes n within over =
+    let rest = drop n bytes in
+    let long : length rest ≡ length bytes - n = length-drop n bytes in
+    let taken_long : length (take n bytes) ≡ n = length-take-le n bytes within in
+    record {
+      part = some-behind bytes n within;
+      fewer = omega (arith, long);
+      same = λ p q more e.
+          let q_is : p + length (take n bytes) ≡ q = omega (arith, e, long, within, taken_long) in
+          ap (λ (l : List ℕ). f p (l ++ more)) (sym (take-append-drop n bytes))
+          ∙ (ap (λ (l : List ℕ). f p l) (append_assoc (take n bytes) rest more)
+          ∙ (over p (rest ++ more)
+          ∙ ap (λ (k : ℕ). g k (rest ++ more)) q_is));
+    }
+
+-- ---- white space, and where a comment begins
+
+pub leads-white : (bytes : List ℕ) (n : ℕ) → n ≤ length bytes → all_are is_white (take n bytes) ≡ true → LeadsTo blanks_at blanks_at bytes (drop n bytes)
+leads-white bytes n within white = leads-over blanks_at blanks_at bytes n within (λ p rest. white-over p (take n bytes) rest white)
+
+line-after : (line rest : List ℕ) → LeadsTo in_line blanks_at line rest → LeadsTo blanks_at blanks_at (47 ∷ 47 ∷ line) rest
+line-after line rest a =
+    let fewer = a.fewer in
+    record {
+      part = behind-then (47 ∷ 47 ∷ line) line rest (some-behind (47 ∷ 47 ∷ line) 2 (omega arith)) a.part;
+      fewer = omega (arith, fewer);
+      same = λ p q more e. line-begins p (line ++ more) ∙ a.same (p + 2) q more (omega (arith, e));
+    }
+
+block-after : (block rest : List ℕ) → ((start : ℕ) → LeadsTo (in_block start) blanks_at block rest) → LeadsTo blanks_at blanks_at (47 ∷ 42 ∷ block) rest
+block-after block rest a =
+    let any = a 0 in
+    let fewer = any.fewer in
+    record {
+      part = behind-then (47 ∷ 42 ∷ block) block rest (some-behind (47 ∷ 42 ∷ block) 2 (omega arith)) any.part;
+      fewer = omega (arith, fewer);
+      same = λ p q more e. let own = a p in block-begins p (block ++ more) ∙ own.same (p + 2) q more (omega (arith, e));
+    }
+
+pub leads-to-line : (bytes line rest : List ℕ) → 2 ≤ length bytes → get_or bytes 0 0 ≡ 47 → get_or bytes 1 0 ≡ 47 → line ≡ drop 2 bytes → LeadsTo in_line blanks_at line rest → LeadsTo blanks_at blanks_at bytes rest
+leads-to-line [] line rest two first second is a = absurd (omega (arith, two))
+leads-to-line (b ∷ []) line rest two first second is a = absurd (omega (arith, two))
+leads-to-line (b ∷ c ∷ bytes) line rest two first second is a =
+    subst (λ (x : ℕ). LeadsTo blanks_at blanks_at (x ∷ c ∷ bytes) rest) (sym first)
+    (subst (λ (x : ℕ). LeadsTo blanks_at blanks_at (47 ∷ x ∷ bytes) rest) (sym second) (line-after bytes rest (subst (λ (l : List ℕ). LeadsTo in_line blanks_at l rest) is a)))
+
+pub leads-to-block : (bytes block rest : List ℕ) → 2 ≤ length bytes → get_or bytes 0 0 ≡ 47 → get_or bytes 1 0 ≡ 42 → block ≡ drop 2 bytes → ((start : ℕ) → LeadsTo (in_block start) blanks_at block rest)
+    → LeadsTo blanks_at blanks_at bytes rest
+leads-to-block [] block rest two first second is a = absurd (omega (arith, two))
+leads-to-block (b ∷ []) block rest two first second is a = absurd (omega (arith, two))
+leads-to-block (b ∷ c ∷ bytes) block rest two first second is a =
+    subst (λ (x : ℕ). LeadsTo blanks_at blanks_at (x ∷ c ∷ bytes) rest) (sym first)
+    (subst (λ (x : ℕ). LeadsTo blanks_at blanks_at (47 ∷ x ∷ bytes) rest) (sym second) (block-after bytes rest (λ start. subst (λ (l : List ℕ). LeadsTo (in_block start) blanks_at l rest) is (a start))))
+
+-- ---- where it ends
+
+pub leads-line : (bytes : List ℕ) (n : ℕ) → n < length bytes → all_are (is_neither 10 13) (take n bytes) ≡ true → first_is (is_neither 10 13) (drop n bytes) ≡ false → LeadsTo in_line blanks_at bytes (drop (n + 1) bytes)
+leads-line bytes n less run ends = leads-over in_line blanks_at bytes (n + 1) (omega (arith, less)) (λ p rest. line-over-end p n bytes rest run less ends)
+
+leads-plain : (start : ℕ) (bytes : List ℕ) (n : ℕ) → n ≤ length bytes → all_are (is_neither 42 42) (take n bytes) ≡ true → LeadsTo (in_block start) (in_block start) bytes (drop n bytes)
+leads-plain start bytes n within run = leads-over (in_block start) (in_block start) bytes n within (λ p rest. block-over-run start p (take n bytes) rest run)
+
+star-ends : (start : ℕ) (t rest : List ℕ) → 2 ≤ length t → slice_get t 0 ≡ Some 42 → get_or t 1 0 ≡ 47 → rest ≡ drop 2 t → LeadsTo (in_block start) blanks_at t rest
+star-ends start [] rest two first second is = absurd (omega (arith, two))
+star-ends start (a ∷ []) rest two first second is = absurd (omega (arith, two))
+star-ends start (a ∷ b ∷ t) rest two first second is = subst (λ (l : List ℕ). LeadsTo (in_block start) blanks_at (a ∷ b ∷ t) l) (sym is) (record {
+  part = some-behind (a ∷ b ∷ t) 2 (omega arith);
+  fewer = omega arith;
+  same = λ p q more e.
+      let q_is : p + 2 ≡ q = omega (arith, e) in
+      star-then start p (a ∷ b ∷ (t ++ more)) first (ap (λ (k : ℕ). Some k) second) ∙ ap (λ (k : ℕ). blanks_at k (t ++ more)) q_is;
+})
+
+star-passed : (start : ℕ) (t rest : List ℕ) → 2 ≤ length t → slice_get t 0 ≡ Some 42 → (get_or t 1 0 ≡ 47 → ⊥) → rest ≡ drop 1 t → LeadsTo (in_block start) (in_block start) t rest
+star-passed start [] rest two first other is = absurd (omega (arith, two))
+star-passed start (a ∷ []) rest two first other is = absurd (omega (arith, two))
+star-passed start (a ∷ b ∷ t) rest two first other is = subst (λ (l : List ℕ). LeadsTo (in_block start) (in_block start) (a ∷ b ∷ t) l) (sym is) (record {
+  part = some-behind (a ∷ b ∷ t) 1 (omega arith);
+  fewer = omega arith;
+  same = λ p q more e.
+      let q_is : p + 1 ≡ q = omega (arith, e) in
+      star-other start p (a ∷ b ∷ (t ++ more)) first (λ h. other (cc h)) ∙ ap (λ (k : ℕ). in_block start k (b ∷ (t ++ more))) q_is;
+})
+
+star-at : (bytes star : List ℕ) (n : ℕ) → star ≡ drop n bytes → n ≤ length bytes → 2 ≤ length star → first_is (is_neither 42 42) (drop n bytes) ≡ false → slice_get star 0 ≡ Some 42
+star-at bytes star n is within two ends =
+    let long = length-drop n bytes in
+    let same = ap (λ (l : List ℕ). length l) is in
+    ap (λ (l : List ℕ). slice_get l 0) is ∙ star-stands bytes n (omega (arith, long, same, two, within)) ends
+
+pub leads-block : (start : ℕ) (bytes star rest : List ℕ) (n : ℕ) → n ≤ length bytes → all_are (is_neither 42 42) (take n bytes) ≡ true → first_is (is_neither 42 42) (drop n bytes) ≡ false → star ≡ drop n bytes
+    → 2 ≤ length star → get_or star 1 0 ≡ 47 → rest ≡ drop 2 star → LeadsTo (in_block start) blanks_at bytes rest
+leads-block start bytes star rest n within run ends is two slash behind =
+    leads-then (in_block start) (in_block start) blanks_at bytes star rest (subst (λ (l : List ℕ). LeadsTo (in_block start) (in_block start) bytes l) (sym is) (leads-plain start bytes n within run))
+    (star-ends start star rest two (star-at bytes star n is within two ends) slash behind)
+
+pub leads-star : (start : ℕ) (bytes star rest : List ℕ) (n : ℕ) → n ≤ length bytes → all_are (is_neither 42 42) (take n bytes) ≡ true → first_is (is_neither 42 42) (drop n bytes) ≡ false → star ≡ drop n bytes
+    → 2 ≤ length star → (get_or star 1 0 ≡ 47 → ⊥) → rest ≡ drop 1 star → LeadsTo (in_block start) (in_block start) bytes rest
+leads-star start bytes star rest n within run ends is two other behind =
+    leads-then (in_block start) (in_block start) (in_block start) bytes star rest (subst (λ (l : List ℕ). LeadsTo (in_block start) (in_block start) bytes l) (sym is) (leads-plain start bytes n within run))
+    (star-passed start star rest two (star-at bytes star n is within two ends) other behind)

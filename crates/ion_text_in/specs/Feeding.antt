@@ -3,6 +3,7 @@ use Rattle.std.specs.Prelude.{◌≡◌, ℕ, ◌+◌, ◌*◌, ◌-◌, ◌^◌
 use Rattle.ion_meter.specs.Counts.{Counts}
 use Rattle.ion_meter.specs.declared.limits.Limits.{Limits}
 use Rattle.ion_meter.specs.Limits.{AreChecked}
+use Rattle.ion_meter.specs.Sources.{Cursor}
 use Rattle.ion_meter.specs.Windows.{Incoming, lent, Outgoing, IsPassed}
 use Rattle.ion_value.specs.declared.ion_type.Kind.{Kind}
 use Rattle.ion_value.specs.declared.plain_item.TextAt.{TextAt}
@@ -10,6 +11,7 @@ use Rattle.ion_value.specs.declared.plain_item.SecondAt.{SecondAt}
 use Rattle.ion_value.specs.declared.writer.ValueWriter.{Ghosts as WriterOf}
 use Rattle.ion_value.specs.Feeding.{CanTake, Feeds, Joint, StaysWell}
 use Rattle.ion_value.specs.Items.{named_at, named_item, raw_head}
+use Rattle.ion_value.specs.Parts.{Placed}
 use Rattle.ion_value.specs.PlainItems.{listed, placed_text, with_second, StandsBehind, HasKnownName, HasNoDollar, HaveNoDollar, IsKnownHead, IsRightlySimple, IsTextOf}
 use Rattle.ion_value.specs.Reading.{More}
 use Rattle.ion_value.specs.Shares.{Charges}
@@ -56,6 +58,12 @@ pub record PassesBlanks (bytes rest : List ℕ) : Type 0 where
   pub fewer : length rest ≤ length bytes
   pub blank : (p q : ℕ) (more : List ℕ) → p + length bytes ≡ q + length rest → blanks (at p (bytes ++ more)) ≡ Ok (at q (rest ++ more))
   pub bare : IsBare rest
+
+-- what one reading makes of some bytes, the other makes of a rest of them, whatever follows
+pub record LeadsTo (one other : ℕ → List ℕ → Placed Cursor) (bytes rest : List ℕ) : Type 0 where
+  pub part : IsBehind bytes rest
+  pub fewer : length rest ≤ length bytes
+  pub same : (p q : ℕ) (more : List ℕ) → p + length bytes ≡ q + length rest → one p (bytes ++ more) ≡ other q (rest ++ more)
 
 -- what a slice shows of the next token behind blanks, by the number of what its first byte or two tell: 0 is known of nothing
 pub record IsNext (bytes : List ℕ) (next : Next) : Type 0 where

@@ -16,14 +16,14 @@ use ion_meter::source::Source;
 use std::alloc::Allocator;
 use std::simd::prelude::*;
 
-/// The comment within which a byte stands, if any.
+// The comment within which a byte stands, if any.
 #[derive(Clone, Copy)]
 pub(crate) enum Comment {
-    /// None.
+    // None.
     None,
-    /// One up to the end of its line.
+    // One up to the end of its line.
     Line,
-    /// One up to `*/`.
+    // One up to `*/`.
     Block,
 }
 
@@ -124,10 +124,10 @@ fn pass_run<I: Input, A: Allocator + Copy>(
     }
 }
 
-/// How many bytes at the front of these go on with a comment, or with white space where there is
-/// none.
+// How many bytes at the front of these go on with a comment, or with white space where there is
+// none.
 #[inline(always)]
-pub(crate) fn run_in(comment: Comment, bytes: &[u8]) -> usize
+fn run_in(comment: Comment, bytes: &[u8]) -> usize
     ensures { IsRun (stays_in comment) bytes.now result }
 {
     match comment {
@@ -137,18 +137,18 @@ pub(crate) fn run_in(comment: Comment, bytes: &[u8]) -> usize
     }
 }
 
-/// Whether blanks end before this byte after such a run, whatever follows it.
+// Whether blanks end before this byte after such a run, whatever follows it.
 #[inline(always)]
-pub(crate) fn ends_blanks(comment: Comment, first: u8) -> bool
+fn ends_blanks(comment: Comment, first: u8) -> bool
     ensures { result ≡ ends_blanks comment first }
 {
     matches!(comment, Comment::None) && first != b'/'
 }
 
-/// What the second of two bytes after such a run tells: within which comment the bytes after them
-/// stand, and how many of the two to consume. None where blanks end before them.
+// What the second of two bytes after such a run tells: within which comment the bytes after them
+// stand, and how many of the two to consume. None where blanks end before them.
 #[inline(always)]
-pub(crate) fn turn(comment: Comment, second: Option<u8>) -> Option<(Comment, usize)>
+fn turn(comment: Comment, second: Option<u8>) -> Option<(Comment, usize)>
     ensures is { result ≡ turned comment second }
     ensures few { IfSome result (λ next. (0 < next.1) × (next.1 ≤ 2)
         × (second ≡ None → next.1 ≡ 1)) }

@@ -1,8 +1,9 @@
 //! White space and comments that end within a slice.
-ghost use Rattle.std.specs.Prelude.{◌<◌, length};
-ghost use Rattle.ion_text_in.specs.Feeding.{PassesBlanks};
+ghost use Rattle.std.specs.Prelude.{◌≡◌, ◌<◌, ℕ, length};
+ghost use Rattle.ion_text_in.specs.Blanks.{blanks_at, in_block, in_line};
+ghost use Rattle.ion_text_in.specs.Feeding.{LeadsTo, PassesBlanks};
 
-use crate::blank::{Comment, ends_blanks, run_in, turn, white_run};
+use crate::blank::{run_without, white_run};
 use crate::slice::behind;
 
 /// Behind blanks; nothing where the bytes show no end of them.
@@ -25,20 +26,70 @@ pub(crate) fn behind_blanks(bytes: &[u8]) -> &[u8]
 fn behind_comments(bytes: &[u8]) -> &[u8]
     ensures { 0 < length result.now → PassesBlanks bytes.now result.now }
 {
-    let mut comment = Comment::None;
     let mut rest = bytes;
     'blanks: loop {
-        let next = behind(run_in(comment, rest), rest);
-        let [first, second, ..] = next else {
+        let white = white_run(rest);
+        if white == rest.len() {
             return &[];
-        };
-        if ends_blanks(comment, *first) {
+        }
+        let next = behind(white, rest);
+        if next[0] != b'/' {
             return next;
         }
-        let Some((inner, count)) = turn(comment, Some(*second)) else {
+        let last = behind_comment(next);
+        if last.is_empty() {
             return &[];
-        };
-        comment = inner;
-        rest = behind(count, next);
+        }
+        rest = last;
+    }
+}
+
+// Behind the comment that begins here; nothing where none does, or the bytes show no end of it.
+#[inline(always)]
+fn behind_comment(bytes: &[u8]) -> &[u8]
+    ensures leads { 0 < length result.now
+        → LeadsTo blanks_at blanks_at bytes.now result.now }
+    ensures falls { 0 < length result.now → length result.now < length bytes.now }
+{
+    if bytes.len() < 2 || bytes[0] != b'/' {
+        return &[];
+    }
+    if bytes[1] == b'/' {
+        return behind_line(behind(2, bytes));
+    }
+    if bytes[1] == b'*' {
+        return behind_block(behind(2, bytes));
+    }
+    &[]
+}
+
+// Behind the end of the line; nothing where the bytes show none.
+#[inline(always)]
+fn behind_line(bytes: &[u8]) -> &[u8]
+    ensures { 0 < length result.now → LeadsTo in_line blanks_at bytes.now result.now }
+{
+    let end = run_without(b'\n', b'\r', bytes);
+    if end == bytes.len() {
+        return &[];
+    }
+    behind(end + 1, bytes)
+}
+
+// Behind the star and the slash that end a block; nothing where the bytes show none.
+#[inline(always)]
+fn behind_block(bytes: &[u8]) -> &[u8]
+    ensures { 0 < length result.now → (start : ℕ)
+        → LeadsTo (in_block start) blanks_at bytes.now result.now }
+{
+    let mut rest = bytes;
+    'block: loop {
+        let star = behind(run_without(b'*', b'*', rest), rest);
+        if star.len() < 2 {
+            return &[];
+        }
+        if star[1] == b'/' {
+            return behind(2, star);
+        }
+        rest = behind(1, star);
     }
 }

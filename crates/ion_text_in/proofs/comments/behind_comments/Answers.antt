@@ -1,23 +1,38 @@
-use Rattle.std.proofs.Common.{Some, get_or, ap, sym, ◌∙◌, arith}
+use Rattle.std.proofs.Common.{ℕ, ◌≡◌, ◌<◌, ◌==◌, List, false, length, drop, subst, sym, arith}
+use Rattle.std.proofs.lemmas.Grind.{common_steps}
 use Rattle.ion_value.specs.Digits.{first_is}
-use Rattle.ion_text_in.specs.Overrun.{stays_in}
-use Rattle.ion_text_in.proofs.BlankTurns.{turned-on}
-use Rattle.ion_text_in.proofs.FeedComments.{within-not, within-turn, within-ends}
-use Rattle.ion_text_in.proofs.Runs.{at-front, first-off}
+use Rattle.ion_text_in.specs.Blanks.{blanks_at}
+use Rattle.ion_text_in.specs.Feeding.{LeadsTo, PassesBlanks}
+use Rattle.ion_text_in.proofs.FeedReading.{passes-white, other-there}
+use Rattle.ion_text_in.proofs.FeedComments.{leads-then, leads-white, passes-behind}
 use Rattle.ion_text_in.proofs.comments.behind_comments.Goals as goal
 
-pub blanks-init : goal.blanks-init
-blanks-init c = within-not c.args.bytes.now
-
-pub returns-then-ends_blanks : goal.returns-then-ends_blanks
-returns-then-ends_blanks c some =
-    within-ends c.blanks.comment c.args.bytes.now c.blanks.rest.now c.behind-next.result.now c.run_in.result c.blanks.invariant c.run_in.ensures c.behind-next.ensures c.in-len2-up.len_at_least
-    (sym c.ends_blanks.ensures ∙ c.if-ends_blanks.true)
+pub returns-then-next-ne47 : goal.returns-then-next-ne47
+returns-then-next-ne47 c some =
+    let bytes = c.args.bytes.now in
+    let rest = c.blanks.rest.now in
+    let next = c.behind-next.result.now in
+    let white = c.white_run-white in
+    let there : white.result < length rest = grind (arith, white.ensures.within, c.if-white-rest.false) in
+    let other : first_is (λ b. b == 47) (drop white.result rest) ≡ false = subst (λ (l : List ℕ). first_is (λ b. b == 47) l ≡ false) c.behind-next.ensures (other-there next 0 47 some c.if-next-ne47.true) in
+    passes-behind bytes rest next c.blanks.invariant
+    (subst (λ (l : List ℕ). PassesBlanks rest l) (sym c.behind-next.ensures) (passes-white rest white.result there white.ensures.run white.ensures.ends other))
 
 pub blanks-preserved : goal.blanks-preserved
 blanks-preserved c =
+    let bytes = c.args.bytes.now in
+    let rest = c.blanks.rest.now in
     let next = c.behind-next.result.now in
-    let comment = c.blanks.comment in
-    let off = first-off (stays_in comment) next (get_or next 0 0) (at-front next 0 (omega (arith, c.in-len2-up.len_at_least))) (ap (first_is (stays_in comment)) c.behind-next.ensures ∙ c.run_in.ensures.ends) in
-    let turns = turned-on comment (get_or next 0 0) (Some (get_or next 1 0)) (c.in-Some.inner, c.in-Some.count) off (sym c.ends_blanks.ensures ∙ c.if-ends_blanks.false) (sym c.turn.ensures.is ∙ c.in-Some.is) in
-    rw c.behind-rest.ensures (within-turn comment c.in-Some.inner c.args.bytes.now c.blanks.rest.now next c.run_in.result c.in-Some.count c.blanks.invariant c.run_in.ensures c.behind-next.ensures c.in-len2-up.len_at_least turns c.in-Some.ensures.few.1)
+    let last = c.behind_comment-last.result.now in
+    let white = c.white_run-white in
+    let some : 0 < length last = grind (arith, c.is_empty.ensures, c.if-is_empty.false) in
+    leads-then blanks_at blanks_at blanks_at bytes rest last c.blanks.invariant
+    (leads-then blanks_at blanks_at blanks_at rest next last
+    (subst (λ (l : List ℕ). LeadsTo blanks_at blanks_at rest l) (sym c.behind-next.ensures) (leads-white rest white.result white.ensures.within white.ensures.run))
+    (c.behind_comment-last.ensures.leads some))
+
+pub blanks-smaller : goal.blanks-smaller
+blanks-smaller c = grind (arith, common_steps) steps 400000
+
+pub returns-then-is_empty : goal.returns-then-is_empty
+returns-then-is_empty c = grind (arith, common_steps)

@@ -1,40 +1,38 @@
 -- White space, and bytes of a comment, are passed together.
-use Rattle.std.proofs.Common.{◌≡◌, ℕ, suc, ◌+◌, true, false, not, ◌==◌, List, [], ◌∷◌, ◌++◌, length, refl, ap, ◌∙◌, arith}
-use Rattle.std.proofs.lemmas.Bool.{and_parts, not-true}
+use Rattle.std.proofs.Common.{◌≡◌, ℕ, suc, ◌+◌, true, false, ◌==◌, List, [], ◌∷◌, ◌++◌, length, ap, ◌∙◌, inl, inr, arith}
+use Rattle.std.proofs.lemmas.Bool.{and_parts, cases_Bool, not-true}
 use Rattle.ion_value.specs.Digits.{all_are}
+use Rattle.ion_text_in.specs.declared.blank.Comment.{Comment}
+use Rattle.ion_text_in.specs.declared.blank.Comment.TheVariants as comment
 use Rattle.ion_text_in.specs.Blanks.{is_white, is_line_end, blanks_at, in_line, in_block}
+use Rattle.ion_text_in.specs.Meaning.{at}
+use Rattle.ion_text_in.specs.Overrun.{stays_in, within}
 
-next-place : (p n : ℕ) → suc p + n ≡ p + suc n
-next-place p n = omega arith
+one : (p : ℕ) → suc p ≡ p + 1
+one p = omega arith
 
-no-more : (p : ℕ) → p ≡ p + 0
-no-more p = omega arith
+pub stays-first : (c : Comment) (start p b : ℕ) (bytes : List ℕ) → stays_in c b ≡ true → within c start (at p (b ∷ bytes)) ≡ within c start (at (p + 1) bytes)
+unfolding blanks_at in_line in_block
+stays-first comment.None start p b bytes on = rw (on, blanks_at) (ap (λ (n : ℕ). blanks_at n bytes) (one p))
+stays-first comment.Line start p b bytes on =
+    let goes_on : is_line_end b ≡ false = not-true (is_line_end b) on in
+    rw (goes_on, in_line) (ap (λ (n : ℕ). in_line n bytes) (one p))
+stays-first comment.Block start p b bytes on = elim (cases_Bool (b == 42)) [
+  | inl star ↦ absurd (cc (rw star at on))
+  | inr none ↦ rw (none, in_block) (ap (λ (n : ℕ). in_block start n bytes) (one p))
+]
+
+pub stays-over : (c : Comment) (start p : ℕ) (xs rest : List ℕ) → all_are (stays_in c) xs ≡ true → within c start (at p (xs ++ rest)) ≡ within c start (at (p + length xs) rest)
+stays-over c start p [] rest all = ap (λ (n : ℕ). within c start (at n rest)) (none p)
+  where
+    none : (p : ℕ) → p ≡ p + 0
+    none p = omega arith
+stays-over c start p (b ∷ xs) rest all =
+    let parts = and_parts (stays_in c b) (all_are (stays_in c) xs) all in
+    stays-first c start p b (xs ++ rest) parts.0 ∙ stays-over c start (p + 1) xs rest parts.1 ∙ ap (λ (n : ℕ). within c start (at n rest)) (next p (length xs))
+  where
+    next : (p n : ℕ) → p + 1 + n ≡ p + suc n
+    next p n = omega arith
 
 pub white-over : (p : ℕ) (xs rest : List ℕ) → all_are is_white xs ≡ true → blanks_at p (xs ++ rest) ≡ blanks_at (p + length xs) rest
-unfolding blanks_at
-white-over p [] rest all = ap (λ (p : ℕ). blanks_at p rest) (no-more p)
-white-over p (b ∷ xs) rest all =
-    let parts = and_parts (is_white b) (all_are is_white xs) all in
-    let dark : is_white b ≡ true = parts.0 in
-    let one : blanks_at p (b ∷ (xs ++ rest)) ≡ blanks_at (suc p) (xs ++ rest) = rw (dark, blanks_at) refl in
-    one ∙ white-over (suc p) xs rest parts.1 ∙ ap (λ (p : ℕ). blanks_at p rest) (next-place p (length xs))
-
--- within a line
-pub line-over : (p : ℕ) (xs rest : List ℕ) → all_are (λ b. not (is_line_end b)) xs ≡ true → in_line p (xs ++ rest) ≡ in_line (p + length xs) rest
-unfolding in_line
-line-over p [] rest all = ap (λ (p : ℕ). in_line p rest) (no-more p)
-line-over p (b ∷ xs) rest all =
-    let parts = and_parts (not (is_line_end b)) (all_are (λ b. not (is_line_end b)) xs) all in
-    let goes_on : is_line_end b ≡ false = not-true (is_line_end b) parts.0 in
-    let one : in_line p (b ∷ (xs ++ rest)) ≡ in_line (suc p) (xs ++ rest) = rw (goes_on, in_line) refl in
-    one ∙ line-over (suc p) xs rest parts.1 ∙ ap (λ (p : ℕ). in_line p rest) (next-place p (length xs))
-
--- without a star
-pub block-over : (start p : ℕ) (xs rest : List ℕ) → all_are (λ b. not (b == 42)) xs ≡ true → in_block start p (xs ++ rest) ≡ in_block start (p + length xs) rest
-unfolding in_block
-block-over start p [] rest all = ap (λ (p : ℕ). in_block start p rest) (no-more p)
-block-over start p (b ∷ xs) rest all =
-    let parts = and_parts (not (b == 42)) (all_are (λ b. not (b == 42)) xs) all in
-    let no_star : (b == 42) ≡ false = not-true (b == 42) parts.0 in
-    let one : in_block start p (b ∷ (xs ++ rest)) ≡ in_block start (suc p) (xs ++ rest) = rw (no_star, in_block) refl in
-    one ∙ block-over start (suc p) xs rest parts.1 ∙ ap (λ (p : ℕ). in_block start p rest) (next-place p (length xs))
+white-over p xs rest all = stays-over comment.None p p xs rest all

@@ -4,10 +4,13 @@ use Rattle.std.proofs.lemmas.Simd.{chunk-drop, length-chunk, trailing_mask_l}
 use Rattle.std.proofs.lemmas.List.Folds.{prefix_len-append}
 use Rattle.std.proofs.lemmas.List.Sums.{prefix_len-le-length}
 use Rattle.std.proofs.lemmas.Bool.{ne_eqb}
+use Rattle.std.proofs.lemmas.List.{drop-drop, length-drop}
 use Rattle.std.specs.List.{prefix_len}
 use lib.Lanes.{chunk, mask_l}
 use lib.Count.{count_trailing_zeros}
 use Rattle.ion_value.specs.Digits.{first_is, all_are}
+use Rattle.ion_text_in.specs.Overrun.{IsRun}
+use Rattle.ion_text_in.proofs.Runs.{all-behind}
 
 pub not_not : (b : Bool) → b ≡ not (not b)
 not_not true = refl
@@ -68,3 +71,34 @@ module _ (p : ℕ → Bool) where
       let lowest : prefix_len p c ≡ count_trailing_zeros 64 (mask_l (map (λ x. not (p x)) c)) = same_run c ∙ sym (trailing_mask_l (λ x. not (p x)) 64 c (omega arith) some) in
       let within : prefix_len p c < length c = omega (arith, prefix_len-le-length p c, other) in
       (split d i n ∙ ap (λ b. cond b (length c + prefix_len p (drop (i + n) d)) (prefix_len p c)) (ne_eqb _ _ other) ∙ lowest, omega (arith, lowest, long, within))
+
+  -- a run behind bytes that pass
+  pub run-behind : (d : List ℕ) (i n : ℕ) → i ≤ length d → all_are p (take i d) ≡ true → IsRun p (drop i d) n → IsRun p d (i + n)
+  run-behind d i n le before run =
+      let within = run.within in
+      let long = length-drop i d in
+      record { within = omega (arith, le, within, long); run = all-behind p d i n before run.run; ends = rw (drop-drop n i d) at run.ends }
+
+  -- a block in which all pass
+  pub run-block : (d : List ℕ) (i n bits : ℕ) → bits ≡ mask_l (map (λ x. not (p x)) (chunk i n d)) → bits ≡ 0 → all_are p (take i d) ≡ true → all_are p (take (i + n) d) ≡ true
+  run-block d i n bits e none before = all-behind p d i n before (all_pass (chunk i n d) (omega (arith, e, none)))
+
+  -- one in which one does not
+  pub run-found : (d : List ℕ) (i n bits : ℕ) → i + n ≤ length d → n ≤ 64 → bits ≡ mask_l (map (λ x. not (p x)) (chunk i n d)) → 0 < bits → all_are p (take i d) ≡ true
+      → IsRun p d (i + count_trailing_zeros 64 bits) × (count_trailing_zeros 64 bits < n)
+  run-found d i n bits room short e some before =
+      let at = run_at d i n room short (omega (arith, e, some)) in
+      let same = ap (count_trailing_zeros 64) e in
+      let count : prefix_len p (drop i d) ≡ count_trailing_zeros 64 bits = at.0 ∙ sym same in
+      let within : prefix_len p (drop i d) < length (drop i d) = omega (arith, at.0, at.1, length-drop i d, room) in
+      let run : IsRun p (drop i d) (prefix_len p (drop i d)) = record { within = omega (arith, within); run = run_passes (drop i d); ends = run_ends (drop i d) within } in (
+        run-behind d i (count_trailing_zeros 64 bits) (omega (arith, room)) before (subst (λ k. IsRun p (drop i d) k) count run),
+        omega (arith, at.1, same),
+      )
+
+  pub run-front : (d : List ℕ) (n bits : ℕ) → n ≤ length d → n ≤ 64 → bits ≡ mask_l (map (λ x. not (p x)) (chunk 0 n d)) → 0 < bits
+      → IsRun p d (count_trailing_zeros 64 bits) × (count_trailing_zeros 64 bits < length d)
+  run-front d n bits room short e some =
+      let found = run-found d 0 n bits (omega (arith, room)) short e some refl in
+      let none : 0 + count_trailing_zeros 64 bits ≡ count_trailing_zeros 64 bits = omega arith in
+      (subst (λ k. IsRun p d k) none found.0, omega (arith, found.1, room))

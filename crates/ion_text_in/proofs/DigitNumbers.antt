@@ -1,13 +1,12 @@
 -- What digits spell behind a number, and how great it may be.
 use Rattle.std.proofs.Common.{◌≡◌, ℕ, ◌+◌, ◌*◌, ◌-◌, ◌^◌, ◌<◌, ◌≤◌, true, List, [], ◌∷◌, ◌++◌, length, take, drop, get_or, refl, sym, ap, ◌∙◌, arith}
-use Rattle.std.proofs.Math.Nat.{one-le-pow, pow-le-pow_right, pow-suc, mul-le-mul, mul-le-mul_left, mul-le-mul_right}
+use Rattle.std.proofs.Math.Nat.{pow-le-pow_right, pow-suc, mul-le-mul_left, mul-le-mul_right}
 use Rattle.std.proofs.lemmas.Nat.{pow-add}
 use Rattle.std.proofs.lemmas.Bool.{and_parts}
 use Rattle.std.proofs.lemmas.Bool.Decides.{nat_tests}
 use Rattle.std.proofs.lemmas.List.{length-drop, take-append-drop, take_all}
 use Rattle.ion_value.specs.Digits.{all_are, is_digit}
 use Rattle.ion_value.proofs.LeadingDigits.{all_are-append}
-use Rattle.ion_value.proofs.TextDigits.{tail-all}
 use Rattle.ion_text_in.specs.Quick.{number_after}
 
 -- digits behind others go on from what these spell
@@ -21,10 +20,6 @@ after-joined-back n xs ys zs e = sym (after-joined n xs ys) ∙ ap (number_after
 pub after-front : (n k : ℕ) (ds : List ℕ) → number_after (number_after n (take k ds)) (drop k ds) ≡ number_after n ds
 after-front n k ds = after-joined-back n (take k ds) (drop k ds) ds (take-append-drop k ds)
 
-pub after-none : (n : ℕ) (ds : List ℕ) → length ds < 1 → n ≡ number_after n ds
-after-none n [] none = refl
-after-none n (d ∷ ds) none = absurd (omega (arith, none))
-
 pub cut-digits : (k : ℕ) (ds : List ℕ) → all_are is_digit ds ≡ true → (all_are is_digit (take k ds) ≡ true) × (all_are is_digit (drop k ds) ≡ true)
 cut-digits k ds e =
     and_parts (all_are is_digit (take k ds)) (all_are is_digit (drop k ds))
@@ -35,16 +30,13 @@ cut-digits k ds e =
 digit-less : (b : ℕ) → is_digit b ≡ true → b < 58
 digit-less b e = grind (arith, nat_tests)
 
-digit-from : (b : ℕ) → is_digit b ≡ true → 48 ≤ b
-digit-from b e = grind (arith, nat_tests)
-
 one-more : (n b p : ℕ) → is_digit b ≡ true → (n * 10 + (b - 48) + 1) * p ≤ (n + 1) * (p * 10)
 one-more n b p e =
     let few : n * 10 + (b - 48) + 1 ≤ (n + 1) * 10 = omega (arith, digit-less b e) in
     let more = mul-le-mul_right p few in
     omega (arith, more)
 
-below : (n : ℕ) (ds : List ℕ) → all_are is_digit ds ≡ true → number_after n ds + 1 ≤ (n + 1) * 10 ^ length ds
+pub below : (n : ℕ) (ds : List ℕ) → all_are is_digit ds ≡ true → number_after n ds + 1 ≤ (n + 1) * 10 ^ length ds
 below n [] e = omega arith
 below n (d ∷ ds) e =
     let parts = and_parts (is_digit d) (all_are is_digit ds) e in
@@ -53,35 +45,6 @@ below n (d ∷ ds) e =
     let power = pow-suc 10 (length ds) in
     rw power (omega (arith, next, one))
 
--- room for a digit and others is room for the others behind it
-pub room-behind : (n m most : ℕ) (rest : List ℕ) → 0 < length rest → length rest ≤ m → all_are is_digit rest ≡ true → (n + 1) * 10 ^ length rest ≤ most
-    → (n * 10 + (get_or rest 0 0 - 48) + 1) * 10 ^ length (take (m - 1) (drop 1 rest)) ≤ most
-room-behind n m most [] some all e room = absurd (omega arith)
-room-behind n m most (d ∷ ds) some all e room =
-    let one = one-more n d (10 ^ length ds) (and_parts (is_digit d) (all_are is_digit ds) e).0 in
-    let power = pow-suc 10 (length ds) in
-    rw (tail-all (d ∷ ds) m all) (omega (arith, one, rw power at room))
-
--- and for the digit itself
-pub room-head : (n most : ℕ) (rest : List ℕ) → 0 < length rest → (n + 1) * 10 ^ length rest ≤ most → n * 10 + 10 ≤ most
-room-head n most [] some room = absurd (omega arith)
-room-head n most (d ∷ ds) some room =
-    let one : (n + 1) * 10 * 1 ≤ (n + 1) * 10 * 10 ^ length ds = mul-le-mul_left ((n + 1) * 10) (one-le-pow (length ds) 10 (omega arith)) in
-    omega (arith, one, rw (pow-suc 10 (length ds)) at room)
-
-pub head-digit : (rest : List ℕ) → 0 < length rest → all_are is_digit rest ≡ true → (48 ≤ get_or rest 0 0) × (get_or rest 0 0 < 58)
-head-digit [] some e = absurd (omega arith)
-head-digit (d ∷ ds) some e = let digit = (and_parts (is_digit d) (all_are is_digit ds) e).0 in (digit-from d digit, digit-less d digit)
-
-pub tail-digits : (m : ℕ) (rest : List ℕ) → 0 < length rest → length rest ≤ m → all_are is_digit rest ≡ true → all_are is_digit (take (m - 1) (drop 1 rest)) ≡ true
-tail-digits m [] some all e = absurd (omega arith)
-tail-digits m (d ∷ ds) some all e = rw (tail-all (d ∷ ds) m all) (and_parts (is_digit d) (all_are is_digit ds) e).1
-
-pub tail-number : (n m : ℕ) (rest : List ℕ) → 0 < length rest → length rest ≤ m
-    → number_after (n * 10 + (get_or rest 0 0 - 48)) (take (m - 1) (drop 1 rest)) ≡ number_after n rest
-tail-number n m [] some all = absurd (omega arith)
-tail-number n m (d ∷ ds) some all = rw (tail-all (d ∷ ds) m all) refl
-
 -- ---- how many digits have room
 
 pub narrow-behind : (xs : List ℕ) (k : ℕ) → all_are is_digit xs ≡ true → length xs + k ≤ 19 → (number_after 0 xs + 1) * 10 ^ k ≤ 2 ^ 64
@@ -89,13 +52,6 @@ narrow-behind xs k e few =
     let less : 10 ^ (length xs + k) ≤ 10 ^ 19 = pow-le-pow_right (omega arith) few in
     let more = mul-le-mul_right (10 ^ k) (below 0 xs e) in
     omega (arith, more, rw (pow-add 10 (length xs) k) at less)
-
-pub wide-behind : (n k : ℕ) → n < 2 ^ 64 → k ≤ 19 → (n + 1) * 10 ^ k ≤ 2 ^ 128
-wide-behind n k small few =
-    let less : 10 ^ k ≤ 10 ^ 19 = pow-le-pow_right (omega arith) few in
-    let front : n + 1 ≤ 2 ^ 64 = omega (arith, small) in
-    let more : (n + 1) * 10 ^ k ≤ 2 ^ 64 * 10 ^ 19 = mul-le-mul front less in
-    omega (arith, more)
 
 -- ---- four digits together
 

@@ -1,8 +1,7 @@
 -- What was gathered of a token, and a limit that is passed on the way.
-use Rattle.std.proofs.Common.{◌≡◌, ℕ, suc, ◌+◌, ◌<◌, ◌≤◌, Bool, List, [], ◌∷◌, ◌++◌, length, take, drop, Option, Some, Result, Ok, Err, OnOk, IfErr, refl, sym, ap, subst, ◌∙◌, arith}
-use Rattle.std.proofs.lemmas.Bool.{lt-ltb}
-use Rattle.std.proofs.lemmas.List.{length-append, length-take, append_assoc}
-use Rattle.std.proofs.Math.Seq.{take-add}
+use Rattle.std.proofs.Common.{◌≡◌, ℕ, ◌+◌, ◌<◌, ◌≤◌, Bool, List, [], ◌∷◌, ◌++◌, length, take, drop, Option, Some, Result, Ok, Err, OnOk, IfErr, refl, sym, ap, subst, ◌∙◌, arith}
+use Rattle.std.proofs.lemmas.Bool.{le-ltb, lt-ltb}
+use Rattle.std.proofs.lemmas.List.{length-append, length-take-le, append_assoc, append-nil, drop-drop}
 use Rattle.ion_meter.specs.declared.fault.Fault.{Fault}
 use Rattle.ion_meter.specs.declared.fault.Fault.TheVariants as fault
 use Rattle.ion_meter.specs.declared.fault.Reason.{Reason}
@@ -14,7 +13,7 @@ use Rattle.ion_value.specs.Parts.{refuse, ◌>>◌}
 use Rattle.ion_text_in.specs.declared.run.Run.{Run}
 use Rattle.ion_text_in.specs.Meaning.{at}
 use Rattle.ion_text_in.specs.Limit.{passes}
-use Rattle.ion_text_in.specs.Token.{bytes_of}
+use Rattle.ion_text_in.specs.Token.{bytes_of, counted}
 use Rattle.ion_text_in.specs.Views.{spelled}
 use Rattle.ion_text_in.specs.Places.{run_of}
 use Rattle.ion_text_in.specs.Runs.{GoesOver, goes_on, joined, with_run, IsOver}
@@ -50,24 +49,49 @@ run-over-limit run limit n before c within goes over =
 
 -- ---- parts
 
--- a part behind others
-pub bytes-then : (text0 text after part all rest : List ℕ) (k n : ℕ) → text ≡ text0 ++ take k all → rest ≡ drop k all → part ≡ take n rest → after ≡ text ++ part
-    → after ≡ text0 ++ take (k + n) all
-bytes-then text0 text after part all rest k n e behind next grown =
-    grown
-    ∙ ap (λ (l : List ℕ). l ++ part) e
-    ∙ ap (λ (l : List ℕ). (text0 ++ take k all) ++ l) (next ∙ ap (λ (l : List ℕ). take n l) behind)
-    ∙ append_assoc text0 (take k all) (take n (drop k all))
-    ∙ ap (λ (l : List ℕ). text0 ++ l) (sym (take-add k n all))
+skip-both : (front others : List ℕ) (c : Cursor) → skip (length (front ++ others)) c ≡ skip (length others) (skip (length front) c)
+skip-both front others c =
+    let m = length front in
+    let n = length others in
+    let place : c.place + (m + n) ≡ c.place + m + n = omega arith in
+    ap (λ (k : ℕ). skip k c) (length-append front others)
+    ∙ ap (λ (p : ℕ). at p (drop (m + n) c.rest)) place
+    ∙ ap (λ (l : List ℕ). at (c.place + m + n) l) (sym (drop-drop n m c.rest))
 
--- as many bytes as a text has grown by are there
-pub grown-there : (text0 text all : List ℕ) (k : ℕ) → length text ≡ length text0 + k → text ≡ text0 ++ take k all → k ≤ length all
-grown-there text0 text all k long e =
-    let both = ap (λ (l : List ℕ). length l) e ∙ length-append text0 (take k all) in
-    let most = length-take k all in
-    omega (arith, long, both, most)
+-- what is gathered of some bytes and others is gathered behind the first
+pub joined-on : (limit : Option ℕ) (before front others : List ℕ) (c : Cursor) → joined limit before (front ++ others) c ≡ joined limit (before ++ front) others (skip (length front) c)
+joined-on limit before front others c =
+    let all = length-append front others in
+    let text = length-append before front in
+    let count : length before + length (front ++ others) ≡ length (before ++ front) + length others = omega (arith, all, text) in
+    ap (λ (k : ℕ). refuse (passes limit k) ScalarLimit >> Ok (before ++ (front ++ others), skip (length (front ++ others)) c)) count
+    ∙ ap (λ (l : List ℕ). refuse (passes limit (length (before ++ front) + length others)) ScalarLimit >> Ok (l, skip (length (front ++ others)) c)) (sym (append_assoc before front others))
+    ∙ ap (λ (d : Cursor). refuse (passes limit (length (before ++ front) + length others)) ScalarLimit >> Ok ((before ++ front) ++ others, d)) (skip-both front others c)
 
--- ---- behind the first byte
+pub counted-on : (limit : Option ℕ) (front others : List ℕ) (c : Cursor) → counted limit (front ++ others) c ≡ joined limit front others (skip (length front) c)
+counted-on limit front others c =
+    ap (λ (k : ℕ). refuse (passes limit k) ScalarLimit >> Ok (front ++ others, skip (length (front ++ others)) c)) (length-append front others)
+    ∙ ap (λ (d : Cursor). refuse (passes limit (length front + length others)) ScalarLimit >> Ok (front ++ others, d)) (skip-both front others c)
+
+-- so many bytes of a run, and then what goes on behind them
+pub run-on : (run : Run) (limit : Option ℕ) (before : List ℕ) (n : ℕ) (c : Cursor) → n ≤ length c.rest → GoesOver (goes_on run) c.rest n
+    → with_run run limit before c ≡ with_run run limit (before ++ take n c.rest) (skip n c)
+run-on run limit before n c within goes =
+    let others = (run_of (goes_on run) (drop n c.rest)).0 in
+    ap (λ (z : List ℕ × List ℕ). joined limit before z.0 c) goes
+    ∙ joined-on limit before (take n c.rest) others c
+    ∙ ap (λ (k : ℕ). joined limit (before ++ take n c.rest) others (skip k c)) (length-take-le n c.rest within)
+
+-- nothing goes on
+pub run-done : (run : Run) (limit : ℕ) (text : List ℕ) (c : Cursor) → length text ≤ limit → run_of (goes_on run) c.rest ≡ ([], c.rest) → with_run run (Some limit) text c ≡ Ok (text, c)
+run-done run limit text c fits ends =
+    let none : length text + 0 ≡ length text = omega arith in
+    let here : c.place + 0 ≡ c.place = omega arith in
+    ap (λ (z : List ℕ × List ℕ). joined (Some limit) text z.0 c) ends
+    ∙ ap (λ (k : ℕ). refuse (passes (Some limit) k) ScalarLimit >> Ok (text ++ [], skip 0 c)) none
+    ∙ ap (λ (over : Bool). refuse over ScalarLimit >> Ok (text ++ [], skip 0 c)) (le-ltb limit (length text) fits)
+    ∙ ap (λ (l : List ℕ). Ok (l, skip 0 c)) (append-nil text)
+    ∙ ap (λ (p : ℕ). Ok (text, at p c.rest)) here
 
 -- the first byte of a token, and then what goes on with it
 pub first-then : (run : Run) (limit : Option ℕ) (c : Cursor) → 1 ≤ length c.rest → with_run run limit (take 1 c.rest) (skip 1 c) ≡ spelled (bytes_of (goes_on run)) limit c
@@ -75,13 +99,7 @@ first-then run limit c some = from c.place c.rest some
   where
     from : (place : ℕ) (rest : List ℕ) → 1 ≤ length rest → with_run run limit (take 1 rest) (skip 1 (at place rest)) ≡ spelled (bytes_of (goes_on run)) limit (at place rest)
     from place [] some = absurd (omega (arith, some))
-    from place (b ∷ bytes) some =
-        let text : List ℕ = (run_of (goes_on run) bytes).0 in
-        let n : ℕ = length text in
-        let one : 1 + n ≡ suc n = omega arith in
-        let there : place + 1 + n ≡ place + suc n = omega arith in
-        ap (λ (k : ℕ). refuse (passes limit k) ScalarLimit >> Ok (b ∷ text, at (place + 1 + n) (drop n bytes))) one
-        ∙ ap (λ (p : ℕ). refuse (passes limit (suc n)) ScalarLimit >> Ok (b ∷ text, at p (drop n bytes))) there
+    from place (b ∷ bytes) some = sym (counted-on limit (b ∷ []) (run_of (goes_on run) bytes).0 (at place (b ∷ bytes)))
 
 pub answers-same : {T A : Type 0} (view : T → A) (result : Result T Fault) (behind : Cursor) (place there : ℕ) (given same : Result (A × Cursor) Reason)
     → Answers view result behind place given → place ≡ there → given ≡ same → Answers view result behind there same

@@ -21,8 +21,8 @@ use Rattle.ion_text_in.specs.Quick.{number_after, scaled, signed_int, signed_tex
 use Rattle.ion_text_in.specs.Runs.{EndBehind, stays}
 use Rattle.ion_text_in.specs.Token.{bytes_of, in_run, run_token}
 use Rattle.ion_text_in.specs.Views.{number_token, AreShown}
-use Rattle.ion_text_in.proofs.Meaning.{run-more, run-none}
-use Rattle.ion_text_in.proofs.RunEnds.{stays-on, token-shown}
+use Rattle.ion_text_in.proofs.RunEnds.{go-end, token-shown}
+use Rattle.ion_text_in.proofs.SureRuns.{all-go}
 use Rattle.ion_text_in.proofs.RunTokens.{int-token, decimal-token}
 
 -- ---- digits
@@ -42,7 +42,8 @@ read-one n k behind b tail e = rw (ten b, e, value-digit b e) refl
 pub record AreDigits (start : ℕ) (bytes : List ℕ) (number count : ℕ) : Type 0 where
   pub within : count ≤ length bytes
   pub digits : all_are is_digit (take count bytes) ≡ true
-  pub read : (tail : List ℕ) → read_digits 10 start false 0 (take count bytes ++ tail) ≡ read_digits 10 number (nat_lt 0 count) count tail
+  pub some : 0 < count
+  pub read : (tail : List ℕ) → read_digits 10 start false 0 (take count bytes ++ tail) ≡ read_digits 10 number true count tail
 
 -- they are digits of which a first zero stands alone, and another byte stands behind them
 pub record IsWhole (bytes : List ℕ) (number count : ℕ) : Type 0 where
@@ -76,10 +77,8 @@ digits-spell start bytes k within some e =
     record {
       within = within;
       digits = e;
-      read = λ tail.
-          read-all start (take k bytes) tail (taken-some bytes k some within) e
-          ∙ ap (λ (c : ℕ). read_digits 10 n true c tail) (length-take-le k bytes within)
-          ∙ ap (λ (v : Bool). read_digits 10 n v k tail) (sym (lt-ltb 0 k some));
+      some = some;
+      read = λ tail. read-all start (take k bytes) tail (taken-some bytes k some within) e ∙ ap (λ (c : ℕ). read_digits 10 n true c tail) (length-take-le k bytes within);
     }
 
 pub whole-spells : (bytes : List ℕ) (k : ℕ) → AreWhole bytes k → IsWhole bytes (number_after 0 (take k bytes)) k
@@ -95,12 +94,7 @@ stop-ends bytes k less e more =
     ap (λ (l : List ℕ). in_run (l ++ more)) (drop_more bytes k 0 less) ∙ in_run-stop (get_or bytes k 0) (drop (k + 1) bytes ++ more) e
 
 ends-at : (xs : List ℕ) (n : ℕ) → n < length xs → all_are (stays run.Number) (take n xs) ≡ true → ((more : List ℕ) → in_run (drop n xs ++ more) ≡ false) → EndBehind in_run xs n
-ends-at [] n less goes ends = absurd (omega (arith, less))
-ends-at (x ∷ xs) zero less goes ends = λ more. run-none in_run (x ∷ (xs ++ more)) (ends more)
-ends-at (x ∷ xs) (suc n) less goes ends = λ more.
-    let parts = and_parts (stays run.Number x) (all_are (stays run.Number) (take n xs)) goes in
-    run-more in_run x (xs ++ more) (stays-on run.Number x (xs ++ more) parts.0)
-    ∙ ap (λ (z : List ℕ × List ℕ). (x ∷ z.0, z.1)) (ends-at xs n (omega (arith, less)) parts.1 ends more)
+ends-at xs n less goes ends = go-end in_run xs n (all-go run.Number xs n (omega (arith, less)) goes) ends
 
 one-less : (bytes : List ℕ) (n : ℕ) → AreShown (bytes_of in_run) bytes (1 + n) → AreShown (bytes_of in_run) bytes (n + 1)
 one-less bytes n shown = let same : 1 + n ≡ n + 1 = omega arith in subst (λ (k : ℕ). AreShown (bytes_of in_run) bytes k) same shown
@@ -140,7 +134,7 @@ zero-front (b ∷ c ∷ bytes) tail (suc (suc k)) some less e f = e
 read-front : (bytes tail : List ℕ) (n k : ℕ) → IsWhole bytes n k → first_is (λ b. is_digit b || b == 95) tail ≡ false → read_whole (take k bytes ++ tail) ≡ read_digits 10 n true k tail
 read-front bytes tail n k so f =
     rw (zero-front bytes tail k so.some so.read.within so.no_zeros f)
-    (so.read.read tail ∙ ap (λ (v : Bool). read_digits 10 n v k tail) (lt-ltb 0 k so.some))
+    (so.read.read tail)
 
 abbrev made : ℕ → ℕ → List ℕ → Read
 made n k rest = record { number = n; count = k; rest = rest }
@@ -212,16 +206,15 @@ quick-int negative bytes n k so stop small spelled = record {
 
 -- ---- decimals
 
-fraction-read : (n : ℕ) (fs : List ℕ) → 0 < length fs → all_are is_digit fs ≡ true → read_fraction n fs ≡ read_digits 10 n false 0 fs
-fraction-read n [] some e = absurd (omega (arith, some))
-fraction-read n (f ∷ fs) some e = let parts = and_parts (is_digit f) (all_are is_digit fs) e in rw parts.0 refl
+fraction-on : (n : ℕ) (fs tail : List ℕ) → 0 < length fs → all_are is_digit fs ≡ true → read_fraction n (fs ++ tail) ≡ read_digits 10 n false 0 (fs ++ tail)
+fraction-on n [] tail some e = absurd (omega (arith, some))
+fraction-on n (f ∷ fs) tail some e = let parts = and_parts (is_digit f) (all_are is_digit fs) e in rw parts.0 refl
 
 fraction-is : (start : ℕ) (bytes : List ℕ) (m j : ℕ) → AreDigits start bytes m j → 0 < j → read_fraction start (take j bytes) ≡ Some (made m j [])
 fraction-is start bytes m j so some =
-    fraction-read start (take j bytes) (taken-some bytes j some so.within) so.digits
-    ∙ ap (λ (l : List ℕ). read_digits 10 start false 0 l) (sym (append-nil (take j bytes)))
+    ap (read_fraction start) (sym (append-nil (take j bytes)))
+    ∙ fraction-on start (take j bytes) [] (taken-some bytes j some so.within) so.digits
     ∙ so.read []
-    ∙ ap (λ (v : Bool). read_digits 10 m v j []) (lt-ltb 0 j some)
     ∙ read-last m j
 
 pub split-text : (bytes : List ℕ) (c k j : ℕ) → k < length bytes → get_or bytes k 0 ≡ c → take (k + 1 + j) bytes ≡ take k bytes ++ (c ∷ take j (drop (k + 1) bytes))
@@ -307,7 +300,6 @@ digits-read : (bytes : List ℕ) (m n : ℕ) → AreDigits 0 bytes m n → 0 < n
 digits-read bytes m n so some =
     ap (λ (l : List ℕ). read_digits 10 0 false 0 l) (sym (append-nil (take n bytes)))
     ∙ so.read []
-    ∙ ap (λ (v : Bool). read_digits 10 m v n []) (lt-ltb 0 n some)
     ∙ read-last m n
 
 power-read : (negative below : Bool) (bytes ys : List ℕ) (n places k m j : ℕ) (d : Decimal) → IsMantissa bytes n places k → AreDigits 0 ys m j → 0 < j
@@ -340,15 +332,10 @@ plain-mantissa bytes k so =
       read = λ power negative. mantissa-plain (take k bytes ++ (100 ∷ power)) n k (100 ∷ power) (read-front bytes (100 ∷ power) n k whole refl ∙ read-mark n k power) refl negative;
     }
 
-fraction-on : (n : ℕ) (fs tail : List ℕ) → 0 < length fs → all_are is_digit fs ≡ true → read_fraction n (fs ++ tail) ≡ read_digits 10 n false 0 (fs ++ tail)
-fraction-on n [] tail some e = absurd (omega (arith, some))
-fraction-on n (f ∷ fs) tail some e = let parts = and_parts (is_digit f) (all_are is_digit fs) e in rw parts.0 refl
-
 fraction-marked : (start : ℕ) (bytes power : List ℕ) (m j : ℕ) → AreDigits start bytes m j → 0 < j → read_fraction start (take j bytes ++ (100 ∷ power)) ≡ Some (made m j (100 ∷ power))
 fraction-marked start bytes power m j so some =
     fraction-on start (take j bytes) (100 ∷ power) (taken-some bytes j some so.within) so.digits
     ∙ so.read (100 ∷ power)
-    ∙ ap (λ (v : Bool). read_digits 10 m v j (100 ∷ power)) (lt-ltb 0 j some)
     ∙ read-mark m j power
 
 -- digits with a point among them

@@ -1,8 +1,7 @@
 -- Bytes of a slice go on with a run one after the other, whatever follows the slice.
-use Rattle.std.proofs.Common.{◌≡◌, ℕ, suc, ◌+◌, ◌<◌, ◌≤◌, Bool, true, false, not, ◌&&◌, ◌||◌, ◌==◌, List, [], ◌∷◌, ◌++◌, length, take, drop, get_or, slice_get, codes, if◌then◌else◌, None, refl, sym, ap, subst, ◌∙◌, arith}
+use Rattle.std.proofs.Common.{◌≡◌, ℕ, suc, ◌+◌, ◌<◌, ◌≤◌, Bool, true, false, not, ◌&&◌, ◌||◌, ◌==◌, List, [], ◌∷◌, ◌++◌, length, take, drop, get_or, slice_get, codes, if◌then◌else◌, None, inl, inr, refl, sym, ap, subst, ◌∙◌, arith}
 use Rattle.std.proofs.lemmas.Bool.{and_parts, not-true}
-use Rattle.std.proofs.lemmas.List.{drop_more, take_more, append_assoc, append-nil, drop-append-le, take-append-le, drop-drop, length-append, length-take-le}
-use Rattle.std.proofs.Math.Seq.{take-add}
+use Rattle.std.proofs.lemmas.List.{drop_more, take_more, append_assoc, append-nil, drop-append-le, take-append-le, length-append, length-drop, length-take-le}
 use Rattle.ion_text_in.specs.Token.{bytes_of}
 use Rattle.ion_text_in.specs.Views.{AreShown}
 use Rattle.ion_text_in.specs.Places.{run_of}
@@ -11,7 +10,7 @@ use Rattle.ion_text_in.specs.Blanks as blanks
 use Rattle.ion_text_in.specs.Blanks.{is_white, begins_comment, is_comment}
 use Rattle.ion_text_in.specs.declared.run.Run.{Run}
 use Rattle.ion_text_in.specs.declared.run.Run.TheVariants as run
-use Rattle.ion_text_in.specs.Runs.{GoOn, EndBehind, GoesOver, goes_on, stays, has_slashes, opens_comment}
+use Rattle.ion_text_in.specs.Runs.{GoOn, EndBehind, GoesOver, IsOpen, goes_on, stays, has_slashes, opens_comment}
 use Rattle.ion_text_in.proofs.Meaning.{run-more, run-none}
 
 -- bytes in front of a run
@@ -106,6 +105,11 @@ slash-on run.Number rest e = ap not (slash-comment rest)
 slash-on run.Word rest e = absurd (cc e)
 slash-on run.Operator rest e = ap not (slash-comment rest)
 
+-- it is all that a slice has which does not show whether a token goes on
+pub slash-left : (run : Run) (bytes : List ℕ) (n : ℕ) → n ≡ 0 → 1 ≤ length bytes → IsOpen run (drop n bytes) → (has_slashes run ≡ true) × (bytes ≡ 47 ∷ [])
+slash-left run bytes n none some (inl e) = let long = ap (λ (l : List ℕ). length l) e in let all = length-drop n bytes in absurd (omega (arith, long, all, none, some))
+slash-left run bytes n none some (inr e) = (e.0, ap (λ (k : ℕ). drop k bytes) (sym none) ∙ e.1)
+
 pub slash-ends : (run : Run) (slice more rest : List ℕ) → has_slashes run ≡ true → slice ≡ 47 ∷ [] → rest ≡ slice ++ more → opens_comment (slice_get rest 1) ≡ true
     → run_of (goes_on run) rest ≡ ([], rest)
 slash-ends run slice more rest slashes one e opens =
@@ -120,18 +124,7 @@ slash-stays run slice more rest slashes one e opens =
     let next : opens_comment (slice_get more 0) ≡ false = subst (λ (l : List ℕ). opens_comment (slice_get l 1) ≡ false) here opens in
     subst (λ (l : List ℕ). GoesOver (goes_on run) l 1) (sym here) (run-more (goes_on run) 47 more (slash-on run more slashes ∙ ap not next))
 
--- ---- parts that are gathered one after the other
-
-front-twice : (xs ys : List ℕ) (z : List ℕ × List ℕ) → fronted xs (fronted ys z) ≡ fronted (xs ++ ys) z
-front-twice xs ys z = ap (λ (l : List ℕ). (l, z.1)) (sym (append_assoc xs ys z.0))
-
-pub goes-then : (test : List ℕ → Bool) (rest : List ℕ) (k n : ℕ) → GoesOver test rest k → GoesOver test (drop k rest) n → GoesOver test rest (k + n)
-goes-then test rest k n first next =
-    first
-    ∙ ap (fronted (take k rest)) next
-    ∙ front-twice (take k rest) (take n (drop k rest)) (run_of test (drop n (drop k rest)))
-    ∙ ap (λ (l : List ℕ). fronted l (run_of test (drop n (drop k rest)))) (sym (take-add k n rest))
-    ∙ ap (λ (l : List ℕ). fronted (take (k + n) rest) (run_of test l)) (drop-drop n k rest)
+-- ---- how many go on
 
 -- no fewer go on
 pub goes-least : (test : List ℕ → Bool) (rest : List ℕ) (n : ℕ) → n ≤ length rest → GoesOver test rest n → n ≤ length (run_of test rest).0

@@ -1,7 +1,7 @@
 -- The token of a run, by what the run is read as.
-use Rattle.std.proofs.Common.{◌≡◌, ◌≢◌, ◌⊎◌, inl, inr, ℕ, List, Ok, Err, refl}
+use Rattle.std.proofs.Common.{◌≡◌, ◌≢◌, ℕ, List, Ok, Err, refl}
 use Rattle.ion_meter.specs.declared.fault.Reason.{Reason}
-use Rattle.ion_meter.specs.declared.fault.Reason.TheVariants.{BadToken, Range, Float}
+use Rattle.ion_meter.specs.declared.fault.Reason.TheVariants.{BadToken}
 use Rattle.ion_value.specs.declared.int.Int.{Int}
 use Rattle.ion_value.specs.declared.decimal.Decimal.{Decimal}
 use Rattle.ion_value.specs.declared.timestamp.Timestamp.{Timestamp}
@@ -17,28 +17,16 @@ pub int-token : (run : List ℕ) (i : Int) → int_of_text run ≡ Ok i → run_
 unfolding scalar_of_run
 int-token run i e = rw e refl
 
-pub int-bad : (run : List ℕ) (reason : Reason) → (reason ≡ BadToken) ⊎ (reason ≡ Range) → reason ≢ BadToken → int_of_text run ≡ Err reason → run_token run ≡ Err reason
-unfolding scalar_of_run
-int-bad run reason (inl same) other e = absurd (other same)
-int-bad run reason (inr same) other e = rw (e, same) refl
-
 pub decimal-token : (run : List ℕ) (d : Decimal) → int_of_text run ≡ Err BadToken → decimal_of_text run ≡ Ok d → run_token run ≡ Ok (plain (decimal d))
 unfolding scalar_of_run
 decimal-token run d none e = rw (none, e) refl
 
-pub decimal-bad : (run : List ℕ) (reason : Reason) → int_of_text run ≡ Err BadToken → (reason ≡ BadToken) ⊎ ((reason ≡ Float) ⊎ (reason ≡ Range)) → reason ≢ BadToken
-    → decimal_of_text run ≡ Err reason → run_token run ≡ Err reason
-unfolding scalar_of_run
-decimal-bad run reason none (inl same) other e = absurd (other same)
-decimal-bad run reason none (inr (inl same)) other e = rw (none, e, same) refl
-decimal-bad run reason none (inr (inr same)) other e = rw (none, e, same) refl
-
-pub timestamp-token : (run : List ℕ) (t : Timestamp) → int_of_text run ≡ Err BadToken → decimal_of_text run ≡ Err BadToken → timestamp_of_text run ≡ Ok t
+timestamp-token : (run : List ℕ) (t : Timestamp) → int_of_text run ≡ Err BadToken → decimal_of_text run ≡ Err BadToken → timestamp_of_text run ≡ Ok t
     → run_token run ≡ Ok (plain (timestamp t))
 unfolding scalar_of_run
 timestamp-token run t none nor e = rw (none, nor, e) refl
 
-pub timestamp-bad : (run : List ℕ) (reason : Reason) → int_of_text run ≡ Err BadToken → decimal_of_text run ≡ Err BadToken → timestamp_of_text run ≡ Err reason
+timestamp-bad : (run : List ℕ) (reason : Reason) → int_of_text run ≡ Err BadToken → decimal_of_text run ≡ Err BadToken → timestamp_of_text run ≡ Err reason
     → run_token run ≡ Err reason
 unfolding scalar_of_run
 timestamp-bad run reason none nor e = rw (none, nor, e) refl

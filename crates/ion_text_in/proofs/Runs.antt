@@ -1,6 +1,6 @@
 -- Runs of bytes at the front of a slice, and runs behind them.
 use Rattle.std.proofs.Common.{◌≡◌, ℕ, zero, suc, ◌<◌, eqb, eq-eqb, arith, sym, subst, length, ◌+◌, Bool, true, false, ◌&&◌, List, [], ◌∷◌, ◌++◌, take, drop, Option, Some, None, slice_get, get_or, refl, ap, ◌∙◌, inl, inr}
-use Rattle.std.proofs.lemmas.Bool.{cases_Bool, eqb-true, true≢false}
+use Rattle.std.proofs.lemmas.Bool.{cases_Bool, true≢false}
 use Rattle.std.specs.Option.{option_eq}
 use Rattle.std.proofs.Math.Seq.{take-add}
 use Rattle.ion_value.specs.Digits.{all_are, first_is}
@@ -22,6 +22,10 @@ pub second-byte : (bytes : List ℕ) (b c : ℕ) → slice_get bytes 0 ≡ Some 
 second-byte [] b c e f = absurd (cc e)
 second-byte (x ∷ bytes) b c e f = let same : x ≡ b = cc e in ap (λ (x : ℕ). x ∷ bytes) same ∙ ap (λ (l : List ℕ). b ∷ l) (first-byte bytes c f)
 
+pub first-off : (test : ℕ → Bool) (bytes : List ℕ) (b : ℕ) → slice_get bytes 0 ≡ Some b → first_is test bytes ≡ false → test b ≡ false
+first-off test [] b e off = absurd (cc e)
+first-off test (c ∷ bytes) b e off = let same : c ≡ b = cc e in rw same at off
+
 pub no-byte : (bytes : List ℕ) → slice_get bytes 0 ≡ None → bytes ≡ []
 no-byte [] e = refl
 no-byte (b ∷ bytes) e = absurd (cc e)
@@ -32,11 +36,7 @@ ends-shown test [] more n less ends = absurd (omega (arith, less))
 ends-shown test (b ∷ bytes) more zero less ends = ends
 ends-shown test (b ∷ bytes) more (suc n) less ends = ends-shown test bytes more n (omega (arith, less)) ends
 
--- a byte that was found is the one that was looked for
-pub found-is : (o : Option ℕ) (n : ℕ) → option_eq eqb o (Some n) ≡ true → o ≡ Some n
-found-is None n e = absurd (cc e)
-found-is (Some b) n e = ap (λ (x : ℕ). Some x) (eqb-true b n e)
-
+-- another byte than one that was found
 pub found-not : (o : Option ℕ) (n : ℕ) → option_eq eqb o (Some n) ≡ false → o ≡ Some n → ⊥
 found-not o n e is = true≢false (sym (eq-eqb n n refl) ∙ subst (λ (o : Option ℕ). option_eq eqb o (Some n) ≡ false) is e)
 

@@ -14,7 +14,7 @@ use Rattle.ion_value.proofs.SpelledDigits.{decimal-spelled, pointed-spelled, spe
 use Rattle.ion_text_in.specs.declared.quick.Quick.{Quick}
 use Rattle.ion_text_in.specs.Quick.{number_after, number_by, scaled, signed_text, stops, AreSpelled, AreWhole}
 use Rattle.ion_text_in.specs.Views.{as_number}
-use Rattle.ion_text_in.proofs.DigitNumbers.{after-joined}
+use Rattle.ion_text_in.proofs.DigitNumbers.{after-front, after-joined, cut-digits}
 
 -- ---- the number that digits spell
 
@@ -34,6 +34,13 @@ number-behind n (d ∷ ds) e =
 
 number-is : (ds : List ℕ) → all_are is_digit ds ≡ true → number_after 0 ds ≡ spelled_by ds
 number-is ds e = let behind = number-behind 0 ds e in omega (arith, behind)
+
+pub after-both : (k : ℕ) (ds : List ℕ) → all_are is_digit ds ≡ true → number_after 0 (take k ds) * 10 ^ length (drop k ds) + number_after 0 (drop k ds) ≡ number_after 0 ds
+after-both k ds e =
+    let behind = (cut-digits k ds e).1 in
+    ap (λ (m : ℕ). number_after 0 (take k ds) * 10 ^ length (drop k ds) + m) (number-is (drop k ds) behind)
+    ∙ sym (number-behind (number_after 0 (take k ds)) (drop k ds) behind)
+    ∙ after-front 0 k ds
 
 after-least : (n : ℕ) (ds : List ℕ) → n ≤ number_after n ds
 after-least n [] = omega arith

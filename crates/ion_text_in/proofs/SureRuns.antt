@@ -10,10 +10,11 @@ use Rattle.ion_value.specs.Digits.{first_is, all_are}
 use Rattle.ion_value.specs.Name.{is_identifier_byte, is_one_of}
 use Rattle.ion_text_in.specs.Blanks.{is_white, begins_comment}
 use Rattle.ion_text_in.specs.Token.{in_run, in_word}
-use Rattle.ion_text_in.specs.Runs.{GoOn, EndBehind, goes_on, stays, is_sure_in_number}
+use Rattle.ion_text_in.specs.Overrun.{IsRun}
+use Rattle.ion_text_in.specs.Runs.{GoOn, EndBehind, IsExtent, goes_on, stays, is_sure_in_number}
 use Rattle.ion_text_in.specs.declared.run.Run.{Run}
 use Rattle.ion_text_in.specs.declared.run.Run.TheVariants as run
-use Rattle.ion_text_in.proofs.Blocks.{run_passes, run_ends, run_at}
+use Rattle.ion_text_in.proofs.Blocks.{run_at}
 use Rattle.ion_text_in.proofs.Meaning.{run-more}
 use Rattle.ion_text_in.proofs.RunEnds.{go-end, stays-on}
 
@@ -25,8 +26,12 @@ fail-at p bytes size bits room short e some =
     let same = ap (count_trailing_zeros 64) e in
     (found.0 ∙ sym same, omega (arith, found.1, same, room))
 
+pub extent-ended : (kind : Run) (bytes : List ℕ) (n : ℕ) → n < length bytes → GoOn (goes_on kind) bytes n → EndBehind (goes_on kind) bytes n → IsExtent kind bytes (record { len = n; ended = true })
+extent-ended kind bytes n less goes ends =
+    record { within = omega (arith, less); behind = λ _. less; goes = goes; ends = λ _. ends; unsure = λ e. absurd (cc e) }
+
 module _ (kind : Run) where
-  all-go : (bytes : List ℕ) (n : ℕ) → n ≤ length bytes → all_are (stays kind) (take n bytes) ≡ true → GoOn (goes_on kind) bytes n
+  pub all-go : (bytes : List ℕ) (n : ℕ) → n ≤ length bytes → all_are (stays kind) (take n bytes) ≡ true → GoOn (goes_on kind) bytes n
   all-go bytes zero within e = λ more. refl
   all-go [] (suc n) within e = let no : ⊥ = omega arith in absurd no
   all-go (x ∷ bytes) (suc n) within e = λ more.
@@ -34,28 +39,16 @@ module _ (kind : Run) where
       let later = all-go bytes n (omega (arith, within)) parts.1 more in
       run-more (goes_on kind) x (bytes ++ more) (stays-on kind x (bytes ++ more) parts.0) ∙ ap (λ (r : List ℕ × List ℕ). (x ∷ r.0, r.1)) later
 
-  -- where the first stands that may not go on
-  pub stop-at : (bytes : List ℕ) (size bits : ℕ) → size ≤ length bytes → size ≤ 64 → bits ≡ mask_l (map (λ b. not (stays kind b)) (chunk 0 size bytes)) → 0 < bits
-      → (prefix_len (stays kind) bytes ≡ count_trailing_zeros 64 bits) × (count_trailing_zeros 64 bits < length bytes)
-  stop-at bytes size bits room short e some = fail-at (stays kind) bytes size bits room short e some
-
-  -- all before it go on
-  pub go-to : (bytes : List ℕ) (n : ℕ) → (prefix_len (stays kind) bytes ≡ n) × (n < length bytes) → GoOn (goes_on kind) bytes n
-  go-to bytes n at =
-      let on : all_are (stays kind) (take n bytes) ≡ true = subst (λ k. all_are (stays kind) (take k bytes) ≡ true) at.0 (run_passes (stays kind) bytes) in
-      all-go bytes n (omega (arith, at.1)) on
-
-  pub off-at : (bytes : List ℕ) (n : ℕ) → (prefix_len (stays kind) bytes ≡ n) × (n < length bytes) → first_is (stays kind) (drop n bytes) ≡ false
-  off-at bytes n at = subst (λ k. first_is (stays kind) (drop k bytes) ≡ false) at.0 (run_ends (stays kind) bytes (omega (arith, at.0, at.1)))
-
 -- and no further, where a word has none of its bytes there
 word-off : (bytes : List ℕ) (n : ℕ) → n < length bytes → first_is is_identifier_byte (drop n bytes) ≡ false → (more : List ℕ) → in_word (drop n bytes ++ more) ≡ false
 word-off [] n within e more = let no : ⊥ = omega arith in absurd no
 word-off (x ∷ bytes) zero within e more = e
 word-off (x ∷ bytes) (suc n) within e more = word-off bytes n (omega (arith, within)) e more
 
-pub word-end : (bytes : List ℕ) (n : ℕ) → (prefix_len is_identifier_byte bytes ≡ n) × (n < length bytes) → EndBehind in_word bytes n
-word-end bytes n at = go-end in_word bytes n (go-to run.Word bytes n at) (word-off bytes n at.1 (off-at run.Word bytes n at))
+pub word-extent : (bytes : List ℕ) (n : ℕ) → IsRun is_identifier_byte bytes n → n < length bytes → IsExtent run.Word bytes (record { len = n; ended = true })
+word-extent bytes n word less =
+    let goes = all-go run.Word bytes n word.within word.run in
+    extent-ended run.Word bytes n less goes (go-end in_word bytes n goes (word-off bytes n less word.ends))
 
 -- ---- numbers and timestamps
 
@@ -68,15 +61,10 @@ plain-all (x ∷ bytes) e =
     let parts = and_parts (is_sure_in_number x) (all_are is_sure_in_number bytes) e in
     rw (plain-stays x parts.0, plain-all bytes parts.1) refl
 
--- all before the first that is not plain go on
-pub plain-go : (bytes : List ℕ) (n : ℕ) → (prefix_len is_sure_in_number bytes ≡ n) × (n < length bytes) → GoOn in_run bytes n
-plain-go bytes n at =
-    let on : all_are is_sure_in_number (take n bytes) ≡ true = subst (λ k. all_are is_sure_in_number (take k bytes) ≡ true) at.0 (run_passes is_sure_in_number bytes) in
-    all-go run.Number bytes n (omega (arith, at.1)) (plain-all (take n bytes) on)
-
--- and no further, where it ends a number
-pub number-end : (bytes : List ℕ) (n : ℕ) → (prefix_len is_sure_in_number bytes ≡ n) × (n < length bytes) → (is_one_of (codes "{}[](),\"'") (get_or bytes n 0) || is_white (get_or bytes n 0)) ≡ true → EndBehind in_run bytes n
-number-end bytes n at e =
-    go-end in_run bytes n (plain-go bytes n at)
-    (λ more. subst (λ (l : List ℕ). in_run (l ++ more) ≡ false) (sym (drop_more bytes n 0 at.1))
-    (ap (λ (ends : Bool). not (ends || begins_comment (get_or bytes n 0 ∷ (drop (n + 1) bytes ++ more)))) e))
+pub number-extent : (bytes : List ℕ) (n : ℕ) → IsRun is_sure_in_number bytes n → n < length bytes → (is_one_of (codes "{}[](),\"'") (get_or bytes n 0) || is_white (get_or bytes n 0)) ≡ true
+    → IsExtent run.Number bytes (record { len = n; ended = true })
+number-extent bytes n sure less e =
+    let goes = all-go run.Number bytes n sure.within (plain-all (take n bytes) sure.run) in
+    extent-ended run.Number bytes n less goes (go-end in_run bytes n goes
+    (λ more. subst (λ (l : List ℕ). in_run (l ++ more) ≡ false) (sym (drop_more bytes n 0 less))
+    (ap (λ (ends : Bool). not (ends || begins_comment (get_or bytes n 0 ∷ (drop (n + 1) bytes ++ more)))) e)))

@@ -1,5 +1,5 @@
 -- Turns of a loop that passes over bytes in the window of a source, more of the device having been read.
-use Rattle.std.proofs.Common.{◌≡◌, ℕ, ◌+◌, ◌-◌, ◌≤◌, List, [], ◌++◌, length, take, drop, slice_get, None, Some, Ok, arith, refl, sym, ap, subst, ◌∙◌}
+use Rattle.std.proofs.Common.{◌≡◌, ℕ, ◌+◌, ◌-◌, ◌≤◌, List, [], ◌++◌, length, take, drop, None, Ok, arith, refl, sym, ap, subst, ◌∙◌}
 use Rattle.std.proofs.lemmas.List.{append_assoc, take-append-drop, length-take-le, drop-append-le, length-append, append-nil}
 use Rattle.ion_meter.specs.declared.device.Input.{Ghosts as InputOf}
 use Rattle.ion_meter.specs.Windows.{Incoming, left, lent, Extends, IsGiven, IsPassed}
@@ -9,8 +9,7 @@ use Rattle.ion_value.specs.Calls.{Reads}
 use Rattle.ion_value.proofs.Cursors.{moves-then}
 use Rattle.ion_value.proofs.Passing.{Passed-lent}
 use Rattle.ion_text_in.specs.Meaning.{at}
-use Rattle.ion_text_in.proofs.Shown.{behind_lent, lent_by-all, lent-left}
-use Rattle.ion_text_in.proofs.Runs.{first-shown}
+use Rattle.ion_text_in.proofs.Shown.{behind_lent, lent-left}
 
 -- a source that went on and has not failed
 pub record Gone {I : Type 0} (device : InputOf I) (old new : Incoming I) : Type 0 where
@@ -85,19 +84,6 @@ turn-behind device p t bytes n is fits passed =
           ∙ drop-append-le n (lent p) more there
           ∙ ap (λ (l : List ℕ). drop n l ++ more) (sym is),
     )
-
--- and the first of them, in the window
-pub turn-first : {I : Type 0} (p t : Incoming I) (bytes : List ℕ) (n b : ℕ) → bytes ≡ lent p → n ≤ length bytes → IsPassed p t n → slice_get (drop n bytes) 0 ≡ Some b
-    → slice_get t.buffered 0 ≡ Some b
-turn-first p t bytes n b is fits passed first =
-    let more : List ℕ = behind_lent p.fault (p.limit - p.place) p.buffered in
-    let there : n ≤ length (lent p) = subst (λ (l : List ℕ). n ≤ length l) is fits in
-    let same : t.buffered ≡ drop n bytes ++ more =
-    passed.buffered
-    ∙ ap (λ (l : List ℕ). drop n l) (lent_by-all p.fault (p.limit - p.place) p.buffered)
-    ∙ drop-append-le n (lent p) more there
-    ∙ ap (λ (l : List ℕ). drop n l ++ more) (sym is) in
-    ap (λ (l : List ℕ). slice_get l 0) same ∙ first-shown (drop n bytes) more b first
 
 -- what was given is given still
 pub given-kept : {I : Type 0} (device : InputOf I) (s p : Incoming I) (ahead : ℕ) → Extends device.rest device.observable s p → IsGiven s ahead → IsGiven p ahead

@@ -1,7 +1,6 @@
 -- The bytes of a word that are gathered: those up to a point, and where they are `null` the name of a type.
-use Rattle.std.proofs.Common.{◌≡◌, ◌≢◌, ℕ, suc, ◌+◌, ◌≤◌, Bool, true, false, ◌&&◌, ◌==◌, if◌then◌else◌, List, [], ◌∷◌, ◌++◌, length, take, drop, codes, slice_get, Option, Some, None, IfSome, Result, Ok, Err, refl, sym, ap, subst, ◌∙◌, arith}
+use Rattle.std.proofs.Common.{◌≡◌, ◌≢◌, ℕ, ◌≤◌, Bool, true, false, ◌&&◌, ◌==◌, if◌then◌else◌, List, [], ◌∷◌, ◌++◌, length, take, drop, codes, slice_get, Option, Some, None, IfSome, Result, Ok, Err, refl, sym, ap, subst, ◌∙◌, arith}
 use Rattle.std.proofs.lemmas.Bool.{eqb-true}
-use Rattle.std.proofs.lemmas.List.{length-append, append_assoc, drop-drop}
 use Rattle.std.specs.Str.{bytes_eq}
 use Rattle.ion_meter.specs.declared.fault.Reason.{Reason}
 use Rattle.ion_meter.specs.declared.fault.Reason.TheVariants.{ScalarLimit}
@@ -12,11 +11,11 @@ use Rattle.ion_text_in.specs.declared.run.Run.TheVariants as run
 use Rattle.ion_text_in.specs.declared.word.Word.{Word}
 use Rattle.ion_text_in.specs.declared.word.Word.TheVariants as word
 use Rattle.ion_text_in.specs.Limit.{passes}
-use Rattle.ion_text_in.specs.Meaning.{at}
 use Rattle.ion_text_in.specs.Places.{run_of}
 use Rattle.ion_text_in.specs.Token.{counted, bytes_of, in_word, with_type, word_of}
 use Rattle.ion_text_in.specs.Runs.{joined, with_run}
 use Rattle.ion_text_in.specs.Views.{spelled, is_point, with_name, word_token_of}
+use Rattle.ion_text_in.proofs.Gathered.{counted-on, joined-on}
 
 -- what is no symbol has no bytes beside it
 pub no_text : (a b : List ℕ) (w : Word) → w ≢ word.Name → word_token_of a w ≡ word_token_of b w
@@ -40,28 +39,13 @@ headed : (rest : List ℕ) → first_is (λ b. b == 46) rest ≡ true → rest �
 headed [] e = absurd (cc e)
 headed (b ∷ rest) e = ap (λ (c : ℕ). c ∷ rest) (eqb-true b 46 e)
 
-next-place : (p n : ℕ) → p + 1 + n ≡ p + suc n
-next-place p n = omega arith
-
--- a point, and the bytes behind it
-point-then : (limit : Option ℕ) (before bytes : List ℕ) (place : ℕ)
-    → with_run run.Word limit (before ++ 46 ∷ []) (at (place + 1) bytes) ≡ joined limit before (46 ∷ (run_of in_word bytes).0) (at place (46 ∷ bytes))
-point-then limit before bytes place =
-    let name : List ℕ = (run_of in_word bytes).0 in
-    let n : ℕ = length name in
-    let count : length (before ++ 46 ∷ []) + n ≡ length before + suc n = let long = length-append before (46 ∷ []) in omega (arith, long) in
-    ap (λ (k : ℕ). refuse (passes limit k) ScalarLimit >> Ok ((before ++ 46 ∷ []) ++ name, at (place + 1 + n) (drop n bytes))) count
-    ∙ ap (λ (l : List ℕ). refuse (passes limit (length before + suc n)) ScalarLimit >> Ok (l, at (place + 1 + n) (drop n bytes))) (append_assoc before (46 ∷ []) name)
-    ∙ ap (λ (p : ℕ). refuse (passes limit (length before + suc n)) ScalarLimit >> Ok (before ++ 46 ∷ name, at p (drop n bytes))) (next-place place n)
-
 pub name-gathered : (limit : Option ℕ) (before text : List ℕ) (c d : Cursor) → first_is (λ b. b == 46) c.rest ≡ true → text ≡ before ++ take 1 c.rest → d ≡ skip 1 c
     → with_run run.Word limit text d ≡ with_name limit before c
 name-gathered limit before text c d point e there =
     let head = headed c.rest point in
     ap (λ (l : List ℕ). with_run run.Word limit l d) (e ∙ ap (λ (l : List ℕ). before ++ take 1 l) head)
     ∙ ap (λ (d : Cursor). with_run run.Word limit (before ++ 46 ∷ []) d) there
-    ∙ point-then limit before (drop 1 c.rest) c.place
-    ∙ ap (λ (l : List ℕ). joined limit before (46 ∷ (run_of in_word (drop 1 c.rest)).0) (at c.place l)) (sym head)
+    ∙ sym (joined-on limit before (46 ∷ []) (run_of in_word (drop 1 c.rest)).0 c)
     ∙ ap (λ (b : Bool). if b then joined limit before (46 ∷ (run_of in_word (drop 1 c.rest)).0) c else Ok (before, c)) (sym point)
 
 -- ---- a word
@@ -108,18 +92,9 @@ null-long : (text : List ℕ) → bytes_eq (codes "null") text ≡ true → 1 �
 null-long [] e = absurd (cc e)
 null-long (b ∷ text) e = omega arith
 
-twice : (m n : ℕ) (c : Cursor) → skip (m + n) c ≡ skip n (skip m c)
-twice m n c = ap (λ (p : ℕ). at p (drop (m + n) c.rest)) (place c.place) ∙ ap (λ (l : List ℕ). at (c.place + m + n) l) (sym (drop-drop n m c.rest))
-  where
-    place : (p : ℕ) → p + (m + n) ≡ p + m + n
-    place p = omega arith
-
 name-either : (limit : Option ℕ) (text : List ℕ) (c : Cursor) (point : Bool) (name : List ℕ) → passes limit (length text) ≡ false
     → counted limit (if point then text ++ name else text) c ≡ (if point then joined limit text name (skip (length text) c) else Ok (text, skip (length text) c))
-name-either limit text c true name within =
-    let long = length-append text name in
-    ap (λ (k : ℕ). refuse (passes limit k) ScalarLimit >> Ok (text ++ name, skip k c)) long
-    ∙ ap (λ (d : Cursor). refuse (passes limit (length text + length name)) ScalarLimit >> Ok (text ++ name, d)) (twice (length text) (length name) c)
+name-either limit text c true name within = counted-on limit text name c
 name-either limit text c false name within = ap (λ (over : Bool). refuse over ScalarLimit >> Ok (text, skip (length text) c)) within
 
 -- `null`

@@ -1,5 +1,5 @@
 -- The bytes of a word, the id that it may be, and what it means.
-use Rattle.std.proofs.Common.{◌≡◌, ℕ, suc, ◌+◌, ◌-◌, ◌*◌, ◌^◌, ◌<◌, ◌≤◌, Bool, true, false, ◌&&◌, ◌||◌, ◌==◌, nat_lt, min, if◌then◌else◌, List, [], ◌∷◌, ◌++◌, length, take, drop, map, get_or, codes, Option, Some, None, Result, Ok, Err, refl, sym, ap, subst, ◌∙◌, arith}
+use Rattle.std.proofs.Common.{◌≡◌, ℕ, suc, ◌+◌, ◌-◌, ◌*◌, ◌^◌, ◌<◌, ◌≤◌, Bool, true, false, ◌&&◌, ◌||◌, ◌==◌, nat_lt, min, if◌then◌else◌, List, [], ◌∷◌, ◌++◌, length, take, drop, map, get_or, codes, Option, Some, None, Result, Ok, refl, sym, ap, subst, ◌∙◌, arith}
 use Rattle.std.proofs.lemmas.Bool.{and_parts, eqb-true, lt-ltb}
 use Rattle.std.proofs.lemmas.Bool.Decides.{nat_tests}
 use Rattle.std.proofs.lemmas.List.{take_more, length-drop, append_assoc, map-append, drop-drop}
@@ -8,15 +8,11 @@ use Rattle.std.specs.Str.{bytes_eq}
 use Rattle.ion_value.specs.Number.{number}
 use Rattle.ion_value.specs.Digits.{is_digit, digit_value, first_is, all_are}
 use Rattle.ion_meter.specs.declared.fault.Reason.{Reason}
-use Rattle.ion_meter.specs.declared.fault.Reason.TheVariants.{BadToken}
-use Rattle.ion_value.specs.declared.ion_type.IonType.{IonType}
-use Rattle.ion_value.specs.declared.ion_type.IonType.TheVariants as type
-use Rattle.ion_value.specs.Name.{raw_id, begins_with, type_named}
+use Rattle.ion_value.specs.Name.{raw_id, begins_with}
 use Rattle.ion_value.specs.Value as value
-use Rattle.ion_value.specs.Value.{null, bool}
 use Rattle.ion_value.proofs.Numbers.{number-append_one}
 use Rattle.ion_text_in.specs.Places.{run_of}
-use Rattle.ion_text_in.specs.Token.{Token, plain, name, no_number, in_word, with_type, word_of, word_token}
+use Rattle.ion_text_in.specs.Token.{Token, name, in_word, with_type, word_of, word_token}
 use Rattle.ion_text_in.specs.Views.{AreShown, may_be_keyword, id_in}
 use Rattle.ion_text_in.specs.Runs.{EndBehind}
 
@@ -104,37 +100,8 @@ word-typed slice n m some within ends typed there later =
 
 -- ---- what a word means
 
-pub null-word : (word : List ℕ) → bytes_eq (codes "null") word ≡ true → word_token word ≡ Ok (plain (null type.Null))
-unfolding word_token
-null-word word e = rw e refl
-
-pub typed-word : (word : List ℕ) (t : IonType) → bytes_eq (codes "null") word ≡ false → begins_with (codes "null.") word ≡ true → type_named (drop 5 word) ≡ Some t
-    → word_token word ≡ Ok (plain (null t))
-unfolding word_token
-typed-word word t not_null typed e = rw (not_null, typed, e) refl
-
-pub no_type-word : (word : List ℕ) → bytes_eq (codes "null") word ≡ false → begins_with (codes "null.") word ≡ true → type_named (drop 5 word) ≡ None → word_token word ≡ Err BadToken
-unfolding word_token
-no_type-word word not_null typed e = rw (not_null, typed, e) refl
-
--- neither a null
-pub true-word : (word : List ℕ) → bytes_eq (codes "null") word ≡ false → begins_with (codes "null.") word ≡ false → bytes_eq (codes "true") word ≡ true
-    → word_token word ≡ Ok (plain (bool true))
-unfolding word_token
-true-word word not_null typed e = rw (not_null, typed, e) refl
-
-pub false-word : (word : List ℕ) → bytes_eq (codes "null") word ≡ false → begins_with (codes "null.") word ≡ false → bytes_eq (codes "true") word ≡ false
-    → bytes_eq (codes "false") word ≡ true → word_token word ≡ Ok (plain (bool false))
-unfolding word_token
-false-word word not_null typed truth e = rw (not_null, typed, truth, e) refl
-
-pub nan-word : (word : List ℕ) → bytes_eq (codes "null") word ≡ false → begins_with (codes "null.") word ≡ false → bytes_eq (codes "true") word ≡ false
-    → bytes_eq (codes "false") word ≡ false → bytes_eq (codes "nan") word ≡ true → word_token word ≡ Ok no_number
-unfolding word_token
-nan-word word not_null typed truth falsity e = rw (not_null, typed, truth, falsity, e) refl
-
--- nor any other keyword
-pub other-word : (word : List ℕ) → bytes_eq (codes "null") word ≡ false → begins_with (codes "null.") word ≡ false → bytes_eq (codes "true") word ≡ false
+-- no keyword
+other-word : (word : List ℕ) → bytes_eq (codes "null") word ≡ false → begins_with (codes "null.") word ≡ false → bytes_eq (codes "true") word ≡ false
     → bytes_eq (codes "false") word ≡ false → bytes_eq (codes "nan") word ≡ false → first_is (λ b. b == 36) word ≡ false → word_token word ≡ Ok (name false (value.Text word))
 unfolding word_token
 other-word word not_null typed truth falsity nan dollar = rw (not_null, typed, truth, falsity, nan, dollar) refl

@@ -9,6 +9,7 @@ use Rattle.ion_meter.specs.Windows.{Incoming, lent, IsPassed}
 use Rattle.ion_value.specs.Parts.{refuse, ◌>>◌}
 use Rattle.ion_text_in.specs.Limit.{passes}
 use Rattle.ion_value.specs.Name.{is_identifier_byte, is_one_of, is_operator_byte}
+use Rattle.ion_text_in.specs.declared.run.Extent.{Extent}
 use Rattle.ion_text_in.specs.declared.run.Run.{Run}
 use Rattle.ion_text_in.specs.declared.run.Run.TheVariants.{Number, Word, Operator}
 use Rattle.ion_text_in.specs.Places.{run_of}
@@ -55,10 +56,13 @@ opens_comment None = false
 abbrev pub IsOpen : Run → List ℕ → Type 0
 IsOpen run rest = (rest ≡ []) ⊎ ((has_slashes run ≡ true) × (rest ≡ 47 ∷ []))
 
--- a slash that may begin a comment is all that stands there
-pub record IsAtSlash (run : Run) (rest : List ℕ) : Type 0 where
-  pub slashes : has_slashes run ≡ true
-  pub slash : rest ≡ 47 ∷ []
+-- how far a token goes on in a slice, and whether the slice shows that it goes no further
+pub record IsExtent (run : Run) (bytes : List ℕ) (extent : Extent) : Type 0 where
+  pub within : extent.len ≤ length bytes
+  pub behind : extent.ended ≡ true → extent.len < length bytes
+  pub goes : GoOn (goes_on run) bytes extent.len
+  pub ends : extent.ended ≡ true → EndBehind (goes_on run) bytes extent.len
+  pub unsure : extent.ended ≡ false → IsOpen run (drop extent.len bytes)
 
 -- so many bytes at the front of some go on
 abbrev pub GoesOver : (List ℕ → Bool) → List ℕ → ℕ → Type 0

@@ -3,11 +3,9 @@ use Rattle.std.specs.Prelude.{◌≡◌, ℕ, ◌<◌, ◌≤◌, Bool, false, �
 use Rattle.ion_meter.specs.declared.fault.Reason.{Reason}
 use Rattle.ion_meter.specs.Sources.{Cursor}
 use Rattle.ion_value.specs.Parts.{◌>>=◌}
-use Rattle.ion_value.specs.declared.ion_type.IonType.{IonType}
-use Rattle.ion_value.specs.declared.ion_type.IonType.TheVariants as type
 use Rattle.ion_value.specs.Number.{number}
 use Rattle.ion_value.specs.Digits.{is_digit, digit_value, all_are, first_is}
-use Rattle.ion_value.specs.Name.{raw_id, named_in}
+use Rattle.ion_value.specs.Name.{raw_id}
 use Rattle.ion_value.specs.Value as value
 use Rattle.ion_value.specs.Value.{Scalar, SymbolAt}
 use Rattle.ion_text_in.specs.declared.number.Number.{Number}
@@ -84,10 +82,6 @@ may_be_keyword (b ∷ bytes) = 110 == b || 116 == b || 102 == b
 -- the id that digits spell, where there are any and nothing else
 abbrev pub id_in : List ℕ → Option ℕ
 id_in digits = if nat_lt 0 (length digits) && all_are is_digit digits then Some (raw_id (number 10 (map digit_value digits))) else None
-
--- the types of texts, lobs and containers by their names
-abbrev pub text_or_container : List ℕ → Option IonType
-text_or_container name = named_in (type.String ∷ type.Clob ∷ type.Blob ∷ type.List ∷ type.Sexp ∷ type.Struct ∷ []) name
 
 -- there is a byte, and it is a point
 abbrev pub is_point : Option ℕ → Bool

@@ -1,14 +1,14 @@
 //! What stands between tokens and is passed over: white space and comments (Ion specification,
 //! "Text Encoding").
-ghost use Rattle.std.specs.Prelude.{◌≡◌, ◌≢◌, ◌+◌, ◌<◌, ◌≤◌, ℕ, [], true, false, Ok, Err, not, map, length, take, drop, slice_get, Some, OnOk, IfOk, IfSome};
+ghost use Rattle.std.specs.Prelude.{◌≡◌, ◌≢◌, ◌+◌, ◌<◌, ◌≤◌, ℕ, [], true, false, Ok, Err, not, map, length, take, drop, None, OnOk, IfOk, IfSome};
 ghost use Rattle.std.specs.Simd.Lanes.{mask_l};
-ghost use Rattle.ion_meter.specs.Windows.{left, IsGiven};
+ghost use Rattle.ion_meter.specs.Windows.{left};
 ghost use Rattle.ion_meter.specs.Sources.{cursor, Stands};
 ghost use Rattle.ion_value.specs.Calls.{Reads};
-ghost use Rattle.ion_value.specs.Digits.{first_is, all_are};
+ghost use Rattle.ion_value.specs.Digits.{first_is};
 ghost use Rattle.ion_text_in.specs.Blanks.{is_white, blanks};
 ghost use Rattle.ion_text_in.specs.Places.{behind_run};
-ghost use Rattle.ion_text_in.specs.Overrun.{is_neither, within, overrun};
+ghost use Rattle.ion_text_in.specs.Overrun.{begun, cut_at, ends_blanks, is_neither, stays_in, overrun, turned, IsRun};
 
 use ion_meter::device::Input;
 use ion_meter::fault::{Fault, Reason};
@@ -16,7 +16,7 @@ use ion_meter::source::Source;
 use std::alloc::Allocator;
 use std::simd::prelude::*;
 
-// Which comment begins at a place, if any.
+// The comment within which a byte stands, if any.
 #[derive(Clone, Copy)]
 pub(crate) enum Comment {
     // None.
@@ -65,18 +65,22 @@ fn pass_comments<I: Input, A: Allocator + Copy>(
     ensures plain { (r : Reason) (p : ℕ) → result ≢ Err (Fault.Refused r p) }
     ensures reads { Reads I.Input source.old source.new result }
 {
-    'comments: loop {
-        pass_white(source)?;
-        let start = source.place();
-        match next_comment(source)? {
-            Comment::None => return Ok(None),
-            Comment::Line => pass_line(source)?,
-            Comment::Block => {
-                if !pass_block(source)? {
-                    return Ok(Some(start));
-                }
-            }
+    let mut comment = Comment::None;
+    let mut start = source.place();
+    'blanks: loop {
+        pass_run(source, comment)?;
+        let Some(first) = source.peek(0)? else {
+            return Ok(cut_at(comment, start));
+        };
+        if ends_blanks(comment, first) {
+            return Ok(None);
         }
+        let Some((next, count)) = turn(comment, source.peek(1)?) else {
+            return Ok(None);
+        };
+        start = begun(comment, start, source.place());
+        comment = next;
+        source.consume(count);
     }
 }
 
@@ -91,120 +95,96 @@ pub(crate) fn pass_white<I: Input, A: Allocator + Copy>(
     ensures plain { (r : Reason) (p : ℕ) → result ≢ Err (Fault.Refused r p) }
     ensures reads { Reads I.Input source.old source.new result }
 {
-    'white: loop {
+    pass_run(source, Comment::None)
+}
+
+// Passes over the bytes that go on with a comment, or with white space where there is none.
+#[inline]
+fn pass_run<I: Input, A: Allocator + Copy>(
+    source: &mut Source<I, A>,
+    comment: Comment,
+) -> Result<(), Fault>
+    requires stands { Stands source.old }
+    ensures behind { I.observable source.old.device → OnOk result (cursor I.Input source.new
+        ≡ behind_run (first_is (stays_in comment)) (cursor I.Input source.old)) }
+    ensures plain { (r : Reason) (p : ℕ) → result ≢ Err (Fault.Refused r p) }
+    ensures reads { Reads I.Input source.old source.new result }
+{
+    'run: loop {
         let Some(_) = source.peek(0)? else {
             return Ok(());
         };
         let bytes = source.buffer();
-        let white = white_run(bytes);
-        let ends = white < bytes.len();
-        source.consume(white);
+        let count = run_in(comment, bytes);
+        let ends = count < bytes.len();
+        source.consume(count);
         if ends {
             return Ok(());
         }
     }
 }
 
-// Passes over the two bytes that begin a comment, where one begins here.
-fn next_comment<I: Input, A: Allocator + Copy>(source: &mut Source<I, A>) -> Result<Comment, Fault>
-    requires stands { Stands source.old }
-    ensures begins { I.observable source.old.device
-        → first_is is_white (left I.rest source.old) ≡ false
-        → IfOk result (λ comment. blanks (cursor I.Input source.old)
-        ≡ within comment source.old.place (cursor I.Input source.new)) }
-    ensures taken { IfOk result (λ comment. comment ≢ Comment.None
-        → source.new.place ≡ source.old.place + 2) }
-    ensures plain { (r : Reason) (p : ℕ) → result ≢ Err (Fault.Refused r p) }
-    ensures reads { Reads I.Input source.old source.new result }
+// How many bytes at the front of these go on with a comment, or with white space where there is
+// none.
+#[inline(always)]
+fn run_in(comment: Comment, bytes: &[u8]) -> usize
+    ensures { IsRun (stays_in comment) bytes.now result }
 {
-    if source.peek(0)? != Some(b'/') {
-        return Ok(Comment::None);
-    }
-    let second = source.peek(1)?;
-    if second == Some(b'/') {
-        source.consume(2);
-        return Ok(Comment::Line);
-    }
-    if second == Some(b'*') {
-        source.consume(2);
-        return Ok(Comment::Block);
-    }
-    Ok(Comment::None)
-}
-
-// Passes over the rest of a comment that ends with its line, and the end of the line.
-fn pass_line<I: Input, A: Allocator + Copy>(source: &mut Source<I, A>) -> Result<(), Fault>
-    requires stands { Stands source.old }
-    ensures behind { I.observable source.old.device → OnOk result
-        (within Comment.Line 0 (cursor I.Input source.old) ≡ blanks (cursor I.Input source.new)) }
-    ensures plain { (r : Reason) (p : ℕ) → result ≢ Err (Fault.Refused r p) }
-    ensures reads { Reads I.Input source.old source.new result }
-{
-    'line: loop {
-        let Some(_) = source.peek(0)? else {
-            return Ok(());
-        };
-        let bytes = source.buffer();
-        let line = run_without(b'\n', b'\r', bytes);
-        if line < bytes.len() {
-            source.consume(line + 1);
-            return Ok(());
-        }
-        source.consume(line);
+    match comment {
+        Comment::None => white_run(bytes),
+        Comment::Line => run_without(b'\n', b'\r', bytes),
+        Comment::Block => run_without(b'*', b'*', bytes),
     }
 }
 
-// Passes over the rest of a comment in a block, and its end; false where the input ends before.
-fn pass_block<I: Input, A: Allocator + Copy>(source: &mut Source<I, A>) -> Result<bool, Fault>
-    requires stands { Stands source.old }
-    ensures closed { I.observable source.old.device → result ≡ Ok true → (start : ℕ)
-        → within Comment.Block start (cursor I.Input source.old)
-        ≡ blanks (cursor I.Input source.new) }
-    ensures open { I.observable source.old.device → result ≡ Ok false → (start : ℕ)
-        → within Comment.Block start (cursor I.Input source.old)
-        ≡ overrun (Some start) (cursor I.Input source.new) }
-    ensures used_up { I.observable source.old.device → result ≡ Ok false
-        → left I.rest source.new ≡ [] }
-    ensures plain { (r : Reason) (p : ℕ) → result ≢ Err (Fault.Refused r p) }
-    ensures reads { Reads I.Input source.old source.new result }
+// Whether blanks end before this byte after such a run, whatever follows it.
+#[inline(always)]
+fn ends_blanks(comment: Comment, first: u8) -> bool
+    ensures { result ≡ ends_blanks comment first }
 {
-    'block: loop {
-        let Some(_) = source.peek(0)? else {
-            return Ok(false);
-        };
-        let bytes = source.buffer();
-        let plain = run_without(b'*', b'*', bytes);
-        let star = plain < bytes.len();
-        source.consume(plain);
-        if star {
-            if pass_star(source)? {
-                return Ok(true);
-            }
-        }
+    matches!(comment, Comment::None) && first != b'/'
+}
+
+// What the second of two bytes after such a run tells: within which comment the bytes after them
+// stand, and how many of the two to consume. None where blanks end before them.
+#[inline(always)]
+fn turn(comment: Comment, second: Option<u8>) -> Option<(Comment, usize)>
+    ensures is { result ≡ turned comment second }
+    ensures few { IfSome result (λ next. (0 < next.1) × (next.1 ≤ 2)
+        × (second ≡ None → next.1 ≡ 1)) }
+{
+    match comment {
+        Comment::None => match second {
+            Some(b'/') => Some((Comment::Line, 2)),
+            Some(b'*') => Some((Comment::Block, 2)),
+            _ => None,
+        },
+        Comment::Line => Some((Comment::None, 1)),
+        Comment::Block => match second {
+            Some(b'/') => Some((Comment::None, 2)),
+            _ => Some((Comment::Block, 1)),
+        },
     }
 }
 
-// Passes over the star that stands here, and over a slash behind it; true where there is one.
-fn pass_star<I: Input, A: Allocator + Copy>(source: &mut Source<I, A>) -> Result<bool, Fault>
-    requires stands { Stands source.old }
-    requires star { slice_get source.old.buffered 0 ≡ Some 42 }
-    requires given { IsGiven source.old 0 }
-    ensures closed { I.observable source.old.device → result ≡ Ok true → (start : ℕ)
-        → within Comment.Block start (cursor I.Input source.old)
-        ≡ blanks (cursor I.Input source.new) }
-    ensures open { I.observable source.old.device → result ≡ Ok false → (start : ℕ)
-        → within Comment.Block start (cursor I.Input source.old)
-        ≡ within Comment.Block start (cursor I.Input source.new) }
-    ensures taken { OnOk result (source.old.place < source.new.place) }
-    ensures plain { (r : Reason) (p : ℕ) → result ≢ Err (Fault.Refused r p) }
-    ensures reads { Reads I.Input source.old source.new result }
+// Where the comment begins that may go on after a place.
+fn begun(comment: Comment, start: u64, place: u64) -> u64
+    ensures { result ≡ begun comment start place }
 {
-    if source.peek(1)? == Some(b'/') {
-        source.consume(2);
-        return Ok(true);
+    match comment {
+        Comment::None => place,
+        _ => start,
     }
-    source.advance();
-    Ok(false)
+}
+
+// Where the comment begins that the end of the input cuts off.
+fn cut_at(comment: Comment, start: u64) -> Option<u64>
+    ensures { result ≡ cut_at comment start }
+{
+    match comment {
+        Comment::Block => Some(start),
+        _ => None,
+    }
 }
 
 // How many bytes are looked at together.
@@ -213,9 +193,7 @@ const BLOCK: usize = 32;
 /// How many bytes at the front of these are neither of two.
 #[inline(always)]
 pub(crate) fn run_without(first: u8, second: u8, bytes: &[u8]) -> usize
-    ensures within { result ≤ length bytes.now }
-    ensures run { all_are (is_neither first second) (take result bytes.now) ≡ true }
-    ensures ends { first_is (is_neither first second) (drop result bytes.now) ≡ false }
+    ensures { IsRun (is_neither first second) bytes.now result }
 {
     let mut at = 0;
     'skip: while bytes.len() - at >= BLOCK {
@@ -239,9 +217,7 @@ fn found(first: u8, second: u8, bytes: u8x32) -> u64
 // How many bytes at the front of these are neither of two, one after the other.
 #[inline(always)]
 fn few_without(first: u8, second: u8, bytes: &[u8]) -> usize
-    ensures within { result ≤ length bytes.now }
-    ensures run { all_are (is_neither first second) (take result bytes.now) ≡ true }
-    ensures ends { first_is (is_neither first second) (drop result bytes.now) ≡ false }
+    ensures { IsRun (is_neither first second) bytes.now result }
 {
     for (i, byte) in bytes.iter().enumerate() {
         if *byte == first || *byte == second {
@@ -257,9 +233,7 @@ const FEW: usize = 16;
 /// How many bytes at the front of these are white space.
 #[inline(always)]
 pub(crate) fn white_run(bytes: &[u8]) -> usize
-    ensures within { result ≤ length bytes.now }
-    ensures run { all_are is_white (take result bytes.now) ≡ true }
-    ensures ends { first_is is_white (drop result bytes.now) ≡ false }
+    ensures { IsRun is_white bytes.now result }
 {
     let mut at = 0;
     'skip: while bytes.len() - at >= FEW {
@@ -284,9 +258,7 @@ fn no_white(bytes: u8x16) -> u64
 // How many bytes at the front of these are white space, one after the other.
 #[inline(always)]
 fn few_white(bytes: &[u8]) -> usize
-    ensures within { result ≤ length bytes.now }
-    ensures run { all_are is_white (take result bytes.now) ≡ true }
-    ensures ends { first_is is_white (drop result bytes.now) ≡ false }
+    ensures { IsRun is_white bytes.now result }
 {
     for (i, byte) in bytes.iter().enumerate() {
         if !is_white(*byte) {

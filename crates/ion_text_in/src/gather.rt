@@ -1,14 +1,13 @@
 //! Tokens that the end of a window cuts: their bytes are gathered into a buffer.
-ghost use Rattle.std.specs.Prelude.{◌≡◌, ◌+◌, ◌≤◌, ◌<◌, ◌++◌, [], ◌*◌, ℕ, Some, Ok, Err, length, take, OnOk, OnErr, IfOk, IfErr};
+ghost use Rattle.std.specs.Prelude.{◌≡◌, ◌+◌, ◌≤◌, ◌<◌, ◌++◌, [], ◌*◌, ℕ, Some, Ok, Err, length, take, OnOk, IfOk, IfErr};
 ghost use Rattle.ion_meter.specs.Sources.{Stands};
-ghost use Rattle.ion_meter.specs.Windows.{left, lent, Extends, IsGiven};
+ghost use Rattle.ion_meter.specs.Windows.{left, lent, Extends};
 ghost use Rattle.ion_value.specs.Calls.{AnswersBy, CanRead, Reads, ReadsInto, passed_over};
-ghost use Rattle.ion_value.specs.Shares.{fault_of, GrowsWithin};
-ghost use Rattle.ion_text_in.specs.Gathered.{CanGrow, Grown};
+ghost use Rattle.ion_value.specs.Shares.{GrowsWithin};
 ghost use Rattle.ion_text_in.specs.Places.{run_of};
 ghost use Rattle.ion_text_in.specs.Token.{bytes_of};
 ghost use Rattle.ion_text_in.specs.Views.{spelled};
-ghost use Rattle.ion_text_in.specs.Runs.{goes_on, opens_comment, GoesOver, IsAtSlash, with_run, CanAppend, IsAppended, IsOver};
+ghost use Rattle.ion_text_in.specs.Runs.{goes_on, opens_comment, GoesOver, with_run, CanAppend, IsAppended, IsOver};
 
 use crate::run::{Run, run_extent};
 use ion_meter::buf::Buf;
@@ -50,39 +49,6 @@ pub(crate) fn append<I: Input, A: Allocator + Copy>(
     Ok(())
 }
 
-// How many bytes are copied together.
-const BLOCK: usize = 32;
-
-// Puts the first `count` bytes behind a text. A few are copied as a whole block and the text is cut:
-// a copy of a known length takes no call.
-#[inline(always)]
-fn put_front<A: Allocator + Copy>(
-    text: &mut Buf<A>,
-    bytes: &[u8],
-    count: usize,
-    limits: Limits,
-    meter: &mut Meter<A>,
-) -> Result<(), Fault>
-    requires can_grow { CanGrow limits text.old meter.old }
-    requires there { count ≤ length bytes.now }
-    requires small { length text.old + count ≤ limits.scalar }
-    ensures puts { OnOk result (text.new ≡ text.old ++ take count bytes.now) }
-    ensures memory { IfErr result (λ f. f ≡ Fault.Memory) }
-    ensures grown { Grown meter.old meter.new (length text.old) (length text.new) limits.scalar
-        (fault_of result) }
-    ensures goes { GrowsWithin meter.old meter.new (length text.old) (length text.new) count }
-    ensures still { OnErr result (GrowsWithin meter.old meter.new
-        (length text.old) (length text.new) 0) }
-{
-    let len = text.as_slice().len();
-    if count <= BLOCK && BLOCK <= bytes.len() && (len + BLOCK) as u64 <= limits.scalar {
-        text.extend(meter, &bytes[..BLOCK])?;
-        text.truncate(meter, len + count);
-        return Ok(());
-    }
-    text.extend(meter, &bytes[..count])
-}
-
 /// Makes so many bytes of the window the text, and passes over them.
 #[inline(always)]
 pub(crate) fn copy<I: Input, A: Allocator + Copy>(
@@ -103,13 +69,13 @@ pub(crate) fn copy<I: Input, A: Allocator + Copy>(
         (8 * passed_over source.old source.new) }
 {
     text.clear(meter);
-    put_front(text, source.buffer(), count, limits, meter)?;
+    text.extend(meter, &source.buffer()[..count])?;
     source.consume(count);
     Ok(())
 }
 
-// How many bytes of the window go on with a token, where some are read if there are none yet; 0
-// where the token ends.
+// How many bytes of the window go on with a token, where some are read if there are none yet, and
+// where a slash that may begin a comment is the last; 0 where the token ends.
 fn next_part<I: Input, A: Allocator + Copy>(
     source: &mut Source<I, A>,
     run: Run,
@@ -118,9 +84,9 @@ fn next_part<I: Input, A: Allocator + Copy>(
     ensures kept { Extends I.rest I.observable source.old source.new }
     ensures there { IfOk result (λ n. n ≤ length (lent source.new)) }
     ensures goes { I.observable source.old.device
-        → IfOk result (GoesOver (goes_on run) (left I.rest source.old)) }
+        → IfOk result (GoesOver (goes_on run) (left I.rest source.new)) }
     ensures ends { I.observable source.old.device → result ≡ Ok 0
-        → run_of (goes_on run) (left I.rest source.old) ≡ ([], left I.rest source.old) }
+        → run_of (goes_on run) (left I.rest source.new) ≡ ([], left I.rest source.new) }
     ensures plain { (reason : Reason) (at : ℕ) → result ≡ Err (Fault.Refused reason at) → ⊥ }
     ensures reads { Reads I.Input source.old source.new result }
 {
@@ -131,22 +97,6 @@ fn next_part<I: Input, A: Allocator + Copy>(
     if extent.ended || extent.len > 0 {
         return Ok(extent.len);
     }
-    slash(source, run)
-}
-
-// How many bytes go on with a token at a slash that is the last byte of the window.
-fn slash<I: Input, A: Allocator + Copy>(source: &mut Source<I, A>, run: Run) -> Result<usize, Fault>
-    requires stands { Stands source.old }
-    requires at_slash { IsAtSlash run (lent source.old) }
-    ensures kept { Extends I.rest I.observable source.old source.new }
-    ensures there { IfOk result (λ n. n ≤ length (lent source.new)) }
-    ensures goes { I.observable source.old.device
-        → IfOk result (GoesOver (goes_on run) (left I.rest source.old)) }
-    ensures ends { I.observable source.old.device → result ≡ Ok 0
-        → run_of (goes_on run) (left I.rest source.old) ≡ ([], left I.rest source.old) }
-    ensures plain { (reason : Reason) (at : ℕ) → result ≡ Err (Fault.Refused reason at) → ⊥ }
-    ensures reads { Reads I.Input source.old source.new result }
-{
     if opens_comment(source.peek(1)?) {
         return Ok(0);
     }

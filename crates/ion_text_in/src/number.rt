@@ -1,7 +1,5 @@
 //! Numbers and timestamps (Ion specification, "Text Encoding").
 ghost use Rattle.std.specs.Prelude.{◌≡◌, ◌≤◌, ◌<◌, ◌*◌, Some, Ok, Err, length, IfOk, MatchResult, OnOk};
-ghost use Rattle.ion_value.specs.Decimal.{decimal_of_text};
-ghost use Rattle.ion_value.specs.Int.{int_of_text};
 ghost use Rattle.ion_meter.specs.Windows.{lent};
 ghost use Rattle.ion_value.specs.Calls.{AnswersBy, CanRead, ReadsInto, passed_over};
 ghost use Rattle.ion_value.specs.Standing.{InRange};
@@ -118,6 +116,7 @@ fn gather_number<I: Input, A: Allocator + Copy>(
 }
 
 // The number or timestamp of a run.
+#[tactic(auto, unfolding(ion_value::specs::Scalar::scalar_of_run))]
 #[inline(always)]
 fn number_of(run: &[u8]) -> Result<Number, Reason>
     ensures gives { MatchResult result (λ x. run_token run.now ≡ Ok (number_token x))
@@ -134,39 +133,18 @@ fn number_of(run: &[u8]) -> Result<Number, Reason>
         }
     }
     match int_from_text(run) {
-        Ok(int) => Ok(Number::Int(int)),
+        Ok(int) => return Ok(Number::Int(int)),
         Err(reason) => match reason {
-            Reason::BadToken => no_int(run),
-            _ => Err(reason),
+            Reason::BadToken => {}
+            _ => return Err(reason),
         },
     }
-}
-
-// The decimal or timestamp of a run that is no int.
-#[inline(always)]
-fn no_int(run: &[u8]) -> Result<Number, Reason>
-    requires { int_of_text run.now ≡ Err Reason.BadToken }
-    ensures gives { MatchResult result (λ x. run_token run.now ≡ Ok (number_token x))
-        (λ reason. run_token run.now ≡ Err reason) }
-    ensures range { IfOk result (λ x. InRange (as_number x)) }
-{
     match decimal_from_text(run) {
-        Ok(decimal) => Ok(Number::Decimal(decimal)),
+        Ok(decimal) => return Ok(Number::Decimal(decimal)),
         Err(reason) => match reason {
-            Reason::BadToken => no_number(run),
-            _ => Err(reason),
+            Reason::BadToken => {}
+            _ => return Err(reason),
         },
     }
-}
-
-// The timestamp of a run that is neither an int nor a decimal.
-#[inline]
-fn no_number(run: &[u8]) -> Result<Number, Reason>
-    requires no_int { int_of_text run.now ≡ Err Reason.BadToken }
-    requires no_decimal { decimal_of_text run.now ≡ Err Reason.BadToken }
-    ensures gives { MatchResult result (λ x. run_token run.now ≡ Ok (number_token x))
-        (λ reason. run_token run.now ≡ Err reason) }
-    ensures range { IfOk result (λ x. InRange (as_number x)) }
-{
     Ok(Number::Timestamp(timestamp_from_text(run)?))
 }

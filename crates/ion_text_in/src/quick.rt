@@ -5,6 +5,7 @@ ghost use Rattle.std.specs.Simd.Lanes.{mask_l};
 ghost use Rattle.ion_value.specs.Digits.{all_are, first_is, is_digit};
 ghost use Rattle.ion_value.specs.Number.{signed};
 ghost use Rattle.ion_value.specs.Standing.{InRange};
+ghost use Rattle.ion_text_in.specs.Overrun.{IsRun};
 ghost use Rattle.ion_text_in.specs.Quick.{as_quick, number_after, scaled, signed_int, signed_text, stops, AreSpelled, AreWhole, IsMantissa, IsQuick};
 ghost use Rattle.ion_text_in.specs.declared.scanned.Scanned.TheVariants.{Whole};
 ghost use Rattle.ion_text_in.specs.Scanners.{Shows};
@@ -287,13 +288,9 @@ fn wide_number(digits: &[u8]) -> u128
     requires many { 19 ≤ length digits.now }
     ensures { result ≡ number_after 0 digits.now }
 {
-    let mut number = number_after(0, &digits[..NARROW]) as u128;
-    let mut rest = &digits[NARROW..];
-    while let [digit, others @ ..] = rest {
-        number = number * 10 + u128::from(*digit - b'0');
-        rest = others;
-    }
-    number
+    let front = number_after(0, &digits[..NARROW]);
+    let rest = &digits[NARROW..];
+    front as u128 * 10_u128.pow(rest.len() as u32) + number_after(0, rest) as u128
 }
 
 // The number that these digits spell behind another: read by fours, and then those that are left.
@@ -358,8 +355,7 @@ const BLOCK: usize = 16;
 // shows where their digits end.
 #[inline(always)]
 fn digit_run(bytes: &[u8]) -> usize
-    ensures within { result ≤ length bytes.now }
-    ensures digits { all_are is_digit (take result bytes.now) ≡ true }
+    ensures { IsRun is_digit bytes.now result }
 {
     if bytes.len() >= BLOCK {
         let others = no_digits(u8x16::from_slice(bytes));
@@ -373,8 +369,7 @@ fn digit_run(bytes: &[u8]) -> usize
 // How many digits stand at the front of these bytes, block by block.
 #[inline(always)]
 fn many_digits(bytes: &[u8]) -> usize
-    ensures within { result ≤ length bytes.now }
-    ensures digits { all_are is_digit (take result bytes.now) ≡ true }
+    ensures { IsRun is_digit bytes.now result }
 {
     let mut at = 0;
     'skip: while bytes.len() - at >= BLOCK {
@@ -398,8 +393,7 @@ fn no_digits(bytes: u8x16) -> u64
 // How many digits stand at the front of these bytes, one after the other.
 #[inline(always)]
 fn few_digits(bytes: &[u8]) -> usize
-    ensures within { result ≤ length bytes.now }
-    ensures digits { all_are is_digit (take result bytes.now) ≡ true }
+    ensures { IsRun is_digit bytes.now result }
 {
     for (i, byte) in bytes.iter().enumerate() {
         if !byte.is_ascii_digit() {

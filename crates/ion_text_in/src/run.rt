@@ -1,12 +1,12 @@
 //! How far numbers, timestamps, words and operators go (Ion specification, "Text Encoding").
-ghost use Rattle.std.specs.Prelude.{◌≡◌, ◌<◌, ◌≤◌, ℕ, List, ◌++◌, ◌||◌, true, false, not, codes, map, length, drop, IfSome, MatchOption};
+ghost use Rattle.std.specs.Prelude.{◌≡◌, ℕ, List, ◌++◌, ◌||◌, false, not, codes, map, IfSome, MatchOption};
 ghost use Rattle.std.specs.Simd.Lanes.{mask_l};
 ghost use Rattle.ion_value.specs.Digits.{first_is};
 ghost use Rattle.ion_value.specs.Name.{is_identifier_byte, is_one_of, is_operator_byte};
 ghost use Rattle.ion_text_in.specs.Blanks.{is_white};
 ghost use Rattle.ion_text_in.specs.Token.{bytes_of};
 ghost use Rattle.ion_text_in.specs.Views.{AreShown};
-ghost use Rattle.ion_text_in.specs.Runs.{goes_on, stays, is_sure_in_number, has_slashes, GoOn, EndBehind, IsOpen};
+ghost use Rattle.ion_text_in.specs.Runs.{goes_on, stays, is_sure_in_number, has_slashes, IsExtent, IsOpen};
 
 use ion_value::name::is_identifier_byte;
 use std::simd::prelude::*;
@@ -35,11 +35,7 @@ pub(crate) struct Extent {
 /// How far a token goes on in a slice that begins behind the first byte of the token.
 #[inline(always)]
 pub(crate) fn run_extent(run: Run, bytes: &[u8]) -> Extent
-    ensures within { result.len ≤ length bytes.now }
-    ensures behind { result.ended ≡ true → result.len < length bytes.now }
-    ensures goes { GoOn (goes_on run) bytes.now result.len }
-    ensures ends { result.ended ≡ true → EndBehind (goes_on run) bytes.now result.len }
-    ensures open { result.ended ≡ false → IsOpen run (drop result.len bytes.now) }
+    ensures { IsExtent run bytes.now result }
 {
     match run {
         Run::Number => number_run(bytes),
@@ -51,11 +47,7 @@ pub(crate) fn run_extent(run: Run, bytes: &[u8]) -> Extent
 // How far a token goes on in a slice, looked at byte by byte.
 #[inline(always)]
 fn run_by_byte(run: Run, bytes: &[u8]) -> Extent
-    ensures within { result.len ≤ length bytes.now }
-    ensures behind { result.ended ≡ true → result.len < length bytes.now }
-    ensures goes { GoOn (goes_on run) bytes.now result.len }
-    ensures ends { result.ended ≡ true → EndBehind (goes_on run) bytes.now result.len }
-    ensures open { result.ended ≡ false → IsOpen run (drop result.len bytes.now) }
+    ensures { IsExtent run bytes.now result }
 {
     'bytes: for (i, byte) in bytes.iter().enumerate() {
         if stays(run, *byte) {
@@ -74,11 +66,7 @@ fn run_by_byte(run: Run, bytes: &[u8]) -> Extent
 /// that sixteen bytes, looked at together, show where they end; others are looked at byte by byte.
 #[inline(always)]
 pub(crate) fn word_run(bytes: &[u8]) -> Extent
-    ensures within { result.len ≤ length bytes.now }
-    ensures behind { result.ended ≡ true → result.len < length bytes.now }
-    ensures goes { GoOn (goes_on Run.Word) bytes.now result.len }
-    ensures ends { result.ended ≡ true → EndBehind (goes_on Run.Word) bytes.now result.len }
-    ensures open { result.ended ≡ false → IsOpen Run.Word (drop result.len bytes.now) }
+    ensures { IsExtent Run.Word bytes.now result }
 {
     if bytes.len() >= 16 {
         let others = others(u8x16::from_slice(bytes));
@@ -106,11 +94,7 @@ fn others(bytes: u8x16) -> u64
 // that may end them or not, are looked at byte by byte.
 #[inline(always)]
 fn number_run(bytes: &[u8]) -> Extent
-    ensures within { result.len ≤ length bytes.now }
-    ensures behind { result.ended ≡ true → result.len < length bytes.now }
-    ensures goes { GoOn (goes_on Run.Number) bytes.now result.len }
-    ensures ends { result.ended ≡ true → EndBehind (goes_on Run.Number) bytes.now result.len }
-    ensures open { result.ended ≡ false → IsOpen Run.Number (drop result.len bytes.now) }
+    ensures { IsExtent Run.Number bytes.now result }
 {
     if bytes.len() >= 32 {
         let stops = number_stops(u8x32::from_slice(bytes));
@@ -139,8 +123,10 @@ fn number_stops(bytes: u8x32) -> u64
 // So many bytes go on, and no more, where that is known.
 #[inline(always)]
 fn so_far(len: usize, ended: bool) -> Extent
-    ensures len { result.len ≡ len }
-    ensures ended { result.ended ≡ ended }
+    ensures { result ≡ record {
+      len = len;
+      ended = ended;
+    } }
 {
     Extent { len, ended }
 }
@@ -159,18 +145,6 @@ pub(crate) fn token_extent(run: Run, bytes: &[u8]) -> Option<usize>
     }
     Some(1 + extent.len)
 }
-
-// Which bytes go on with a number or a timestamp, whatever follows them.
-static NUMBER_BYTES: [u8; 256] = [
-    1, 1, 1, 1, 1, 1, 1, 1, 1, 0, 0, 0, 0, 0, 1, 1, 1, 1, 1, 1, 1, 1, 1, 1, 1, 1, 1, 1, 1, 1, 1, 1,
-    0, 1, 0, 1, 1, 1, 1, 0, 0, 0, 1, 1, 0, 1, 1, 0, 1, 1, 1, 1, 1, 1, 1, 1, 1, 1, 1, 1, 1, 1, 1, 1,
-    1, 1, 1, 1, 1, 1, 1, 1, 1, 1, 1, 1, 1, 1, 1, 1, 1, 1, 1, 1, 1, 1, 1, 1, 1, 1, 1, 0, 1, 0, 1, 1,
-    1, 1, 1, 1, 1, 1, 1, 1, 1, 1, 1, 1, 1, 1, 1, 1, 1, 1, 1, 1, 1, 1, 1, 1, 1, 1, 1, 0, 1, 0, 1, 1,
-    1, 1, 1, 1, 1, 1, 1, 1, 1, 1, 1, 1, 1, 1, 1, 1, 1, 1, 1, 1, 1, 1, 1, 1, 1, 1, 1, 1, 1, 1, 1, 1,
-    1, 1, 1, 1, 1, 1, 1, 1, 1, 1, 1, 1, 1, 1, 1, 1, 1, 1, 1, 1, 1, 1, 1, 1, 1, 1, 1, 1, 1, 1, 1, 1,
-    1, 1, 1, 1, 1, 1, 1, 1, 1, 1, 1, 1, 1, 1, 1, 1, 1, 1, 1, 1, 1, 1, 1, 1, 1, 1, 1, 1, 1, 1, 1, 1,
-    1, 1, 1, 1, 1, 1, 1, 1, 1, 1, 1, 1, 1, 1, 1, 1, 1, 1, 1, 1, 1, 1, 1, 1, 1, 1, 1, 1, 1, 1, 1, 1,
-];
 
 // Which bytes end a number or a timestamp, whatever follows them.
 static NUMBER_ENDS: [u8; 256] = [
@@ -196,21 +170,13 @@ static OPERATOR_BYTES: [u8; 256] = [
     0, 0, 0, 0, 0, 0, 0, 0, 0, 0, 0, 0, 0, 0, 0, 0, 0, 0, 0, 0, 0, 0, 0, 0, 0, 0, 0, 0, 0, 0, 0, 0,
 ];
 
-// Whether a byte goes on with a number or a timestamp, whatever follows it.
-#[inline(always)]
-fn is_number_byte(byte: u8) -> bool
-    ensures { result ≡ stays Run.Number byte }
-{
-    NUMBER_BYTES[byte as usize] > 0
-}
-
 // Whether a byte goes on with a token, whatever follows it.
 #[inline(always)]
 fn stays(run: Run, byte: u8) -> bool
     ensures { result ≡ stays run byte }
 {
     match run {
-        Run::Number => is_number_byte(byte),
+        Run::Number => !stops_number(byte) && byte != b'/',
         Run::Word => is_identifier_byte(byte),
         Run::Operator => is_operator_byte(byte) && byte != b'/',
     }

@@ -11,7 +11,7 @@ ghost use Rattle.ion_text_in.specs.Token.{a_word, token_of, word_of, word_token}
 ghost use Rattle.ion_text_in.specs.Feeding.{IfName, IsBegun, IsSimpleWord};
 ghost use Rattle.ion_value.specs.Shares.{GrowsWithin};
 ghost use Rattle.ion_text_in.specs.Symbols.{prepaid_word};
-ghost use Rattle.ion_text_in.specs.Views.{AreShown, IsWithin, id_in, is_point, may_be_keyword, shown_text, spelled, with_name, text_or_container, word_token_of};
+ghost use Rattle.ion_text_in.specs.Views.{AreShown, IsWithin, id_in, is_point, may_be_keyword, shown_text, spelled, with_name, word_token_of};
 
 use crate::gather::{append, copy, gather, gather_token};
 use crate::run::{Run, word_run};
@@ -201,10 +201,10 @@ pub(crate) fn next_word<I: Input, A: Allocator + Copy>(
 {
     match scan_word(limits.scalar, source.buffer()) {
         Scanned::Whole(word, count) => match word {
-            Word::Name => match copy(source, text, count, limits, meter) {
-                Ok(()) => Ok(Word::Name),
-                Err(fault) => Err(fault),
-            },
+            Word::Name => {
+                copy(source, text, count, limits, meter)?;
+                Ok(Word::Name)
+            }
             _ => {
                 source.consume(count);
                 Ok(word)
@@ -237,9 +237,7 @@ fn gather_word<I: Input, A: Allocator + Copy>(
         (λ word. prepaid_word text.new word ≤ 8 * passed_over source.old source.new) }
 {
     let place = source.place();
-    if let Err(fault) = gather_typed(source, text, limits, meter) {
-        return Err(fault);
-    }
+    gather_typed(source, text, limits, meter)?;
     match word_by(text.as_slice()) {
         Ok(word) => Ok(word),
         Err(reason) => Err(Fault::Refused(reason, place)),
@@ -265,9 +263,7 @@ fn gather_typed<I: Input, A: Allocator + Copy>(
     ensures fresh { OnOk result (length text.new ≤ 8 * passed_over source.old source.new) }
 {
     let place = source.place();
-    if let Err(fault) = gather_token(source, text, Run::Word, limits, meter) {
-        return Err(fault);
-    }
+    gather_token(source, text, Run::Word, limits, meter)?;
     if !is_text(text.as_slice(), b"null") {
         return Ok(());
     }
@@ -290,16 +286,10 @@ fn gather_type<I: Input, A: Allocator + Copy>(
     ensures goes { GrowsWithin meter.old meter.new (length text.old) (length text.new)
         (8 * passed_over source.old source.new) }
 {
-    let next = match source.peek(0) {
-        Err(fault) => return Err(fault),
-        Ok(next) => next,
-    };
-    if !is_point(next) {
+    if !is_point(source.peek(0)?) {
         return Ok(());
     }
-    if let Err(fault) = append(source, text, 1, limits, place, meter) {
-        return Err(fault);
-    }
+    append(source, text, 1, limits, place, meter)?;
     gather(source, text, Run::Word, limits, place, meter)
 }
 
@@ -384,6 +374,7 @@ fn has_dollar(word: &[u8]) -> bool
 }
 
 // What a word is that begins as a keyword does.
+#[tactic(auto, unfolding(crate::specs::Token::word_token))]
 #[inline(always)]
 fn keyword_or_name(word: &[u8]) -> Result<Word, Reason>
     requires { first_is (λ b. b == 36) word.now ≡ false }
@@ -394,10 +385,10 @@ fn keyword_or_name(word: &[u8]) -> Result<Word, Reason>
         return Ok(Word::Null(IonType::Null));
     }
     if is_typed_null(word) {
-        return match type_named(&word[5..]) {
-            Some(ion_type) => Ok(Word::Null(ion_type)),
-            None => Err(Reason::BadToken),
+        let Some(ion_type) = type_named(&word[5..]) else {
+            return Err(Reason::BadToken);
         };
+        return Ok(Word::Null(ion_type));
     }
     if is_true(word) {
         return Ok(Word::Bool(true));
@@ -424,52 +415,34 @@ fn type_named(name: &[u8]) -> Option<IonType>
     ensures { result ≡ type_named name.now }
 {
     if is_text(name, b"null") {
-        return Some(IonType::Null);
+        Some(IonType::Null)
+    } else if is_text(name, b"bool") {
+        Some(IonType::Bool)
+    } else if is_text(name, b"int") {
+        Some(IonType::Int)
+    } else if is_text(name, b"float") {
+        Some(IonType::Float)
+    } else if is_text(name, b"decimal") {
+        Some(IonType::Decimal)
+    } else if is_text(name, b"timestamp") {
+        Some(IonType::Timestamp)
+    } else if is_text(name, b"symbol") {
+        Some(IonType::Symbol)
+    } else if is_text(name, b"string") {
+        Some(IonType::String)
+    } else if is_text(name, b"clob") {
+        Some(IonType::Clob)
+    } else if is_text(name, b"blob") {
+        Some(IonType::Blob)
+    } else if is_text(name, b"list") {
+        Some(IonType::List)
+    } else if is_text(name, b"sexp") {
+        Some(IonType::Sexp)
+    } else if is_text(name, b"struct") {
+        Some(IonType::Struct)
+    } else {
+        None
     }
-    if is_text(name, b"bool") {
-        return Some(IonType::Bool);
-    }
-    if is_text(name, b"int") {
-        return Some(IonType::Int);
-    }
-    if is_text(name, b"float") {
-        return Some(IonType::Float);
-    }
-    if is_text(name, b"decimal") {
-        return Some(IonType::Decimal);
-    }
-    if is_text(name, b"timestamp") {
-        return Some(IonType::Timestamp);
-    }
-    if is_text(name, b"symbol") {
-        return Some(IonType::Symbol);
-    }
-    text_or_container(name)
-}
-
-// The type of a name that is that of a text, a lob or a container.
-fn text_or_container(name: &[u8]) -> Option<IonType>
-    ensures { result ≡ text_or_container name.now }
-{
-    if is_text(name, b"string") {
-        return Some(IonType::String);
-    }
-    if is_text(name, b"clob") {
-        return Some(IonType::Clob);
-    }
-    if is_text(name, b"blob") {
-        return Some(IonType::Blob);
-    }
-    if is_text(name, b"list") {
-        return Some(IonType::List);
-    }
-    if is_text(name, b"sexp") {
-        return Some(IonType::Sexp);
-    }
-    if is_text(name, b"struct") {
-        return Some(IonType::Struct);
-    }
-    None
 }
 
 // The id or symbol of a word that begins with a dollar sign.

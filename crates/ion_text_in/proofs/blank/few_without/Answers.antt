@@ -4,6 +4,3 @@ use Rattle.ion_text_in.proofs.blank.few_without.Goals as goal
 
 pub loop-i-preserved : goal.loop-i-preserved
 loop-i-preserved c = grind (arith, common_steps) steps 400000
-
-pub returns-then-byte-first-clause-ends : goal.returns-then-byte-first-clause-ends
-returns-then-byte-first-clause-ends c = grind (arith, common_steps)

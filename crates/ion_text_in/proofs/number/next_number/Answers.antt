@@ -1,7 +1,5 @@
-use Rattle.std.proofs.Common.{Some, List, ℕ, subst, arith}
+use Rattle.std.proofs.Common.{Some, arith}
 use Rattle.std.proofs.lemmas.Grind.{common_steps}
-use Rattle.ion_text_in.specs.declared.scanned.Scanned.TheVariants as scanned
-use Rattle.ion_text_in.specs.Scanners.{Shows}
 use Rattle.ion_text_in.specs.Token.{a_run, token_of}
 use Rattle.ion_text_in.specs.Views.{number_token}
 use Rattle.ion_text_in.proofs.Shown.{shown-whole, shown-fault}
@@ -10,21 +8,15 @@ use Rattle.ion_text_in.proofs.number.next_number.Goals as goal
 
 pub returns-in-Whole-clause-gives : goal.returns-in-Whole-clause-gives
 returns-in-Whole-clause-gives g c = λ h.
-    let reading = token_of (Some c.args.limits.scalar) a_run in
-    let shows = subst (λ (l : List ℕ). Shows number_token l (scanned.Whole c.in-Whole.number c.in-Whole.count) reading) c.buffer.ensures c.in-Whole.ensures.shows in
-    shown-whole g.I.Input number_token c.args.source.now c.consume.new.self c.in-Whole.number c.in-Whole.count reading shows c.consume.ensures
+    shown-whole g.I.Input number_token c.args.source.now c.consume.new.self c.in-Whole.number c.in-Whole.count (token_of (Some c.args.limits.scalar) a_run) (rw c.buffer.ensures at c.in-Whole.ensures.shows) c.consume.ensures
 
 pub returns-in-Fault-clause-gives : goal.returns-in-Fault-clause-gives
 returns-in-Fault-clause-gives g c = λ h.
-    let reading = token_of (Some c.args.limits.scalar) a_run in
-    let shows = subst (λ (l : List ℕ). Shows number_token l (scanned.Fault c.in-Fault.reason) reading) c.buffer.ensures c.in-Fault.ensures.shows in
-    (shown-fault g.I.Input number_token c.args.source.now c.in-Fault.reason reading shows, c.place.ensures)
+    (shown-fault g.I.Input number_token c.args.source.now c.in-Fault.reason (token_of (Some c.args.limits.scalar) a_run) (rw c.buffer.ensures at c.in-Fault.ensures.shows), c.place.ensures)
 
 pub returns-in-Whole-clause-further : goal.returns-in-Whole-clause-further
 returns-in-Whole-clause-further g c =
-    let reading = token_of (Some c.args.limits.scalar) a_run in
-    let shows = subst (λ (l : List ℕ). Shows number_token l (scanned.Whole c.in-Whole.number c.in-Whole.count) reading) c.buffer.ensures c.in-Whole.ensures.shows in
-    shown-further number_token c.args.source.now c.consume.new.self c.in-Whole.number c.in-Whole.count (Some c.args.limits.scalar) a_run shows c.requires.there c.consume.ensures
+    shown-further number_token c.args.source.now c.consume.new.self c.in-Whole.number c.in-Whole.count (Some c.args.limits.scalar) a_run (rw c.buffer.ensures at c.in-Whole.ensures.shows) c.requires.there c.consume.ensures
 
 pub returns-in-Whole-clause-reads : goal.returns-in-Whole-clause-reads
 returns-in-Whole-clause-reads g c = grind (arith, common_steps) steps 400000

@@ -5,7 +5,7 @@ use Rattle.ion_text_in.proofs.quick.many_digits.Given as goal
 abbrev pub invariant-skip : goal.invariant-skip
 invariant-skip l = record {
   within : l.at ≤ length l.bytes;
-  digits : all_are is_digit (take l.at l.bytes) ≡ true;
+  run : all_are is_digit (take l.at l.bytes) ≡ true;
 }
 
 abbrev pub decreases-skip : goal.decreases-skip

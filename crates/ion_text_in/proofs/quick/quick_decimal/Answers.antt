@@ -30,9 +30,9 @@ returns-then-stops_number c =
     let is : c.number_after-coefficient.result ≡ number_after n (take places fraction)
     = c.number_after-coefficient.ensures ∙ ap₂ number_after c.number_after-whole.ensures (ap (take places) rest) in
     let within = rw rest at c.digit_run-places.ensures.within in
-    let behind = digits-spell n fraction places within (omega arith) (rw rest at c.digit_run-places.ensures.digits) in
+    let behind = digits-spell n fraction places within (omega arith) (rw rest at c.digit_run-places.ensures.run) in
     let stop = sym c.stops_number.ensures ∙ c.if-stops_number.true in
-    let spelled = pointed-is c.args.negative digits (take (count + 1 + places) digits) count places c.requires.whole (omega arith) within (rw rest at c.digit_run-places.ensures.digits)
+    let spelled = pointed-is c.args.negative digits (take (count + 1 + places) digits) count places c.requires.whole (omega arith) within (rw rest at c.digit_run-places.ensures.run)
     (omega (arith, c.if-count-places-gt-NARROW.false)) (split-text digits 46 count places c.requires.whole.within c.requires.point) in
     let quick = quick-decimal c.args.negative digits n count (number_after n (take places fraction)) places (whole-spells digits count c.requires.whole) c.requires.point behind (omega arith) (omega arith) stop (omega (arith, is)) (omega arith) spelled in
     let fits : SFits w32 c.exponent_of.result = search rules in
@@ -51,7 +51,7 @@ quick_power-requires-clause-mantissa c =
     let is : c.number_after-coefficient.result ≡ number_after n (take places fraction)
     = c.number_after-coefficient.ensures ∙ ap₂ number_after c.number_after-whole.ensures (ap (take places) rest) in
     let within = rw rest at c.digit_run-places.ensures.within in
-    let behind = digits-spell n fraction places within (omega arith) (rw rest at c.digit_run-places.ensures.digits) in
+    let behind = digits-spell n fraction places within (omega arith) (rw rest at c.digit_run-places.ensures.run) in
     rw is (pointed-mantissa digits n count (number_after n (take places fraction)) places (whole-spells digits count c.requires.whole) c.requires.point behind (omega arith) (omega arith) (omega arith))
 
 pub slice_bounds-number_after-end : goal.slice_bounds-number_after-end

@@ -10,14 +10,14 @@ returns-then-stops_number c =
     let digits = c.args.digits.now in
     let count = c.digit_run-count.result in
     let zeros = sym c.begins_zeros.ensures ∙ c.if-begins_zeros.false in
-    let whole = whole-front c.args.negative digits count (omega arith) (omega arith) c.digit_run-count.ensures.digits zeros in
+    let whole = whole-front c.args.negative digits count (omega arith) (omega arith) c.digit_run-count.ensures.run zeros in
     let stop = sym c.stops_number.ensures ∙ c.if-stops_number.true in
     rw c.number_by.ensures (quick-int c.args.negative digits (number_after 0 (take count digits)) count (whole-spells digits count whole) stop (omega (arith, c.number_by.ensures))
     (int-spelled c.args.negative digits count whole (omega arith) stop zeros))
 
 pub quick_mantissa-requires-clause-whole : goal.quick_mantissa-requires-clause-whole
 quick_mantissa-requires-clause-whole c =
-    whole-front c.args.negative c.args.digits.now c.digit_run-count.result (omega arith) (omega arith) c.digit_run-count.ensures.digits (sym c.begins_zeros.ensures ∙ c.if-begins_zeros.false)
+    whole-front c.args.negative c.args.digits.now c.digit_run-count.result (omega arith) (omega arith) c.digit_run-count.ensures.run (sym c.begins_zeros.ensures ∙ c.if-begins_zeros.false)
 
 pub slice_bounds-number_by-end : goal.slice_bounds-number_by-end
 slice_bounds-number_by-end c = grind (arith, common_steps) steps 400000

@@ -19,7 +19,7 @@ returns c =
     let ys : List ℕ = c.sign-below.result.1.now in
     let j = c.digit_run-n.result in
     let m : ℕ = number_after 0 (take j ys) in
-    let power = digits-spell 0 ys j c.digit_run-n.ensures.within (omega arith) c.digit_run-n.ensures.digits in
+    let power = digits-spell 0 ys j c.digit_run-n.ensures.within (omega arith) c.digit_run-n.ensures.run in
     let count : c.if-below.count ≡ at + 1 + (sign_length below + j) = elim c.if-below.branch [
       | then-below w ↦ let length : sign_length below ≡ 1 = ap sign_length w.if-below.true in let is = w.count-is in omega (arith, is, length)
       | else-below w ↦ let length : sign_length below ≡ 0 = ap sign_length w.if-below.false in let is = w.count-is in omega (arith, is, length)

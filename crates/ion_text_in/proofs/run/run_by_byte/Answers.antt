@@ -1,8 +1,9 @@
 use Rattle.std.proofs.Common.{◌≡◌, ◌+◌, ◌∙◌, true, false, not, List, ℕ, ◌++◌, drop, get_or, ap, sym, subst, arith}
 use Rattle.std.proofs.lemmas.Grind.{common_steps}
 use Rattle.std.proofs.lemmas.List.{take_rest, drop_more}
-use Rattle.ion_text_in.specs.Runs.{goes_on, EndBehind}
+use Rattle.ion_text_in.specs.Runs.{goes_on}
 use Rattle.ion_text_in.proofs.RunEnds.{go-more, go-end, stays-on}
+use Rattle.ion_text_in.proofs.SureRuns.{extent-ended}
 use Rattle.ion_text_in.proofs.run.run_by_byte.Goals as goal
 
 pub bytes-preserved : goal.bytes-preserved
@@ -20,29 +21,13 @@ bytes-preserved-then-stays c =
     (λ more. subst (λ (l : List ℕ). goes_on c.args.run (l ++ more) ≡ true) (sym (drop_more bytes i 0 c.bytes-test.true))
     (stays-on c.args.run (get_or bytes i 0) (drop (i + 1) bytes ++ more) (sym c.stays.ensures ∙ c.if-stays.true)))
 
-pub returns-in-Some-true-clause-ends : goal.returns-in-Some-true-clause-ends
-returns-in-Some-true-clause-ends c = λ e.
+pub returns-in-Some-true : goal.returns-in-Some-true
+returns-in-Some-true c =
     let bytes = c.args.bytes.now in
-    subst (λ (n : ℕ). EndBehind (goes_on c.args.run) bytes n) (sym c.so_far.ensures.len) (go-end (goes_on c.args.run) bytes c.bytes.i c.bytes.invariant
-    (λ more. subst (λ (l : List ℕ). goes_on c.args.run (l ++ more) ≡ false) (take_rest bytes c.bytes.i) (c.in-Some-true.ensures more ∙ ap not c.in-Some-true.field-0-test)))
-
-pub returns-clause-behind : goal.returns-clause-behind
-returns-clause-behind c = grind (arith, common_steps) steps 400000
-
-pub returns-clause-ends : goal.returns-clause-ends
-returns-clause-ends c = grind (arith, common_steps) steps 400000
-
-pub returns-in-None-clause-open : goal.returns-in-None-clause-open
-returns-in-None-clause-open c = grind (arith, common_steps) steps 400000
+    let test = goes_on c.args.run in
+    let ends = go-end test bytes c.bytes.i c.bytes.invariant
+    (λ more. subst (λ (l : List ℕ). test (l ++ more) ≡ false) (take_rest bytes c.bytes.i) (c.in-Some-true.ensures more ∙ ap not c.in-Some-true.field-0-test)) in
+    rw c.so_far.ensures (extent-ended c.args.run bytes c.bytes.i c.bytes-test.true c.bytes.invariant ends)
 
 pub ends-requires : goal.ends-requires
 ends-requires c = grind (arith, common_steps) steps 400000
-
-pub returns-in-Some-true-clause-behind : goal.returns-in-Some-true-clause-behind
-returns-in-Some-true-clause-behind c = grind (arith, common_steps) steps 400000
-
-pub returns-in-Some-true-clause-open : goal.returns-in-Some-true-clause-open
-returns-in-Some-true-clause-open c = grind (arith, common_steps) steps 400000
-
-pub returns-in-None-clause-behind : goal.returns-in-None-clause-behind
-returns-in-None-clause-behind c = grind (arith, common_steps)

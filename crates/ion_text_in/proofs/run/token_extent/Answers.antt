@@ -1,16 +1,12 @@
-use Rattle.std.proofs.Common.{ℕ, List, drop, subst}
 use Rattle.std.proofs.lemmas.Bool.{not-false}
 use Rattle.std.proofs.lemmas.List.{take_rest}
-use Rattle.ion_text_in.specs.Runs.{goes_on, EndBehind}
+use Rattle.ion_text_in.specs.Runs.{goes_on}
 use Rattle.ion_text_in.proofs.RunEnds.{token-shown}
 use Rattle.ion_text_in.proofs.run.token_extent.Goals as goal
 
 pub returns : goal.returns
 returns c =
     let bytes = c.args.bytes.now in
-    let n = c.run_extent-extent.result.len in
-    let test = goes_on c.args.run in
-    let rest = take_rest bytes 1 in
-    let ends : EndBehind test (drop 1 bytes) n = subst (λ (l : List ℕ). EndBehind test l n) rest (c.run_extent-extent.ensures.ends (not-false _ c.if-not-extent.false)) in
-    let within = rw rest at (c.run_extent-extent.ensures.behind (not-false _ c.if-not-extent.false)) in
-    token-shown test bytes n c.in-len1-up.len_at_least within ends
+    let extent = rw (take_rest bytes 1) at c.run_extent-extent.ensures in
+    let ended = not-false _ c.if-not-extent.false in
+    token-shown (goes_on c.args.run) bytes c.run_extent-extent.result.len c.in-len1-up.len_at_least (extent.behind ended) (extent.ends ended)

@@ -11,9 +11,4 @@ returns-then-not-may_be_keyword-clause-name c =
     (plain-word (take c.in-Some.count bytes) (begun-first c.args.limit c.in-Some.count bytes begun ∙ (sym c.may_be_keyword.ensures ∙ c.if-not-may_be_keyword.true)) (begun-dollar c.args.limit c.in-Some.count bytes begun))
 
 pub returns-then-not-may_be_keyword-clause-shows : goal.returns-then-not-may_be_keyword-clause-shows
-returns-then-not-may_be_keyword-clause-shows c =
-    let bytes = c.args.bytes.now in
-    let begun = c.in-Some.ensures in
-    let simple = begun-simple c.args.limit c.in-Some.count bytes begun
-    (plain-word (take c.in-Some.count bytes) (begun-first c.args.limit c.in-Some.count bytes begun ∙ (sym c.may_be_keyword.ensures ∙ c.if-not-may_be_keyword.true)) (begun-dollar c.args.limit c.in-Some.count bytes begun)) in
-    (simple.within, simple.shown)
+returns-then-not-may_be_keyword-clause-shows c = let simple = returns-then-not-may_be_keyword-clause-name c in (simple.within, simple.shown)

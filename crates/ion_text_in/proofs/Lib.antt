@@ -64,11 +64,8 @@ pub mod Held
 pub mod ReaderSteps
 pub mod ReaderAnnotations
 pub mod ReaderCalls
-pub mod ReaderTokens
 pub mod ShownFurther
 pub mod ReaderSymbols
-pub mod ReaderTakes
-pub mod ReaderNames
 pub mod LobTurns
 mod RunCuts
 mod Prepaid

@@ -1,14 +1,15 @@
 //! Which kind of token begins at a place (Ion specification, "Text Encoding").
-ghost use Rattle.std.specs.Prelude.{◌≡◌, ℕ, List, [], ◌+◌, ◌++◌, ◌∷◌, ◌<◌, ◌≤◌, length, slice_index, Bool, true, false, Ok, Err, ◌⊎◌, if◌then◌else◌, IfOk, IfSome, IsSome, MatchOption};
-ghost use Rattle.ion_meter.specs.Sources.{Stands};
+ghost use Rattle.std.specs.Prelude.{◌≡◌, ◌≢◌, ℕ, List, [], ◌+◌, ◌++◌, ◌∷◌, ◌<◌, ◌≤◌, length, slice_index, Bool, true, false, Ok, Err, ◌⊎◌, if◌then◌else◌, IfOk, IfSome, IsSome, MatchOption};
+ghost use Rattle.ion_meter.specs.Sources.{cursor, Stands};
 ghost use Rattle.ion_meter.specs.Windows.{left, lent, Extends};
 ghost use Rattle.ion_value.specs.Calls.{Reads};
 ghost use Rattle.ion_value.specs.Digits.{first_is, is_digit};
-ghost use Rattle.ion_text_in.specs.Firsts.{first_of, is_inf, is_told_alone, numbered, width};
+ghost use Rattle.ion_text_in.specs.Firsts.{first_of, is_inf, is_told_alone, numbered, width, IsAhead};
 ghost use Rattle.ion_text_in.specs.Blanks.{blanks};
 ghost use Rattle.ion_text_in.specs.Meaning.{at};
 ghost use Rattle.ion_text_in.specs.Token.{a_colon, first_at};
 
+use crate::blank::pass_blanks;
 use crate::run::is_operator_byte;
 use ion_meter::device::Input;
 use ion_meter::fault::{Fault, Reason};
@@ -48,6 +49,15 @@ pub(crate) enum First {
     Colons,
     /// No token.
     Nothing,
+}
+
+/// What comes behind blanks.
+#[derive(Clone, Copy)]
+pub(crate) struct Ahead {
+    /// The token that begins there, or none at the input's end.
+    pub(crate) first: Option<First>,
+    /// Where a comment begins that does not end: it takes the rest of the input.
+    pub(crate) unfinished: Option<u64>,
 }
 
 /// Which kind of token begins at the front of a slice, where the slice shows it: it does where it
@@ -149,28 +159,28 @@ static FIRST_BYTES: [u8; 256] = [
     0, 0, 0, 0, 0, 0, 0, 0, 0, 0, 0, 0, 0, 0, 0, 0, 0, 0, 0, 0, 0, 0, 0, 0, 0, 0, 0, 0, 0, 0, 0, 0,
 ];
 
-/// Which kind of token begins here, or none where the input ends; nothing is passed over.
+/// Passes over blanks, and tells what comes behind them.
 ///
 /// No byte is waited for but those that tell it, and they stand in the window then.
-#[inline(always)]
-pub(crate) fn next_first<I: Input, A: Allocator + Copy>(
+pub(crate) fn next_ahead<I: Input, A: Allocator + Copy>(
     source: &mut Source<I, A>,
     in_sexp: bool,
-) -> Result<Option<First>, Fault>
+) -> Result<Ahead, Fault>
     requires stands { Stands source.old }
-    ensures first { I.observable source.old.device → IfOk result (λ found. MatchOption found
-        (left I.rest source.old ≡ [])
-        (λ f. first_at in_sexp (left I.rest source.old) ≡ first_of f)) }
-    ensures wide { IfOk result (λ found. IfSome found
+    ensures ahead { I.observable source.old.device → IfOk result
+        (IsAhead in_sexp (cursor I.Input source.old) (cursor I.Input source.new)) }
+    ensures wide { IfOk result (λ ahead. IfSome ahead.first
         (λ f. width (first_of f) ≤ length (lent source.new))) }
-    ensures kept { Extends I.rest I.observable source.old source.new }
-    ensures plain { (reason : Reason) (at : ℕ) → result ≡ Err (Fault.Refused reason at) → ⊥ }
+    ensures plain { (r : Reason) (p : ℕ) → result ≢ Err (Fault.Refused r p) }
     ensures reads { Reads I.Input source.old source.new result }
 {
+    let unfinished = pass_blanks(source)?;
     if let Some(first) = scan_first(in_sexp, source.buffer()) {
-        return Ok(Some(first));
+        let first = Some(first);
+        return Ok(Ahead { first, unfinished });
     }
-    look_ahead(source, in_sexp)
+    let first = look_ahead(source, in_sexp)?;
+    Ok(Ahead { first, unfinished })
 }
 
 // Which kind of token begins here, where the window does not show it.
@@ -188,7 +198,7 @@ fn look_ahead<I: Input, A: Allocator + Copy>(
     ensures wide { IfOk result (λ found. IfSome found
         (λ f. width (first_of f) ≤ length (lent source.new))) }
     ensures kept { Extends I.rest I.observable source.old source.new }
-    ensures plain { (reason : Reason) (at : ℕ) → result ≡ Err (Fault.Refused reason at) → ⊥ }
+    ensures plain { (r : Reason) (p : ℕ) → result ≢ Err (Fault.Refused r p) }
     ensures reads { Reads I.Input source.old source.new result }
 {
     let mut ahead = 0;

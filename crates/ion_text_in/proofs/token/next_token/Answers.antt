@@ -6,7 +6,7 @@ use Rattle.ion_text_in.specs.Firsts.{first_of}
 use Rattle.ion_text_in.specs.Token as tokens
 use Rattle.ion_text_in.specs.Token.{token_of}
 use Rattle.ion_text_in.specs.Tokens.{going}
-use Rattle.ion_text_in.proofs.ReaderTokens.{overrun-going}
+use Rattle.ion_text_in.proofs.ReaderSteps.{overrun-going}
 use Rattle.ion_text_in.proofs.token.next_token.Goals as goal
 
 pub returns-in_ok-next_word-in-Word-clause-gives : goal.returns-in_ok-next_word-in-Word-clause-gives

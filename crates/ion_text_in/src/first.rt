@@ -1,7 +1,7 @@
 //! Which kind of token begins at a place (Ion specification, "Text Encoding").
 ghost use Rattle.std.specs.Prelude.{◌≡◌, ◌≢◌, ℕ, List, [], ◌+◌, ◌++◌, ◌∷◌, ◌<◌, ◌≤◌, length, slice_index, Bool, true, false, Ok, Err, ◌⊎◌, if◌then◌else◌, IfOk, IfSome, IsSome, MatchOption};
 ghost use Rattle.ion_meter.specs.Sources.{cursor, Stands};
-ghost use Rattle.ion_meter.specs.Windows.{left, lent, Extends};
+ghost use Rattle.ion_meter.specs.Windows.{lent};
 ghost use Rattle.ion_value.specs.Calls.{Reads};
 ghost use Rattle.ion_value.specs.Digits.{first_is, is_digit};
 ghost use Rattle.ion_text_in.specs.Firsts.{first_of, is_inf, is_told_alone, numbered, width, IsAhead};
@@ -175,78 +175,42 @@ pub(crate) fn next_ahead<I: Input, A: Allocator + Copy>(
     ensures reads { Reads I.Input source.old source.new result }
 {
     let unfinished = pass_blanks(source)?;
-    if let Some(first) = scan_first(in_sexp, source.buffer()) {
-        let first = Some(first);
-        return Ok(Ahead { first, unfinished });
-    }
-    let first = look_ahead(source, in_sexp)?;
-    Ok(Ahead { first, unfinished })
-}
-
-// Which kind of token begins here, where the window does not show it.
-#[cold]
-#[inline(never)]
-fn look_ahead<I: Input, A: Allocator + Copy>(
-    source: &mut Source<I, A>,
-    in_sexp: bool,
-) -> Result<Option<First>, Fault>
-    requires stands { Stands source.old }
-    requires short { length (lent source.old) < 5 }
-    ensures first { I.observable source.old.device → IfOk result (λ found. MatchOption found
-        (left I.rest source.old ≡ [])
-        (λ f. first_at in_sexp (left I.rest source.old) ≡ first_of f)) }
-    ensures wide { IfOk result (λ found. IfSome found
-        (λ f. width (first_of f) ≤ length (lent source.new))) }
-    ensures kept { Extends I.rest I.observable source.old source.new }
-    ensures plain { (r : Reason) (p : ℕ) → result ≢ Err (Fault.Refused r p) }
-    ensures reads { Reads I.Input source.old source.new result }
-{
-    let mut ahead = 0;
-    'ahead: loop {
-        let Some(_) = source.peek(ahead)? else {
-            return Ok(ended_first(in_sexp, source.buffer()));
-        };
-        if let Some(first) = scan_first(in_sexp, source.buffer()) {
-            return Ok(Some(first));
+    'more: loop {
+        let bytes = source.buffer();
+        let shown = bytes.len();
+        if let Some(first) = scan_first(in_sexp, bytes) {
+            let first = Some(first);
+            return Ok(Ahead { first, unfinished });
         }
-        ahead += 1;
+        let Some(_) = source.peek(shown)? else {
+            let first = ended_first(in_sexp, source.buffer());
+            return Ok(Ahead { first, unfinished });
+        };
     }
 }
 
 // What begins at the front of a slice where the input ends behind it, or none where there is no
-// byte.
+// byte. A byte that goes on with no token changes nothing.
+#[cold]
 fn ended_first(in_sexp: bool, bytes: &[u8]) -> Option<First>
     ensures first { MatchOption result (bytes.now ≡ [])
         (λ f. first_at in_sexp bytes.now ≡ first_of f) }
     ensures wide { IfSome result (λ f. width (first_of f) ≤ length bytes.now) }
 {
-    if bytes.is_empty() {
+    let [byte, ..] = bytes else {
         return None;
+    };
+    if let Some(first) = scan_first(in_sexp, bytes) {
+        return Some(first);
     }
-    match scan_first(in_sexp, bytes) {
-        Some(first) => Some(first),
-        None => Some(short_first(in_sexp, bytes)),
-    }
-}
-
-// What begins at fewer than five bytes at the input's end: a byte that goes on with none of them
-// changes nothing.
-fn short_first(in_sexp: bool, bytes: &[u8]) -> First
-    requires some { 1 ≤ length bytes.now }
-    requires few { length bytes.now < 5 }
-    ensures { first_at in_sexp bytes.now ≡ first_of result }
-{
     let padded = [
-        bytes[0],
+        *byte,
         byte_at(bytes, 1),
         byte_at(bytes, 2),
         byte_at(bytes, 3),
         0,
     ];
-    match scan_first(in_sexp, &padded) {
-        Some(first) => first,
-        None => First::Nothing,
-    }
+    scan_first(in_sexp, &padded)
 }
 
 // The byte at an index, or 0 behind the last.

@@ -19,7 +19,6 @@ mod window;
 
 use crate::expected::{Expected, behind_member, is_colons};
 use crate::first::{First, next_ahead};
-use crate::operator::{pass_colons, pass_mark};
 use crate::symbol::{FieldName, annotation_place, keep_text, lent_field};
 use crate::token::{Body, Symbol};
 use crate::waiting::shows_item;
@@ -278,7 +277,7 @@ impl<I: Input, A: Allocator + Copy> TextReader<I, A> {
         if self.limits.scalar < self.annotations_cost(symbol) {
             return Err(Fault::Refused(Reason::AnnotationLimit, place));
         }
-        pass_colons(&mut self.source);
+        self.source.consume(2);
         let annotation = keep_text(&mut self.texts, self.text.as_slice(), symbol, place, meter)?;
         if let Err((_, fault)) = self.annotations.push(meter, annotation) {
             return Err(fault);
@@ -337,7 +336,7 @@ impl<I: Input, A: Allocator + Copy> TextReader<I, A> {
         let here = self.source.place();
         match ahead.first {
             Some(First::Colon) => {
-                pass_mark(&mut self.source);
+                self.source.consume(1);
                 mem::swap(&mut self.name, &mut self.text);
                 self.field = Some(FieldName { symbol, place });
                 self.expected = Expected::Value;

@@ -10,5 +10,5 @@ returns g c =
     let a = c.in_ok-annotation.annotation in
     let one = subst (λ (l : List ℕ). IsKept r.texts texts l c.args.symbol c.args.place a) c.as_slice.ensures c.in_ok-annotation.ensures.kept in
     let text = subst (λ (l : List ℕ). GrowsBy c.args.meter.now c.keep_text.new.meter l c.args.symbol) c.as_slice.ensures c.in_ok-annotation.ensures.cost in
-    steps-annotated g.I.Input r c.args.symbol c.args.place c.pass_colons.new.source texts c.push.new.self a c.args.meter.now c.keep_text.new.meter c.push.new.meter c.requires.can_step c.requires.value one
-    c.in_default.ensures.ok (omega (arith, c.if-self-annotations_cost.false, c.annotations_cost.ensures)) c.requires.colons c.pass_colons.ensures.passed text c.in_default.ensures.cost
+    steps-annotated g.I.Input r c.args.symbol c.args.place c.consume.new.self texts c.push.new.self a c.args.meter.now c.keep_text.new.meter c.push.new.meter c.requires.can_step c.requires.value one
+    c.in_default.ensures.ok (omega (arith, c.if-self-annotations_cost.false, c.annotations_cost.ensures)) c.requires.colons c.consume.ensures text c.in_default.ensures.cost

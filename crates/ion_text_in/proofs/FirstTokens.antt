@@ -102,36 +102,11 @@ number_of (tokens.a_begin kind.Sexp) = 6
 number_of (tokens.an_end kind.Struct) = 7
 number_of (tokens.an_end kind.List) = 8
 number_of (tokens.an_end kind.Sexp) = 9
-number_of (tokens.a_begin kind.Struct) = 0
-number_of tokens.a_quoted = 0
-number_of tokens.a_long = 0
-number_of tokens.a_lob = 0
-number_of tokens.an_operator = 0
-number_of tokens.an_infinity = 0
-number_of tokens.a_colon = 0
-number_of tokens.two_colons = 0
-number_of tokens.no_token = 0
+number_of _ = 0
 
 numbered-of : (f : First) → 0 < number_of f → numbered (number_of f) ≡ f
 unfolding number_of
-numbered-of tokens.a_word some = refl
-numbered-of tokens.a_run some = refl
-numbered-of tokens.a_short some = refl
-numbered-of tokens.a_comma some = refl
-numbered-of (tokens.a_begin kind.List) some = refl
-numbered-of (tokens.a_begin kind.Sexp) some = refl
-numbered-of (tokens.an_end kind.Struct) some = refl
-numbered-of (tokens.an_end kind.List) some = refl
-numbered-of (tokens.an_end kind.Sexp) some = refl
-numbered-of (tokens.a_begin kind.Struct) some = absurd (omega (arith, some))
-numbered-of tokens.a_quoted some = absurd (omega (arith, some))
-numbered-of tokens.a_long some = absurd (omega (arith, some))
-numbered-of tokens.a_lob some = absurd (omega (arith, some))
-numbered-of tokens.an_operator some = absurd (omega (arith, some))
-numbered-of tokens.an_infinity some = absurd (omega (arith, some))
-numbered-of tokens.a_colon some = absurd (omega (arith, some))
-numbered-of tokens.two_colons some = absurd (omega (arith, some))
-numbered-of tokens.no_token some = absurd (omega (arith, some))
+numbered-of f some = grind arith
 
 -- the table has 0 for a byte, or the number of what begins with it
 agrees : Bool → List ℕ → ℕ → Bool

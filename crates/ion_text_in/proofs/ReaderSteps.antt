@@ -86,25 +86,13 @@ no-field name None e = refl
 no-field name (Some f) e = absurd (cc e)
 
 separator-bare : (e : Expected) (kinds : List Kind) (field : Option FieldName) (annotations : List Annotation) → e ≡ expected.Separator → MayExpect e kinds field annotations → (field ≡ None) × (annotations ≡ [])
-separator-bare expected.Value kinds field annotations e h = absurd (cc e)
-separator-bare expected.Field kinds field annotations e h = absurd (cc e)
-separator-bare expected.Separator kinds field annotations e h = h
+separator-bare e kinds field annotations is h = grind arith
 
 value-expects : (e : Expected) (kinds : List Kind) (field : Option FieldName) (annotations : List Annotation) → e ≡ expected.Value → MayExpect e kinds field annotations → is_some field ≡ in_struct kinds
-value-expects expected.Value kinds field annotations e h = h
-value-expects expected.Field kinds field annotations e h = absurd (cc e)
-value-expects expected.Separator kinds field annotations e h = absurd (cc e)
+value-expects e kinds field annotations is h = grind arith
 
 body-fits : (text : List ℕ) (place : ℕ) (b : Body) → BodyInRange b → InRange (as_scalar text place b)
-body-fits text place (body.Null type) h = h
-body-fits text place (body.Bool truth) h = h
-body-fits text place (body.Int number) h = h
-body-fits text place (body.Decimal number) h = h
-body-fits text place (body.Timestamp moment) h = h
-body-fits text place (body.Symbol symbol) h = h
-body-fits text place body.String h = h
-body-fits text place body.Clob h = h
-body-fits text place body.Blob h = h
+body-fits text place b h = grind arith
 
 module _ {I A : Type 0} where
   -- it leaves the containers as they are, and has its place
@@ -473,20 +461,7 @@ module _ {I A : Type 0} (device : InputOf I) where
 -- ---- symbols
 
 colons-found : (f : code_first.First) (c : Cursor) → (f ≡ firsts.Colons → ⊥) → colons_at (first_of f) c ≡ None
-colons-found firsts.Number c other = refl
-colons-found firsts.Word c other = refl
-colons-found firsts.QuotedSymbol c other = refl
-colons-found firsts.String c other = refl
-colons-found firsts.LongString c other = refl
-colons-found firsts.Lob c other = refl
-colons-found firsts.Operator c other = refl
-colons-found firsts.Infinity c other = refl
-colons-found (firsts.Begin k) c other = refl
-colons-found (firsts.End k) c other = refl
-colons-found firsts.Comma c other = refl
-colons-found firsts.Colon c other = refl
-colons-found firsts.Colons c other = absurd (other refl)
-colons-found firsts.Nothing c other = refl
+colons-found f c other = grind arith
 
 nothing-first : (sexp : Bool) (rest : List ℕ) → rest ≡ [] → first_at sexp rest ≡ no_token
 unfolding first_at

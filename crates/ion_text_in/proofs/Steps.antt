@@ -1,5 +1,5 @@
 -- Each step of a reading leads from a path of the grammar to the path with the item that it gives.
-use Rattle.std.proofs.Common.{◌≡◌, ◌==◌, ℕ, Bool, true, false, not, List, [], ◌∷◌, ◌++◌, Option, Some, None, Result, Ok, Err, nat_lt, nat_le, length, sum_by, refl, sym, ap, subst, ◌∙◌}
+use Rattle.std.proofs.Common.{◌≡◌, ◌==◌, ℕ, Bool, true, false, not, List, [], ◌∷◌, ◌++◌, Option, Some, None, Result, Ok, Err, nat_lt, nat_le, length, sum_by, refl, sym, ap, subst, ◌∙◌, arith}
 use Rattle.std.proofs.lemmas.Bool.{false≢true, eqb-true, and_parts}
 use Rattle.std.specs.Str.{bytes_eq}
 use Rattle.ion_meter.specs.declared.fault.Reason.{Reason}
@@ -44,23 +44,14 @@ colons-tok sexp c b blank first = rw (blank, first) refl
 abbrev Colons : Bool → Cursor → Cursor → Type 0
 Colons sexp c d = (q : ℕ) × Tok sexp c colons q d
 
+-- a first token behind which something is found is two colons
+colons-two : (f : First) (b d : Cursor) → reading.colons_at f b ≡ Some d → (f ≡ two_colons) × (skip 2 b ≡ d)
+colons-two f b d found = grind arith
+
 colons-first : (sexp : Bool) (c b d : Cursor) (first : First) → blanks c ≡ Ok b → first_at sexp b.rest ≡ first → reading.colons_at first b ≡ Some d → Colons sexp c d
-colons-first sexp c b d a_run blank is found = absurd (cc found)
-colons-first sexp c b d a_word blank is found = absurd (cc found)
-colons-first sexp c b d a_quoted blank is found = absurd (cc found)
-colons-first sexp c b d a_short blank is found = absurd (cc found)
-colons-first sexp c b d a_long blank is found = absurd (cc found)
-colons-first sexp c b d a_lob blank is found = absurd (cc found)
-colons-first sexp c b d an_operator blank is found = absurd (cc found)
-colons-first sexp c b d an_infinity blank is found = absurd (cc found)
-colons-first sexp c b d (a_begin k) blank is found = absurd (cc found)
-colons-first sexp c b d (an_end k) blank is found = absurd (cc found)
-colons-first sexp c b d a_comma blank is found = absurd (cc found)
-colons-first sexp c b d a_colon blank is found = absurd (cc found)
-colons-first sexp c b d two_colons blank is found =
-    let same : skip 2 b ≡ d = cc found in
-    (b.place, subst (λ d. Tok sexp c colons b.place d) same (colons-tok sexp c b blank is))
-colons-first sexp c b d no_token blank is found = absurd (cc found)
+colons-first sexp c b d first blank is found =
+    let two = colons-two first b d found in
+    (b.place, subst (λ d. Tok sexp c colons b.place d) two.1 (colons-tok sexp c b blank (is ∙ two.0)))
 
 colons-blank : (sexp : Bool) (c d : Cursor) (o : Placed Cursor) → blanks c ≡ o → reading.colons_behind sexp o ≡ Some d → Colons sexp c d
 colons-blank sexp c d (Ok b) blank found = colons-first sexp c b d (first_at sexp b.rest) blank refl found

@@ -1,6 +1,7 @@
 -- The kind of token that begins: at the input's end, and how many bytes tell it.
 use Rattle.std.proofs.Common.{◌≡◌, ◌≢◌, ℕ, inl, inr, ◌+◌, ◌-◌, ◌<◌, ◌≤◌, Bool, true, false, ◌&&◌, ◌||◌, ◌==◌, if◌then◌else◌, List, [], ◌∷◌, ◌++◌, length, take, drop, get_or, not, IfSome, IsSome, MatchOption, Option, Some, None, Ok, codes, refl, sym, ap, ◌∙◌, arith}
 use Rattle.std.proofs.lemmas.Bool.{agree_below_at, and_parts, eqb-false, eqb-true, ne_eqb, or_cases}
+use Rattle.std.proofs.lemmas.Bool.Decides.{nat_tests}
 use Rattle.std.proofs.lemmas.List.{take_rest}
 use Rattle.ion_value.specs.Digits.{first_is}
 use Rattle.ion_value.specs.Name.{begins_with, is_identifier_start, is_operator_byte}
@@ -175,11 +176,5 @@ brace-first (a ∷ b ∷ bytes) two first other sexp more =
 
 -- ---- no kind that is told is a colon
 
-no-colons-if : (b : Bool) (f g : First) (c : Cursor) → colons_at f c ≡ None → colons_at g c ≡ None → colons_at (if b then f else g) c ≡ None
-no-colons-if true f g c one other = one
-no-colons-if false f g c one other = other
-
 pub no-colons : (n : ℕ) (c : Cursor) → colons_at (numbered n) c ≡ None
-no-colons n c =
-    no-colons-if (n == 1) _ _ c refl (no-colons-if (n == 2) _ _ c refl (no-colons-if (n == 3) _ _ c refl (no-colons-if (n == 4) _ _ c refl
-    (no-colons-if (n == 5) _ _ c refl (no-colons-if (n == 6) _ _ c refl (no-colons-if (n == 7) _ _ c refl (no-colons-if (n == 8) _ _ c refl (no-colons-if (n == 10) _ _ c refl refl))))))))
+no-colons n c = grind (arith, nat_tests)

@@ -3,7 +3,7 @@ use Rattle.std.proofs.Common.{◌≡◌, ℕ, ◌+◌, ◌*◌, ◌<◌, ◌≤�
 use Rattle.ion_meter.specs.Counts.{Counts}
 use Rattle.ion_meter.specs.declared.device.Input.{Ghosts as InputOf}
 use Rattle.ion_meter.specs.declared.fault.Fault.{Fault}
-use Rattle.ion_meter.specs.declared.fault.Fault.TheVariants.{Refused, Memory, ReadFault, WriteFault, InputLimit}
+use Rattle.ion_meter.specs.declared.fault.Fault.TheVariants.{Refused}
 use Rattle.ion_meter.specs.declared.fault.Reason.{Reason}
 use Rattle.ion_meter.specs.declared.limits.Limits.{Limits}
 use Rattle.ion_meter.specs.Windows.{Incoming}
@@ -159,11 +159,7 @@ module _ {I A : Type 0} (device : InputOf I) where
   -- ---- a call for the next item
 
   fault-refused : (before : Reading) (new : TextReader I A) (fault : Fault) (r : Reason) (p : ℕ) → StepGives device before new (Err fault) → fault ≡ Refused r p → before ≡ Stopped r p
-  fault-refused before new (Refused reason place) r p h e = h ∙ cc e
-  fault-refused before new Memory r p h e = absurd (cc e)
-  fault-refused before new ReadFault r p h e = absurd (cc e)
-  fault-refused before new WriteFault r p h e = absurd (cc e)
-  fault-refused before new InputLimit r p h e = absurd (cc e)
+  fault-refused before new fault r p h e = grind arith
 
   goes-all : (p q : TextReader I A) (a b : Counts) → GrowsWithin a b (held_by p) (held_by q) (0 + 16 * (left_to p - left_to q)) → GrowsWithin a b (held_by p) (held_by q) (16 * (left_to p - left_to q))
   goes-all p q a b goes = record { own = omega (arith, goes.own); peak = omega (arith, goes.peak) }

@@ -1,5 +1,5 @@
 -- The steps of the reader: what they give, and what they keep.
-use Rattle.std.proofs.Common.{◌≡◌, Bool, true, false, ℕ, ◌+◌, ◌-◌, ◌<◌, ◌≤◌, not, nat_le, List, [], ◌∷◌, ◌++◌, drop, length, is_some, reverse, IfSome, MatchOption, Option, Some, None, Result, Ok, Err, ◌⊎◌, inl, inr, refl, sym, ap, ◌∙◌, arith, length-append}
+use Rattle.std.proofs.Common.{◌≡◌, Bool, true, false, ℕ, ◌+◌, ◌-◌, ◌<◌, ◌≤◌, not, nat_le, List, [], ◌∷◌, ◌++◌, drop, length, is_some, reverse, IfSome, MatchOption, Option, Some, None, Result, Ok, Err, ◌⊎◌, refl, sym, ap, ◌∙◌, arith, length-append}
 use Rattle.std.proofs.lemmas.Bool.{le-leb, lt-leb}
 use Rattle.std.proofs.lemmas.List.{length-reverse, reverse-append}
 use Rattle.std.specs.Str.{bytes_eq}
@@ -97,10 +97,7 @@ body-fits text place b h = grind arith
 module _ {I A : Type 0} where
   -- it leaves the containers as they are, and has its place
   given-opens : (r : TextReader I A) (what : ItemKind) (place : ℕ) → MayGive r what → opened_in r ≡ open_after (opened_in r) (as_head r.text place what)
-  given-opens r (kind.Scalar body) place may = refl
-  given-opens r kind.Marker place may = refl
-  given-opens r (kind.Begin k) place may = absurd may
-  given-opens r kind.End place may = absurd may
+  given-opens r what place may = grind arith
 
   given-fits : (r : TextReader I A) (what : ItemKind) (place top : ℕ) → is_some (field_in r) ≡ in_struct (opened_in r) → MayGive r what
       → Fits r.limits.depth (opened_in r) (item_of top (field_in r) (annotations_in r) place (as_head r.text place what))
@@ -161,12 +158,7 @@ tells-text k annotations quoted text s top none bare is = rw (none-is k top, not
 told-version : (k : Option Kind) (annotations : List SymbolAt) (quoted : Bool) (text : List ℕ) (s : CodeSymbol) → tells_version k annotations quoted (as_symbol text s) ≡ true
     → (k ≡ None) × (annotations ≡ []) × (is_marker (as_symbol text s) ≡ bytes_eq version_word text)
 unfolding tells_version
-told-version None [] false text symbol.Text e = (refl, refl, refl)
-told-version None [] true text symbol.Text e = absurd (cc e)
-told-version None [] false text (symbol.Id id) e = absurd (cc e)
-told-version None [] true text (symbol.Id id) e = absurd (cc e)
-told-version None (a ∷ annotations) quoted text s e = absurd (cc e)
-told-version (Some k) annotations quoted text s e = absurd (cc e)
+told-version k annotations quoted text s e = grind arith
 
 module _ {I A : Type 0} where
   -- a symbol without two colons is a value, a version marker, or refused as one
@@ -253,8 +245,7 @@ closed-opened kinds left j (Some k) some e =
 
 closed-cost : (kinds left : List Kind) (popped : Option Kind) (a b : Counts) (j : Kind) → reverse kinds ≡ j ∷ reverse left
     → MatchOption popped ((kinds ≡ []) × (left ≡ [])) (λ k. kinds ≡ left ++ k ∷ []) → MatchOption popped (b ≡ a) (λ _. Shrinks a b 16) → Shrinks a b 16
-closed-cost kinds left None a b j opened e cost = absurd (cc (ap (λ (l : List Kind). reverse l) e.0, opened))
-closed-cost kinds left (Some k) a b j opened e cost = cost
+closed-cost kinds left popped a b j opened e cost = grind arith
 
 -- a closing bracket, whatever is expected
 end-of : (limits : Limits) (kinds : List Kind) (top : ℕ) (e : Expected) (name : List ℕ) (field : Option FieldName) (texts : List ℕ) (annotations : List Annotation) (place : ℕ) (k : Kind) (d : Cursor)
@@ -269,13 +260,7 @@ end-of limits kinds top expected.Separator name field texts annotations place k 
 not-closed : (name : List ℕ) (f : Option FieldName) (annotations : List SymbolAt) (k : Kind) (kinds : List Kind) (top place : ℕ) (d : Cursor)
     → (innermost kinds ≡ None) ⊎ ((is_some f ≡ true) ⊎ ((is_annotated annotations ≡ true) ⊎ ((j : Kind) × ((innermost kinds ≡ Some j) × (is_same j k ≡ false)))))
     → bare_end_step (as_field name f) annotations kinds top k place d ≡ Err BadToken
-not-closed name (Some x) annotations k kinds top place d e = refl
-not-closed name None (a ∷ annotations) k kinds top place d e = refl
-not-closed name None [] k [] top place d e = refl
-not-closed name None [] k (j ∷ kinds) top place d (inl e) = absurd (cc e)
-not-closed name None [] k (j ∷ kinds) top place d (inr (inl e)) = absurd (cc e)
-not-closed name None [] k (j ∷ kinds) top place d (inr (inr (inl e))) = absurd (cc e)
-not-closed name None [] k (j ∷ kinds) top place d (inr (inr (inr (i, (e, other))))) = let same : j ≡ i = cc e in rw (same, other) refl
+not-closed name f annotations k kinds top place d why = grind arith
 
 module _ {I A : Type 0} where
   end-taken : (r : TextReader I A) (k : Kind) (place : ℕ) (d : Cursor) → IsInside r
@@ -419,13 +404,10 @@ width-some f = grind arith
 
 ahead-token : (sexp : Bool) (c d : Cursor) (start : Option ℕ) (found : Option code_first.First) (f : code_first.First) → blanks c ≡ overrun start d → IfSome start (λ _. d.rest ≡ [])
     → MatchOption found (d.rest ≡ []) (λ g. first_at sexp d.rest ≡ first_of g) → found ≡ Some f → 1 ≤ length d.rest → (blanks c ≡ Ok d) × (first_at sexp d.rest ≡ first_of f)
-ahead-token sexp c d start None f blank used_up first is some = absurd (cc is)
-ahead-token sexp c d (Some p) (Some g) f blank used_up first is some = absurd (omega (arith, ap (λ (l : List ℕ). length l) used_up, some))
-ahead-token sexp c d None (Some g) f blank used_up first is some = (blank, first ∙ ap first_of (cc is))
+ahead-token sexp c d start found f blank used_up first is some = grind arith
 
 wide-ahead : (found : Option code_first.First) (f : code_first.First) (n : ℕ) → IfSome found (λ g. width (first_of g) ≤ n) → found ≡ Some f → width (first_of f) ≤ n
-wide-ahead None f n wide is = absurd (cc is)
-wide-ahead (Some g) f n wide is = let same : f ≡ g = cc is in rw same wide
+wide-ahead found f n wide is = grind arith
 
 -- or the input's end
 end-ahead : (limits : Limits) (s : State) (d : Cursor) (start : Option ℕ) → blanks s.cursor ≡ overrun start d → d.rest ≡ [] → later limits s ≡ unless_unfinished start (comes limits (final_step s.kinds s.wants d.place))
@@ -433,8 +415,7 @@ end-ahead limits s d None blank none = step-ended limits s d blank none
 end-ahead limits s d (Some p) blank none = step-unfinished limits s p blank
 
 none-left : (found : Option code_first.First) (sexp : Bool) (rest : List ℕ) → MatchOption found (rest ≡ []) (λ g. first_at sexp rest ≡ first_of g) → found ≡ None → rest ≡ []
-none-left None sexp rest first is = first
-none-left (Some f) sexp rest first is = absurd (cc is)
+none-left found sexp rest first is = grind arith
 
 module _ {I : Type 0} (device : InputOf I) where
   -- a token

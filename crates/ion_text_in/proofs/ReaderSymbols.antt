@@ -43,9 +43,7 @@ grown a b text symbol.Text g = let held = g.held in let peak = g.peak in record 
 grown a b text (symbol.Id id) e = record { held = ap (λ (m : Counts). m.held) e ∙ omega arith; peak = (let p = ap (λ (m : Counts). m.peak) e in omega (arith, p)); rises = (let p = ap (λ (m : Counts). m.peak) e in omega (arith, p)); refused = ap (λ (m : Counts). m.refused) e }
 
 value-may : (e : Expected) (kinds : List Kind) (field : Option FieldName) (old new : List Annotation) → e ≡ expected.Value → MayExpect e kinds field old → MayExpect e kinds field new
-value-may expected.Value kinds field old new e h = h
-value-may expected.Field kinds field old new e h = absurd (cc e)
-value-may expected.Separator kinds field old new e h = absurd (cc e)
+value-may e kinds field old new is h = grind arith
 
 module _ {I A : Type 0} (device : InputOf I) where
   -- the reader with one annotation more

@@ -1,21 +1,21 @@
 -- Each step of a reading leads from a path of the grammar to the path with the item that it gives.
-use Rattle.std.proofs.Common.{◌≡◌, ◌==◌, ℕ, Bool, true, false, not, List, [], ◌∷◌, ◌++◌, Option, Some, None, Result, Ok, Err, nat_lt, nat_le, length, sum_by, refl, sym, ap, subst, ◌∙◌, arith}
-use Rattle.std.proofs.lemmas.Bool.{false≢true, eqb-true, and_parts}
-use Rattle.std.specs.Str.{bytes_eq}
+use Rattle.std.proofs.Common.{◌≡◌, ℕ, Bool, true, false, not, List, [], ◌∷◌, ◌++◌, Option, Some, None, Result, Ok, Err, ◌⊎◌, inl, inr, nat_lt, nat_le, length, sum_by, refl, sym, ap, subst, ◌∙◌, arith}
+use Rattle.std.proofs.lemmas.Bool.{false≢true}
+use Rattle.std.proofs.lemmas.Slice.Eq.{bytes_eq-Decides}
 use Rattle.ion_meter.specs.declared.fault.Reason.{Reason}
-use Rattle.ion_meter.specs.declared.fault.Reason.TheVariants.{BadVersion, DepthLimit, AnnotationLimit}
+use Rattle.ion_meter.specs.declared.fault.Reason.TheVariants.{BadToken, BadVersion, DepthLimit, AnnotationLimit}
 use Rattle.ion_meter.specs.declared.limits.Limits.{Limits}
 use Rattle.ion_value.specs.declared.ion_type.Kind.{Kind}
 use Rattle.ion_value.specs.declared.ion_type.Kind.TheVariants as kind
 use Rattle.ion_value.specs.Name.{is_version, version_word}
 use Rattle.ion_value.specs.Value as value
-use Rattle.ion_value.specs.Value.{Symbol, SymbolAt, Scalar, Value, Members, PlacedItem}
+use Rattle.ion_value.specs.Value.{Symbol, SymbolAt, Scalar, Value, PlacedItem}
 use Rattle.ion_value.specs.Path.{Path, closed, opened, Nest, outermost, inner, path_items}
 use Rattle.ion_value.specs.Reading.{Step, Gives, GoesOn}
 use Rattle.ion_meter.specs.Sources.{Cursor, skip}
 use Rattle.ion_value.specs.Parts.{Placed, part, refuse, ◌>>=◌, ◌>>◌}
 use Rattle.ion_text_in.specs.Blanks.{blanks}
-use Rattle.ion_text_in.specs.Token.{First, a_word, a_quoted, a_short, a_long, a_run, a_lob, an_operator, an_infinity, a_begin, an_end, a_comma, a_colon, two_colons, no_token, first_at, Token, plain, name, text, operator, no_number, begin, end, comma, colon, colons, token_of, next_token}
+use Rattle.ion_text_in.specs.Token.{First, a_colon, two_colons, first_at, Token, plain, name, text, operator, no_number, begin, end, comma, colon, colons, token_of, next_token}
 use Rattle.ion_text_in.specs.Reading as reading
 use Rattle.ion_text_in.specs.Positions.{Wants, a_value, a_field, a_separator, State, innermost, in_sexp, has_commas, at, first_place}
 use Rattle.ion_text_in.specs.Reading.{at_member, behind_member, may_come, top_of, item_of, tells_version, is_marker, behind_colons, step, step_of, take, part_at}
@@ -170,6 +170,9 @@ refused-goes bytes path s p false reason o goes = goes
 abbrev state : List Kind → ℕ → Wants → Cursor → State
 state kinds top wants c = record { kinds = kinds; top = top; wants = wants; cursor = c }
 
+same-kind : (j k : Kind) → reading.is_same j k ≡ true → j ≡ k
+same-kind j k same = grind arith
+
 module _ (limits : Limits) (bytes : List ℕ) (path : Path SymbolAt ℕ) (top : ℕ) (is_top : IsTop path top) (p : ℕ) (d : Cursor) where
   -- a bracket that closes
   end-goes : (j : Kind) (js : List Kind) (wants : Wants) (full : Bool) (behind : Cursor) → Spells (start_of bytes) path (j ∷ js) full behind
@@ -182,15 +185,11 @@ module _ (limits : Limits) (bytes : List ℕ) (path : Path SymbolAt ℕ) (top : 
   closed-goes : (kinds : List Kind) (k : Kind) (wants : Wants) (full : Bool) (behind : Cursor) → Spells (start_of bytes) path kinds full behind
       → Tok (in_sexp (innermost kinds)) behind (end k) p d → (s : State) → Goes bytes path s (part p (reading.end_step kinds top k p d))
   closed-goes [] k wants full behind spells tok s = tt
-  closed-goes (kind.List ∷ js) kind.List wants full behind spells tok s = end-goes kind.List js wants full behind spells tok s
-  closed-goes (kind.List ∷ js) kind.Sexp wants full behind spells tok s = tt
-  closed-goes (kind.List ∷ js) kind.Struct wants full behind spells tok s = tt
-  closed-goes (kind.Sexp ∷ js) kind.List wants full behind spells tok s = tt
-  closed-goes (kind.Sexp ∷ js) kind.Sexp wants full behind spells tok s = end-goes kind.Sexp js wants full behind spells tok s
-  closed-goes (kind.Sexp ∷ js) kind.Struct wants full behind spells tok s = tt
-  closed-goes (kind.Struct ∷ js) kind.List wants full behind spells tok s = tt
-  closed-goes (kind.Struct ∷ js) kind.Sexp wants full behind spells tok s = tt
-  closed-goes (kind.Struct ∷ js) kind.Struct wants full behind spells tok s = end-goes kind.Struct js wants full behind spells tok s
+  closed-goes (j ∷ js) k wants full behind spells tok s = from (reading.is_same j k) refl
+    where
+      from : (same : Bool) → reading.is_same j k ≡ same → Goes bytes path s (part p (refuse (not same) BadToken >> Ok (Gives (item_of top None [] p value.end) (state js top (behind_member (innermost js)) d))))
+      from true same = end-goes j js wants full behind spells (subst (λ k. Tok (in_sexp (Some j)) behind (end k) p d) (sym (same-kind j k same)) tok) s
+      from false same = tt
 
   -- no bracket closes behind a field or an annotation
   bare-goes : (kinds : List Kind) (k : Kind) (field : Option SymbolAt) (annotations : List SymbolAt) (behind b c : Cursor) → Spells (start_of bytes) path kinds false behind
@@ -242,15 +241,6 @@ module _ (limits : Limits) (bytes : List ℕ) (path : Path SymbolAt ℕ) (top : 
 
 -- ---- version markers
 
-same-bytes : (xs ys : List ℕ) → bytes_eq xs ys ≡ true → ys ≡ xs
-same-bytes [] [] e = refl
-same-bytes [] (y ∷ ys) e = absurd (false≢true e)
-same-bytes (x ∷ xs) [] e = absurd (false≢true e)
-same-bytes (x ∷ xs) (y ∷ ys) e =
-    let both = and_parts (x == y) (bytes_eq xs ys) e in
-    let first : x ≡ y = eqb-true x y both.0 in
-    rw (first, same-bytes xs ys both.1) refl
-
 -- the word of a version stands alone at top level
 record IsVersion (k : Option Kind) (annotations : List SymbolAt) (quoted : Bool) (symbol : Symbol) : Type 0 where
   at_top : k ≡ None
@@ -259,14 +249,10 @@ record IsVersion (k : Option Kind) (annotations : List SymbolAt) (quoted : Bool)
 
 told-version : (k : Option Kind) (annotations : List SymbolAt) (quoted : Bool) (symbol : Symbol) → tells_version k annotations quoted symbol ≡ true → IsVersion k annotations quoted symbol
 unfolding tells_version
-told-version None [] false (value.Text word) e = record { at_top = refl; bare = refl; unquoted = refl }
-told-version None [] false (value.Id id) e = absurd (false≢true e)
-told-version None [] true symbol e = absurd (false≢true e)
-told-version None (a ∷ annotations) quoted symbol e = absurd (false≢true e)
-told-version (Some k) annotations quoted symbol e = absurd (false≢true e)
+told-version k annotations quoted symbol e = grind arith
 
 marker-word : (symbol : Symbol) → is_marker symbol ≡ true → symbol ≡ value.Text version_word
-marker-word (value.Text word) e = ap value.Text (same-bytes version_word word e)
+marker-word (value.Text word) e = ap value.Text (sym ((bytes_eq-Decides version_word word).0 e))
 marker-word (value.Id id) e = absurd (false≢true e)
 
 module _ (limits : Limits) (bytes : List ℕ) (path : Path SymbolAt ℕ) (top : ℕ) (is_top : IsTop path top) (p : ℕ) (d : Cursor) where
@@ -330,29 +316,22 @@ module _ (limits : Limits) (bytes : List ℕ) (path : Path SymbolAt ℕ) (top : 
 
   -- ---- fields
 
+  colon-or : (f : First) (kinds : List Kind) (a : SymbolAt) (e : Cursor) → (f ≡ a_colon) ⊎ (reading.colon_of kinds top a e f ≡ Err (BadToken, e.place))
+  colon-or f kinds a e = grind arith
+
   colon-goes : (kinds : List Kind) (a : SymbolAt) (behind b e : Cursor) → Spells (start_of bytes) path kinds false behind
       → ((q : ℕ) (f : Cursor) → Tok false b colon q f → Field (innermost kinds) behind (Some a) f) → blanks b ≡ Ok e
       → (first : First) → first_at false e.rest ≡ first → (s : State) → Goes bytes path s (reading.colon_of kinds top a e first)
-  colon-goes kinds a behind b e spells field blank a_colon is s = record {
-    full = false;
-    behind = behind;
-    spells = spells;
-    begun = in_item (field e.place (skip 1 e) (colon-tok b e blank is)) Annotations.nothing;
-    top = is_top;
-  }
-  colon-goes kinds a behind b e spells field blank a_run is s = tt
-  colon-goes kinds a behind b e spells field blank a_word is s = tt
-  colon-goes kinds a behind b e spells field blank a_quoted is s = tt
-  colon-goes kinds a behind b e spells field blank a_short is s = tt
-  colon-goes kinds a behind b e spells field blank a_long is s = tt
-  colon-goes kinds a behind b e spells field blank a_lob is s = tt
-  colon-goes kinds a behind b e spells field blank an_operator is s = tt
-  colon-goes kinds a behind b e spells field blank an_infinity is s = tt
-  colon-goes kinds a behind b e spells field blank (a_begin k) is s = tt
-  colon-goes kinds a behind b e spells field blank (an_end k) is s = tt
-  colon-goes kinds a behind b e spells field blank a_comma is s = tt
-  colon-goes kinds a behind b e spells field blank two_colons is s = tt
-  colon-goes kinds a behind b e spells field blank no_token is s = tt
+  colon-goes kinds a behind b e spells field blank first is s = elim (colon-or first kinds a e) [
+    | inl one ↦ subst (λ f. Goes bytes path s (reading.colon_of kinds top a e f)) (sym one) (record {
+        full = false;
+        behind = behind;
+        spells = spells;
+        begun = in_item (field e.place (skip 1 e) (colon-tok b e blank (is ∙ one))) Annotations.nothing;
+        top = is_top;
+      })
+    | inr other ↦ subst (λ o. Goes bytes path s o) (sym other) tt
+  ]
 
   rest-goes : (kinds : List Kind) (a : SymbolAt) (behind b e : Cursor) → Spells (start_of bytes) path kinds false behind
       → ((q : ℕ) (f : Cursor) → Tok false b colon q f → Field (innermost kinds) behind (Some a) f) → blanks b ≡ Ok e

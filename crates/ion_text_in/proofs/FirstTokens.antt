@@ -1,8 +1,7 @@
 -- The kind of token that begins: at the input's end, and how many bytes tell it.
-use Rattle.std.proofs.Common.{◌≡◌, ◌≢◌, ℕ, inl, inr, ◌+◌, ◌-◌, ◌<◌, ◌≤◌, Bool, true, false, ◌&&◌, ◌||◌, ◌==◌, if◌then◌else◌, List, [], ◌∷◌, ◌++◌, length, take, drop, get_or, not, IfSome, IsSome, MatchOption, Option, Some, None, Ok, codes, refl, sym, ap, ◌∙◌, arith}
+use Rattle.std.proofs.Common.{◌≡◌, ◌≢◌, ℕ, inl, inr, ◌+◌, ◌-◌, ◌<◌, ◌≤◌, Bool, true, false, ◌&&◌, ◌||◌, ◌==◌, if◌then◌else◌, List, [], ◌∷◌, ◌++◌, length, get_or, not, IfSome, IsSome, MatchOption, Option, Some, None, Ok, codes, refl, sym, ap, ◌∙◌, arith}
 use Rattle.std.proofs.lemmas.Bool.{agree_below_at, and_parts, eqb-false, eqb-true, ne_eqb, or_cases}
 use Rattle.std.proofs.lemmas.Bool.Decides.{nat_tests}
-use Rattle.std.proofs.lemmas.List.{take_rest}
 use Rattle.ion_value.specs.Digits.{first_is}
 use Rattle.ion_value.specs.Name.{begins_with, is_identifier_start, is_operator_byte}
 use Rattle.ion_value.specs.declared.ion_type.Kind.TheVariants as kind
@@ -17,11 +16,6 @@ use Rattle.ion_text_in.specs.Reading.{colons_at}
 use Rattle.ion_meter.specs.Sources.{Cursor}
 use Rattle.ion_text_in.proofs.BlankTurns.{found-other}
 use Rattle.ion_text_in.proofs.Fuel.{begins-within}
-
--- a list by its first byte
-pub headed : (bytes : List ℕ) (b : ℕ) → 1 ≤ length bytes → get_or bytes 0 0 ≡ b → b ∷ take (length bytes - 1) (drop 1 bytes) ≡ bytes
-headed [] b some e = absurd (omega (arith, some))
-headed (a ∷ bytes) b some e = ap (λ (l : List ℕ). b ∷ l) (take_rest (a ∷ bytes) 1) ∙ ap (λ (c : ℕ). c ∷ bytes) (sym e)
 
 -- ---- where the input ends
 

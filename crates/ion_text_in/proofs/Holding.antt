@@ -32,10 +32,6 @@ pub causes-refused : (reason : Reason) (place : ℕ) (a b : Counts) (n k : ℕ) 
 causes-refused reason place a b n k exceeds c =
     record { memory = λ e. absurd (cc e); counted = λ _. c.counted (λ e. cc e); device = λ e. absurd (cc e); steady = λ _. c.steady (λ e. cc e); limit = λ e. absurd (cc e); no_writes = λ e. cc e }
 
--- nothing yet
-pub held-none : {I : Type 0} (device : InputOf I) (s : Incoming I) (m : Counts) (n most : ℕ) → Stands s → n ≤ most → n ≤ m.held → Held device s s m m n n most None
-held-none device s m n most stands le there = record { stands = λ _. stands; moves = moves-not device s; causes = causes-none m m _ _ refl; charges = charges-none m n most le there }
-
 pub charges-then : (a b c : Counts) (k l n most : ℕ) → k ≤ a.held → Charges a b k l most → Charges b c l n most → Charges a c k n most
 charges-then a b c k l n most there x y =
     let hx = x.held in let hy = y.held in let px = x.peak in let py = y.peak in let rx = x.rises in let ry = y.rises in

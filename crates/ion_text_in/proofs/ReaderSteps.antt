@@ -19,13 +19,12 @@ use Rattle.ion_value.specs.Standing.{in_struct, open_after, Fits, InRange}
 use Rattle.ion_value.proofs.Passing.{lent-there}
 use Rattle.ion_value.proofs.Cursors.{moves-not}
 use Rattle.ion_value.proofs.Readings.{reading_by-step}
-use Rattle.ion_value.specs.Name.{is_version, version_word}
+use Rattle.ion_value.specs.Name.{version_word}
 use Rattle.ion_value.specs.Value as value
 use Rattle.ion_value.specs.Value.{SymbolAt}
 use Rattle.ion_text_in.specs.declared.token.Body.{Body}
 use Rattle.ion_text_in.specs.declared.token.Body.TheVariants as body
 use Rattle.ion_text_in.specs.declared.token.Symbol.{Symbol as CodeSymbol}
-use Rattle.ion_text_in.specs.declared.token.Symbol.TheVariants as symbol
 use Rattle.ion_text_in.specs.declared.reader.ItemKind.{ItemKind}
 use Rattle.ion_text_in.specs.declared.reader.ItemKind.TheVariants as kind
 use Rattle.ion_text_in.specs.declared.symbol.FieldName.{FieldName}
@@ -148,11 +147,6 @@ not-annotated (a ∷ annotations) e = absurd (cc e)
 none-open : (l : List Kind) → innermost l ≡ None → l ≡ []
 none-open [] e = refl
 none-open (k ∷ l) e = absurd (cc e)
-
-pub tells-text : (k : Option Kind) (annotations : List SymbolAt) (quoted : Bool) (text : List ℕ) (s : CodeSymbol) → is_some k ≡ false → is_annotated annotations ≡ false → quoted ≡ false → s ≡ symbol.Text
-    → tells_version k annotations quoted (as_symbol text s) ≡ is_version text
-unfolding tells_version
-tells-text k annotations quoted text s top none bare is = rw (none-is k top, not-annotated annotations none, bare, is) refl
 
 -- such a word stands without annotations at top level
 told-version : (k : Option Kind) (annotations : List SymbolAt) (quoted : Bool) (text : List ℕ) (s : CodeSymbol) → tells_version k annotations quoted (as_symbol text s) ≡ true

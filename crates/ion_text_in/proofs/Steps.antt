@@ -324,12 +324,12 @@ module _ (limits : Limits) (bytes : List ℕ) (path : Path SymbolAt ℕ) (top : 
       → (first : First) → first_at false e.rest ≡ first → (s : State) → Goes bytes path s (reading.colon_of kinds top a e first)
   colon-goes kinds a behind b e spells field blank first is s = elim (colon-or first kinds a e) [
     | inl one ↦ subst (λ f. Goes bytes path s (reading.colon_of kinds top a e f)) (sym one) (record {
-        full = false;
-        behind = behind;
-        spells = spells;
-        begun = in_item (field e.place (skip 1 e) (colon-tok b e blank (is ∙ one))) Annotations.nothing;
-        top = is_top;
-      })
+      full = false;
+      behind = behind;
+      spells = spells;
+      begun = in_item (field e.place (skip 1 e) (colon-tok b e blank (is ∙ one))) Annotations.nothing;
+      top = is_top;
+    })
     | inr other ↦ subst (λ o. Goes bytes path s o) (sym other) tt
   ]
 

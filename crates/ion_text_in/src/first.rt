@@ -76,9 +76,21 @@ pub(crate) fn scan_first(in_sexp: bool, bytes: &[u8]) -> Option<First>
             b'0'..=b'9' => Some(First::Number),
             b'a'..=b'z' | b'A'..=b'Z' | b'_' | b'$' => Some(First::Word),
             b'"' => Some(First::String),
-            b'\'' => quote(others),
-            b'{' => brace(others),
-            b':' => colon(others),
+            b'\'' => match others {
+                [] | [b'\''] => None,
+                [b'\'', b'\'', ..] => Some(First::LongString),
+                _ => Some(First::QuotedSymbol),
+            },
+            b'{' => match others {
+                [] => None,
+                [b'{', ..] => Some(First::Lob),
+                _ => Some(First::Begin(Kind::Struct)),
+            },
+            b':' => match others {
+                [] => None,
+                [b':', ..] => Some(First::Colons),
+                _ => Some(First::Colon),
+            },
             b'+' | b'-' => sign(in_sexp, *byte, others),
             byte => Some(mark(in_sexp, byte)),
         },
@@ -218,54 +230,6 @@ fn byte_at(bytes: &[u8], index: usize) -> u8
     ensures { result ≡ slice_index bytes.now index }
 {
     if index < bytes.len() { bytes[index] } else { 0 }
-}
-
-// What begins with a single quote.
-#[tactic(auto, unfolding(crate::specs::Token::first_at))]
-#[inline(always)]
-fn quote(others: &[u8]) -> Option<First>
-    ensures shows { (in_sexp : Bool) → IfSome result (λ f. (more : List ℕ)
-        → first_at in_sexp (39 ∷ (others.now ++ more)) ≡ first_of f) }
-    ensures wide { IfSome result (λ f. width (first_of f) ≤ 1 + length others.now) }
-    ensures known { 2 ≤ length others.now → IsSome result }
-{
-    match others {
-        [] | [b'\''] => None,
-        [b'\'', b'\'', ..] => Some(First::LongString),
-        _ => Some(First::QuotedSymbol),
-    }
-}
-
-// What begins with a brace.
-#[tactic(auto, unfolding(crate::specs::Token::first_at))]
-#[inline(always)]
-fn brace(others: &[u8]) -> Option<First>
-    ensures shows { (in_sexp : Bool) → IfSome result (λ f. (more : List ℕ)
-        → first_at in_sexp (123 ∷ (others.now ++ more)) ≡ first_of f) }
-    ensures wide { IfSome result (λ f. width (first_of f) ≤ 1 + length others.now) }
-    ensures known { 1 ≤ length others.now → IsSome result }
-{
-    match others {
-        [] => None,
-        [b'{', ..] => Some(First::Lob),
-        _ => Some(First::Begin(Kind::Struct)),
-    }
-}
-
-// What begins with a colon.
-#[tactic(auto, unfolding(crate::specs::Token::first_at))]
-#[inline(always)]
-fn colon(others: &[u8]) -> Option<First>
-    ensures shows { (in_sexp : Bool) → IfSome result (λ f. (more : List ℕ)
-        → first_at in_sexp (58 ∷ (others.now ++ more)) ≡ first_of f) }
-    ensures wide { IfSome result (λ f. width (first_of f) ≤ 1 + length others.now) }
-    ensures known { 1 ≤ length others.now → IsSome result }
-{
-    match others {
-        [] => None,
-        [b':', ..] => Some(First::Colons),
-        _ => Some(First::Colon),
-    }
 }
 
 // What begins with a sign.

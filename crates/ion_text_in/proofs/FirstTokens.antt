@@ -1,15 +1,15 @@
 -- The kind of token that begins: at the input's end, and how many bytes tell it.
-use Rattle.std.proofs.Common.{◌≡◌, ◌≢◌, ℕ, zero, suc, inl, inr, ◌+◌, ◌-◌, min, ◌<◌, ◌≤◌, Bool, true, false, ◌&&◌, ◌||◌, ◌==◌, if◌then◌else◌, List, [], ◌∷◌, ◌++◌, length, take, drop, get_or, slice_get, nat_le, not, None, Ok, codes, refl, sym, ap, ◌∙◌, arith}
-use Rattle.std.proofs.lemmas.Bool.{agree_below_at, and_parts, eqb-false, eqb-true, ne_eqb, or_cases, false≢true, leb-true, leb-false}
-use Rattle.std.proofs.lemmas.List.{take_rest, length-append, length-take, nil_from_length, append-nil, append_assoc}
-use Rattle.ion_meter.specs.Windows.{Incoming, lent, lent_by, Extends}
+use Rattle.std.proofs.Common.{◌≡◌, ◌≢◌, ℕ, inl, inr, ◌+◌, ◌-◌, ◌<◌, ◌≤◌, Bool, true, false, ◌&&◌, ◌||◌, ◌==◌, if◌then◌else◌, List, [], ◌∷◌, ◌++◌, length, get_or, not, IfSome, IsSome, MatchOption, Option, Some, None, Ok, codes, refl, sym, ap, ◌∙◌, arith}
+use Rattle.std.proofs.lemmas.Bool.{agree_below_at, and_parts, eqb-false, eqb-true, ne_eqb, or_cases}
+use Rattle.std.proofs.lemmas.Bool.Decides.{nat_tests}
 use Rattle.ion_value.specs.Digits.{first_is}
 use Rattle.ion_value.specs.Name.{begins_with, is_identifier_start, is_operator_byte}
 use Rattle.ion_value.specs.declared.ion_type.Kind.TheVariants as kind
 use Rattle.ion_text_in.specs.declared.first.TheConstants.{FIRST_BYTES}
 use Rattle.ion_text_in.specs.Token as tokens
 use Rattle.ion_text_in.specs.Token.{First, first_at, begins_run, is_infinity, punctuation}
-use Rattle.ion_text_in.specs.Firsts.{numbered, width}
+use Rattle.ion_text_in.specs.declared.first.First as code
+use Rattle.ion_text_in.specs.Firsts.{first_of, numbered, width}
 use Rattle.ion_text_in.specs.Blanks.{blanks, is_white}
 use Rattle.ion_text_in.specs.Meaning.{at}
 use Rattle.ion_text_in.specs.Reading.{colons_at}
@@ -17,15 +17,10 @@ use Rattle.ion_meter.specs.Sources.{Cursor}
 use Rattle.ion_text_in.proofs.BlankTurns.{found-other}
 use Rattle.ion_text_in.proofs.Fuel.{begins-within}
 
--- a list by its first byte
-pub headed : (bytes : List ℕ) (b : ℕ) → 1 ≤ length bytes → get_or bytes 0 0 ≡ b → b ∷ take (length bytes - 1) (drop 1 bytes) ≡ bytes
-headed [] b some e = absurd (omega (arith, some))
-headed (a ∷ bytes) b some e = ap (λ (l : List ℕ). b ∷ l) (take_rest (a ∷ bytes) 1) ∙ ap (λ (c : ℕ). c ∷ bytes) (sym e)
-
 -- ---- where the input ends
 
 -- bytes that go on with no token change nothing
-pub padded : (sexp : Bool) (bytes : List ℕ) → 1 ≤ length bytes → length bytes < 5
+padded : (sexp : Bool) (bytes : List ℕ) → 1 ≤ length bytes → (5 ≤ length bytes → false ≡ true)
     → first_at sexp (get_or bytes 0 0 ∷ get_or bytes 1 0 ∷ get_or bytes 2 0 ∷ get_or bytes 3 0 ∷ 0 ∷ []) ≡ first_at sexp bytes
 unfolding first_at
 padded sexp [] some few = absurd (omega (arith, some))
@@ -33,7 +28,13 @@ padded sexp (a ∷ []) some few = refl
 padded sexp (a ∷ b ∷ []) some few = refl
 padded sexp (a ∷ b ∷ c ∷ []) some few = refl
 padded sexp (a ∷ b ∷ c ∷ d ∷ []) some few = refl
-padded sexp (a ∷ b ∷ c ∷ d ∷ e ∷ bytes) some few = absurd (omega (arith, few))
+padded sexp (a ∷ b ∷ c ∷ d ∷ e ∷ bytes) some few = absurd (cc (few (omega arith)))
+
+pub ended-first : (sexp : Bool) (bytes : List ℕ) (found : Option code.First) (b c d : ℕ) → 1 ≤ length bytes → (5 ≤ length bytes → false ≡ true) → b ≡ get_or bytes 1 0 → c ≡ get_or bytes 2 0 → d ≡ get_or bytes 3 0
+    → IfSome found (λ f. (more : List ℕ) → first_at sexp ((get_or bytes 0 0 ∷ b ∷ c ∷ d ∷ 0 ∷ []) ++ more) ≡ first_of f) → (5 ≤ 5 → IsSome found)
+    → MatchOption found (bytes ≡ []) (λ f. first_at sexp bytes ≡ first_of f)
+ended-first sexp bytes None b c d some few second third fourth shows known = absurd (cc (known (omega arith)))
+ended-first sexp bytes (Some f) b c d some few second third fourth shows known = sym (padded sexp bytes some few) ∙ rw (second, third, fourth) at (shows [])
 
 -- ---- how many bytes tell it
 
@@ -62,7 +63,7 @@ punctuation-wide b bytes =
     (wide-if all (b == 93) _ _ (λ _. one) (wide-if all (b == 41) _ _ (λ _. one) (wide-if all (b == 44) _ _ (λ _. one)
     (wide-if all (b == 58) _ _ (λ _. wide-if all (first_is (λ c. c == 58) bytes) _ _ (λ e. first-two b bytes e) one) one)))))))
 
-pub first-wide : (sexp : Bool) (bytes : List ℕ) → 1 ≤ length bytes → width (first_at sexp bytes) ≤ length bytes
+first-wide : (sexp : Bool) (bytes : List ℕ) → 1 ≤ length bytes → width (first_at sexp bytes) ≤ length bytes
 unfolding first_at
 first-wide sexp [] some = absurd (omega (arith, some))
 first-wide sexp (b ∷ bytes) some =
@@ -73,48 +74,16 @@ first-wide sexp (b ∷ bytes) some =
     (wide-if all (is_infinity all) _ _ (λ e. either-begins (codes "+inf") (codes "-inf") all 4 _ refl refl e)
     (wide-if all (sexp && is_operator_byte b) _ _ (λ _. some) (punctuation-wide b bytes))))))))
 
+pub ended-wide : (sexp : Bool) (bytes : List ℕ) (found : Option code.First) → 1 ≤ length bytes → MatchOption found (bytes ≡ []) (λ f. first_at sexp bytes ≡ first_of f)
+    → IfSome found (λ f. width (first_of f) ≤ length bytes)
+ended-wide sexp bytes None some first = tt
+ended-wide sexp bytes (Some f) some first = rw (sym first) (first-wide sexp bytes some)
+
 -- ---- what stands in a window
 
 pub first-left : (sexp : Bool) (slice shown more rest : List ℕ) (f : First) → rest ≡ shown ++ more → slice ≡ shown → ((more : List ℕ) → first_at sexp (slice ++ more) ≡ f)
     → first_at sexp rest ≡ f
 first-left sexp slice shown more rest f e same shows = ap (first_at sexp) e ∙ ap (λ (l : List ℕ). first_at sexp (l ++ more)) (sym same) ∙ shows more
-
-pub get-none : (xs : List ℕ) (n : ℕ) → None ≡ slice_get xs n → length xs ≤ n
-get-none [] n e = omega arith
-get-none (x ∷ xs) zero e = absurd (cc e)
-get-none (x ∷ xs) (suc n) e = let others = get-none xs n e in omega (arith, others)
-
--- there is nothing behind a slice where the input ends within it
-pub ended-left : (slice more rest : List ℕ) (n : ℕ) → rest ≡ slice ++ more → None ≡ slice_get rest n → n ≤ length slice → rest ≡ slice
-ended-left slice more rest n e none le =
-    let long = ap (λ (l : List ℕ). length l) e ∙ length-append slice more in
-    let most = get-none rest n none in
-    e ∙ ap (λ (l : List ℕ). slice ++ l) (nil_from_length more (omega (arith, long, most, le))) ∙ append-nil slice
-
--- a window does not lend less where more was read
-pub lent-grows : {I : Type 0} (rest : I → List ℕ) (observable : I → Type 0) (s t : Incoming I) → Extends rest observable s t → s.fault ≡ None → t.fault ≡ None → length (lent s) ≤ length (lent t)
-lent-grows rest observable s t x before after =
-    let more : List ℕ = x.prefix.0 in
-    let one : length (lent s) ≡ min (s.limit - s.place) (length s.buffered) = ap (λ f. length (lent_by f (s.limit - s.place) s.buffered)) before ∙ length-take (s.limit - s.place) s.buffered in
-    let two : length (lent t) ≡ min (t.limit - t.place) (length t.buffered) = ap (λ f. length (lent_by f (t.limit - t.place) t.buffered)) after ∙ length-take (t.limit - t.place) t.buffered in
-    let long : length t.buffered ≡ length s.buffered + length more = ap (λ (l : List ℕ). length l) x.prefix.1 ∙ length-append s.buffered more in
-    omega (arith, one, two, long, x.place, x.limit)
-
-pub extends-then : {I : Type 0} (rest : I → List ℕ) (observable : I → Type 0) (s t u : Incoming I) → Extends rest observable s t → Extends rest observable t u → Extends rest observable s u
-extends-then rest observable s t u a b = record {
-  prefix = (a.prefix.0 ++ b.prefix.0, b.prefix.1 ∙ (ap (λ (l : List ℕ). l ++ b.prefix.0) a.prefix.1 ∙ append_assoc s.buffered a.prefix.0 b.prefix.0));
-  place = b.place ∙ a.place;
-  limit = b.limit ∙ a.limit;
-  still_observable = (λ h. a.still_observable.0 (b.still_observable.0 h), λ h. b.still_observable.1 (a.still_observable.1 h));
-  same_left = λ h. b.same_left (a.still_observable.1 h) ∙ a.same_left h;
-}
-
-pub fewer : (n : ℕ) → (5 ≤ n → false ≡ true) → n < 5
-fewer n none = below (nat_le 5 n) refl
-  where
-    below : (many : Bool) → nat_le 5 n ≡ many → n < 5
-    below true e = absurd (false≢true (none (leb-true 5 n e)))
-    below false e = leb-false 5 n e
 
 -- ---- kinds that a byte tells alone
 
@@ -128,36 +97,11 @@ number_of (tokens.a_begin kind.Sexp) = 6
 number_of (tokens.an_end kind.Struct) = 7
 number_of (tokens.an_end kind.List) = 8
 number_of (tokens.an_end kind.Sexp) = 9
-number_of (tokens.a_begin kind.Struct) = 0
-number_of tokens.a_quoted = 0
-number_of tokens.a_long = 0
-number_of tokens.a_lob = 0
-number_of tokens.an_operator = 0
-number_of tokens.an_infinity = 0
-number_of tokens.a_colon = 0
-number_of tokens.two_colons = 0
-number_of tokens.no_token = 0
+number_of _ = 0
 
 numbered-of : (f : First) → 0 < number_of f → numbered (number_of f) ≡ f
 unfolding number_of
-numbered-of tokens.a_word some = refl
-numbered-of tokens.a_run some = refl
-numbered-of tokens.a_short some = refl
-numbered-of tokens.a_comma some = refl
-numbered-of (tokens.a_begin kind.List) some = refl
-numbered-of (tokens.a_begin kind.Sexp) some = refl
-numbered-of (tokens.an_end kind.Struct) some = refl
-numbered-of (tokens.an_end kind.List) some = refl
-numbered-of (tokens.an_end kind.Sexp) some = refl
-numbered-of (tokens.a_begin kind.Struct) some = absurd (omega (arith, some))
-numbered-of tokens.a_quoted some = absurd (omega (arith, some))
-numbered-of tokens.a_long some = absurd (omega (arith, some))
-numbered-of tokens.a_lob some = absurd (omega (arith, some))
-numbered-of tokens.an_operator some = absurd (omega (arith, some))
-numbered-of tokens.an_infinity some = absurd (omega (arith, some))
-numbered-of tokens.a_colon some = absurd (omega (arith, some))
-numbered-of tokens.two_colons some = absurd (omega (arith, some))
-numbered-of tokens.no_token some = absurd (omega (arith, some))
+numbered-of f some = grind arith
 
 -- the table has 0 for a byte, or the number of what begins with it
 agrees : Bool → List ℕ → ℕ → Bool
@@ -226,11 +170,5 @@ brace-first (a ∷ b ∷ bytes) two first other sexp more =
 
 -- ---- no kind that is told is a colon
 
-no-colons-if : (b : Bool) (f g : First) (c : Cursor) → colons_at f c ≡ None → colons_at g c ≡ None → colons_at (if b then f else g) c ≡ None
-no-colons-if true f g c one other = one
-no-colons-if false f g c one other = other
-
 pub no-colons : (n : ℕ) (c : Cursor) → colons_at (numbered n) c ≡ None
-no-colons n c =
-    no-colons-if (n == 1) _ _ c refl (no-colons-if (n == 2) _ _ c refl (no-colons-if (n == 3) _ _ c refl (no-colons-if (n == 4) _ _ c refl
-    (no-colons-if (n == 5) _ _ c refl (no-colons-if (n == 6) _ _ c refl (no-colons-if (n == 7) _ _ c refl (no-colons-if (n == 8) _ _ c refl (no-colons-if (n == 10) _ _ c refl refl))))))))
+no-colons n c = grind (arith, nat_tests)

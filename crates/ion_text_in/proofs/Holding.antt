@@ -22,14 +22,13 @@ pub record Held {I : Type 0} (device : InputOf I) (old new : Incoming I) (earlie
 pub charges-none : (m : Counts) (n most : ℕ) → n ≤ most → n ≤ m.held → Charges m m n n most
 charges-none m n most le there = record { held = refl; share = le; peak = omega (arith, le, there); rises = omega arith }
 
--- nothing yet
-pub held-none : {I : Type 0} (device : InputOf I) (s : Incoming I) (m : Counts) (n most : ℕ) → Stands s → n ≤ most → n ≤ m.held → Held device s s m m n n most None
-held-none device s m n most stands le there = record {
-  stands = λ _. stands;
-  moves = moves-not device s;
-  causes = record { memory = λ e. absurd (cc e); counted = λ _. refl; device = λ e. absurd (cc e); steady = λ _. refl; limit = λ e. absurd (cc e); no_writes = λ e. cc e };
-  charges = charges-none m n most le there;
-}
+-- why no fault is answered, and why what was read is refused
+pub causes-none : (a b : Counts) (n : ℕ) (exceeds : Type 0) → b.refused ≡ a.refused → ReadCauses None a b n n exceeds
+causes-none a b n exceeds still = record { memory = λ e. absurd (cc e); counted = λ _. still; device = λ e. absurd (cc e); steady = λ _. refl; limit = λ e. absurd (cc e); no_writes = λ e. cc e }
+
+pub causes-refused : (reason : Reason) (place : ℕ) (a b : Counts) (n k : ℕ) (exceeds : Type 0) → ReadCauses None a b n k exceeds → ReadCauses (Some (Refused reason place)) a b n k exceeds
+causes-refused reason place a b n k exceeds c =
+    record { memory = λ e. absurd (cc e); counted = λ _. c.counted (λ e. cc e); device = λ e. absurd (cc e); steady = λ _. c.steady (λ e. cc e); limit = λ e. absurd (cc e); no_writes = λ e. cc e }
 
 pub charges-then : (a b c : Counts) (k l n most : ℕ) → k ≤ a.held → Charges a b k l most → Charges b c l n most → Charges a c k n most
 charges-then a b c k l n most there x y =
@@ -48,24 +47,30 @@ exceeds-then device s t moves exceeds = λ h.
     let limit = moves.limit in
     omega (arith, over, total, limit)
 
+pub causes-then : {I : Type 0} (device : InputOf I) (s t u : Incoming I) (a b c : Counts) (fault : Option Fault) → Moves device s t
+    → ReadCauses None a b (device.failure_count s.device) (device.failure_count t.device) (Exceeds device s)
+    → ReadCauses fault b c (device.failure_count t.device) (device.failure_count u.device) (Exceeds device t)
+    → ReadCauses fault a c (device.failure_count s.device) (device.failure_count u.device) (Exceeds device s)
+causes-then device s t u a b c fault moves x y =
+    let still = x.counted (λ e. cc e) in
+    let steady = x.steady (λ e. cc e) in
+    record {
+      memory = λ e. let less = y.memory e in omega (arith, less, still);
+      counted = λ e. y.counted e ∙ still;
+      device = λ e. y.device e ∙ ap (λ (n : ℕ). n + 1) steady;
+      steady = λ e. y.steady e ∙ steady;
+      limit = λ e. exceeds-then device s t moves (y.limit e);
+      no_writes = y.no_writes;
+    }
+
 pub held-then : {I : Type 0} (device : InputOf I) (s t u : Incoming I) (a b c : Counts) (k l n most : ℕ) (fault : Option Fault) → k ≤ a.held
     → Held device s t a b k l most None → Held device t u b c l n most fault → Held device s u a c k n most fault
-held-then device s t u a b c k l n most fault there x y =
-    let still = x.causes.counted (λ e. cc e) in
-    let steady = x.causes.steady (λ e. cc e) in
-    record {
-      stands = y.stands;
-      moves = moves-then device s t u x.moves y.moves;
-      causes = record {
-        memory = λ e. let less = y.causes.memory e in omega (arith, less, still);
-        counted = λ e. y.causes.counted e ∙ still;
-        device = λ e. y.causes.device e ∙ ap (λ (n : ℕ). n + 1) steady;
-        steady = λ e. y.causes.steady e ∙ steady;
-        limit = λ e. exceeds-then device s t x.moves (y.causes.limit e);
-        no_writes = y.causes.no_writes;
-      };
-      charges = charges-then a b c k l n most there x.charges y.charges;
-    }
+held-then device s t u a b c k l n most fault there x y = record {
+  stands = y.stands;
+  moves = moves-then device s t u x.moves y.moves;
+  causes = causes-then device s t u a b c fault x.moves x.causes y.causes;
+  charges = charges-then a b c k l n most there x.charges y.charges;
+}
 
 -- ---- of one call
 
@@ -94,21 +99,9 @@ reads-then device s t u a b c k l n most r there x y = held-into device s u a c 
 -- or a refusal
 pub reads-refused : {I T : Type 0} (device : InputOf I) (s t : Incoming I) (a b : Counts) (k l most : ℕ) (reason : Reason) (place : ℕ) → Held device s t a b k l most None
     → ReadsInto {T = T} device s t a b k l most (Err (Refused reason place))
-reads-refused device s t a b k l most reason place x = record {
-  stands = tt;
-  moves = x.moves;
-  causes = record {
-    memory = λ e. absurd (cc e);
-    counted = λ _. x.causes.counted (λ e. cc e);
-    device = λ e. absurd (cc e);
-    steady = λ _. x.causes.steady (λ e. cc e);
-    limit = λ e. absurd (cc e);
-    no_writes = λ e. cc e;
-  };
-  charges = x.charges;
-}
+reads-refused device s t a b k l most reason place x = record { stands = tt; moves = x.moves; causes = causes-refused reason place a b _ _ _ x.causes; charges = x.charges }
 
-causes-held : (fault : Option Fault) (m : Counts) (n k : ℕ) (exceeds : Type 0) → Causes fault n k exceeds → ReadCauses fault m m n k exceeds
+pub causes-held : (fault : Option Fault) (m : Counts) (n k : ℕ) (exceeds : Type 0) → Causes fault n k exceeds → ReadCauses fault m m n k exceeds
 causes-held fault m n k exceeds c = record { memory = λ e. absurd (c.no_memory e); counted = λ _. refl; device = c.device; steady = c.steady; limit = c.limit; no_writes = c.no_writes }
 
 -- one that takes no memory

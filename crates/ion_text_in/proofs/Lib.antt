@@ -55,11 +55,8 @@ pub mod TypedWords
 pub mod ReaderSteps
 pub mod ReaderAnnotations
 pub mod ReaderCalls
-pub mod ReaderTokens
 pub mod ShownFurther
 pub mod ReaderSymbols
-pub mod ReaderTakes
-pub mod ReaderNames
 pub mod LobTurns
 mod RunCuts
 mod Prepaid

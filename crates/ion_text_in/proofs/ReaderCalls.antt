@@ -1,222 +1,201 @@
--- Calls of the reader one after the other: what they keep and move.
-use Rattle.std.proofs.Common.{◌≡◌, ℕ, ◌+◌, ◌*◌, ◌<◌, ◌≤◌, ◌-◌, ◌^◌, true, false, List, [], length, reverse, Option, None, Result, Ok, Err, refl, sym, ap, subst, ◌∙◌, arith}
-use Rattle.ion_meter.specs.Counts.{Counts, Shrinks}
+-- Calls of the reader one after the other: what they give, keep and move.
+use Rattle.std.proofs.Common.{◌≡◌, ℕ, ◌+◌, ◌*◌, ◌<◌, ◌≤◌, ◌-◌, Bool, true, false, List, length, reverse, Option, Some, None, Result, Ok, Err, refl, sym, ap, subst, ◌∙◌, arith}
+use Rattle.ion_meter.specs.Counts.{Counts}
 use Rattle.ion_meter.specs.declared.device.Input.{Ghosts as InputOf}
 use Rattle.ion_meter.specs.declared.fault.Fault.{Fault}
 use Rattle.ion_meter.specs.declared.fault.Fault.TheVariants.{Refused}
 use Rattle.ion_meter.specs.declared.fault.Reason.{Reason}
 use Rattle.ion_meter.specs.declared.limits.Limits.{Limits}
 use Rattle.ion_meter.specs.Windows.{Incoming}
-use Rattle.ion_meter.specs.Sources.{cursor}
+use Rattle.ion_meter.specs.Sources.{Cursor, cursor, Exceeds, Moves}
 use Rattle.ion_value.specs.declared.ion_type.Kind.{Kind}
 use Rattle.ion_value.specs.Calls.{Reads, ReadsInto}
-use Rattle.ion_value.specs.Shares.{fault_of}
-use Rattle.ion_value.proofs.Cursors.{moves-not}
+use Rattle.ion_value.specs.Reading.{Reading, Stopped}
+use Rattle.ion_value.specs.Shares.{Charges, GrowsWithin, ReadCauses}
 use Rattle.ion_value.specs.Standing.{Fits, open_after}
+use Rattle.ion_value.proofs.Cursors.{moves-not, moves-then}
+use Rattle.ion_text_in.specs.Blanks.{blanks}
 use Rattle.ion_text_in.specs.declared.reader.StepResult.{StepResult}
 use Rattle.ion_text_in.specs.declared.reader.StepResult.TheVariants as step_result
 use Rattle.ion_text_in.specs.declared.reader.TextReader.{TextReader}
-use Rattle.ion_text_in.specs.Steps.{held_by, later, left_to, lent_by, opened_in, share_of, state_behind, to_come_by, to_come_in, unless_unfinished, CanStep, IsReady, IsSized, IsInside, ReadyAfter, Stepped}
-use Rattle.ion_text_in.proofs.ReaderSteps.{stepped-refused}
-use Rattle.ion_text_in.proofs.Holding.{Held, held-then, held-into, into-held, reads-held}
+use Rattle.ion_text_in.specs.Steps.{held_by, later, left_to, lent_by, opened_in, share_of, to_come_by, to_come_in, Advances, CanAdvance, CanStep, IsSized, IsInside, StepGives, Stepped, StepsTo}
+use Rattle.ion_text_in.specs.Tokens.{going}
+use Rattle.ion_text_in.proofs.Holding.{causes-held, causes-none, causes-refused, causes-then, charges-none, charges-then}
+
+-- as a step, what a call for the next item answers
+abbrev pub as_step : Result Bool Fault → Result StepResult Fault
+as_step (Ok true) = Ok step_result.Item
+as_step (Ok false) = Ok step_result.Ended
+as_step (Err fault) = Err fault
 
 module _ {I A : Type 0} (device : InputOf I) where
   -- the reader read on, and took nothing
-  pub record Reached (old mid : TextReader I A) (earlier later : Counts) : Type 0 where
-    pub kinds : mid.kinds ≡ old.kinds
-    pub limits : mid.limits ≡ old.limits
-    pub done : mid.done ≡ old.done
-    pub failed : mid.failed ≡ old.failed
-    pub sized : IsSized mid
-    pub held : Held device old.source mid.source earlier later (held_by old) (held_by mid) (share_of old) None
+  abbrev pub Reached : TextReader I A → TextReader I A → Counts → Counts → Type 0
+  Reached old mid earlier later = Stepped device ⊥ None old mid earlier later
 
-  within-share : (r : TextReader I A) → IsSized r → held_by r ≤ share_of r
-  within-share r s = let few = s.few in let annotated = s.annotated in let name = s.name in let text = s.text in omega (arith, few, annotated, name, text)
+  -- no item was taken
+  pub stepped-by : (took : Type 0) (fault : Option Fault) (p q : TextReader I A) (a b : Counts) → (took → ⊥) → q.kinds ≡ p.kinds → q.limits ≡ p.limits → q.done ≡ p.done → q.failed ≡ p.failed → IsSized q
+      → Moves device p.source q.source → ReadCauses fault a b (device.failure_count p.source.device) (device.failure_count q.source.device) (Exceeds device p.source)
+      → Charges a b (held_by p) (held_by q) (share_of p) → Stepped device took fault p q a b
+  stepped-by took fault p q a b none kinds limits done failed sized moves causes charges =
+      record { opens = λ e. absurd (none e); stays = λ _. kinds; fits = λ e. absurd (none e); limits = limits; done = done; failed = failed; sized = sized; moves = moves; causes = causes; charges = charges }
 
-  -- the source alone was read
-  source-sized : (r : TextReader I A) (s : Incoming I) → IsSized r → IsSized (record r { source = s })
-  source-sized r s sized = record { checked = sized.checked; few = sized.few; annotated = sized.annotated; name = sized.name; text = sized.text }
-
-  pub reached-look : {T : Type 0} (r : TextReader I A) (s : Incoming I) (a : Counts) (x : T) → IsSized r → held_by r ≤ a.held → Reads device r.source s (Ok x) → Reached r (record r { source = s }) a a
-  reached-look r s a x sized there reads = record {
-    kinds = refl;
-    limits = refl;
-    done = refl;
-    failed = refl;
-    sized = source-sized r s sized;
-    held = reads-held device r.source s a (held_by r) (share_of r) (Ok x) (within-share r sized) there reads;
-  }
-
-  -- a token was read into the text
-  pub reached-text : {T : Type 0} (r : TextReader I A) (s : Incoming I) (t : List ℕ) (a b : Counts) (x : T) → IsSized r → held_by r ≤ a.held
-      → ReadsInto device r.source s a b (length r.text) (length t) r.limits.scalar (Ok x) → Reached r (record r { source = s; text = t }) a b
-  reached-text r s t a b x sized there reads =
-      let few = sized.few in let noted = sized.annotated in let name = sized.name in
-      let held = reads.charges.held in let share = reads.charges.share in let peak = reads.charges.peak in
-      record {
-        kinds = refl;
-        limits = refl;
-        done = refl;
-        failed = refl;
-        sized = record { checked = sized.checked; few = few; annotated = noted; name = name; text = share };
-        held = record {
-          stands = λ _. reads.stands;
-          moves = reads.moves;
-          causes = reads.causes;
-          charges = record {
-            held = omega (arith, held);
-            share = omega (arith, few, noted, name, share);
-            peak = omega (arith, few, noted, name, there, peak);
-            rises = reads.charges.rises;
-          };
-        };
-      }
-
-  -- one behind another
-  pub reached-then : (p q r : TextReader I A) (a b c : Counts) → held_by p ≤ a.held → Reached p q a b → Reached q r b c → Reached p r a c
-  reached-then p q r a b c there x y =
-      let share : share_of q ≡ share_of p = ap (λ (l : Limits). 4096 + 16 * l.depth + 3 * l.scalar) x.limits in
-      record {
-        kinds = y.kinds ∙ x.kinds;
-        limits = y.limits ∙ x.limits;
-        done = y.done ∙ x.done;
-        failed = y.failed ∙ x.failed;
-        sized = y.sized;
-        held = held-then device p.source q.source r.source a b c (held_by p) (held_by q) (held_by r) (share_of p) None there x.held
-            (subst (λ (n : ℕ). Held device q.source r.source b c (held_by q) (held_by r) n None) share y.held);
-      }
+  -- whether an item was taken, told in another way
+  pub stepped-as : (took other : Type 0) (fault : Option Fault) (p q : TextReader I A) (a b : Counts) → (took → other) → (other → took) → Stepped device took fault p q a b → Stepped device other fault p q a b
+  stepped-as took other fault p q a b to from s =
+      record { opens = λ e. s.opens (from e); stays = λ e. s.stays (λ t. e (to t)); fits = λ e. s.fits (from e); limits = s.limits; done = s.done; failed = s.failed; sized = s.sized; moves = s.moves; causes = s.causes; charges = s.charges }
 
   -- a call behind what was read
-  pub stepped-behind : {T : Type 0} (item : T) (p q r : TextReader I A) (a b c : Counts) (result : Result T Fault) → held_by p ≤ a.held → Reached p q a b → Stepped device item q r b c result
-      → Stepped device item p r a c result
-  stepped-behind item p q r a b c result there x y =
+  pub stepped-then : (took : Type 0) (fault : Option Fault) (p q r : TextReader I A) (a b c : Counts) → held_by p ≤ a.held → Reached p q a b → Stepped device took fault q r b c → Stepped device took fault p r a c
+  stepped-then took fault p q r a b c there x y =
       let share : share_of q ≡ share_of p = ap (λ (l : Limits). 4096 + 16 * l.depth + 3 * l.scalar) x.limits in
-      let opened : opened_in q ≡ opened_in p = ap (λ (l : List Kind). reverse l) x.kinds in
+      let kinds : q.kinds ≡ p.kinds = x.stays (λ e. e) in
+      let opened : opened_in q ≡ opened_in p = ap (λ (l : List Kind). reverse l) kinds in
       record {
         opens = λ e. y.opens e ∙ ap (λ (l : List Kind). open_after l (lent_by r).head) opened;
-        stays = λ e. y.stays e ∙ x.kinds;
+        stays = λ e. y.stays e ∙ kinds;
         fits = λ e. subst (λ (l : List Kind). Fits p.limits.depth l (lent_by r)) opened (subst (λ (l : Limits). Fits l.depth (opened_in q) (lent_by r)) x.limits (y.fits e));
         limits = y.limits ∙ x.limits;
         done = y.done ∙ x.done;
         failed = y.failed ∙ x.failed;
         sized = y.sized;
-        reads =
-            held-into device p.source r.source a c (held_by p) (held_by r) (share_of p) result
-            (held-then device p.source q.source r.source a b c (held_by p) (held_by q) (held_by r) (share_of p) (fault_of result) there x.held
-            (subst (λ (n : ℕ). Held device q.source r.source b c (held_by q) (held_by r) n (fault_of result)) share
-            (into-held device q.source r.source b c (held_by q) (held_by r) (share_of q) result y.reads)));
+        moves = moves-then device p.source q.source r.source x.moves y.moves;
+        causes = causes-then device p.source q.source r.source a b c fault x.moves x.causes y.causes;
+        charges = charges-then a b c (held_by p) (held_by q) (held_by r) (share_of p) there x.charges (subst (λ (n : ℕ). Charges b c (held_by q) (held_by r) n) share y.charges);
       }
 
-  -- ---- steps one after the other
+  -- ---- what was read
 
-  pub ended-ready : (r : TextReader I A) (x : StepResult) → x ≡ step_result.Ended → ReadyAfter (Ok x) r → IsReady r
-  ended-ready r step_result.Ended e h = h
-  ended-ready r step_result.Passed e h = absurd (cc e)
-  ended-ready r step_result.Item e h = absurd (cc e)
+  pub held-share : (r : TextReader I A) → IsSized r → held_by r ≤ share_of r
+  held-share r s = omega (arith, s.few, s.annotated, s.name, s.text)
 
-  pub passed-ready : (r : TextReader I A) (x : StepResult) → x ≡ step_result.Passed → ReadyAfter (Ok x) r → IsInside r
-  passed-ready r step_result.Ended e h = absurd (cc e)
-  passed-ready r step_result.Passed e h = h
-  passed-ready r step_result.Item e h = absurd (cc e)
+  -- the source alone
+  pub reached-source : {T : Type 0} (r : TextReader I A) (s : Incoming I) (m : Counts) (x : T) → IsSized r → held_by r ≤ m.held → Reads device r.source s (Ok x) → Reached r (record r { source = s }) m m
+  reached-source r s m x sized there reads =
+      stepped-by ⊥ None r (record r { source = s }) m m (λ e. e) refl refl refl refl (record { checked = sized.checked; few = sized.few; annotated = sized.annotated; name = sized.name; text = sized.text }) reads.moves
+      (causes-held None m _ _ _ reads.causes) (charges-none m (held_by r) (share_of r) (held-share r sized) there)
 
-  pub item-ready : (r : TextReader I A) (x : StepResult) → x ≡ step_result.Item → ReadyAfter (Ok x) r → IsReady r
-  item-ready r step_result.Ended e h = absurd (cc e)
-  item-ready r step_result.Passed e h = absurd (cc e)
-  item-ready r step_result.Item e h = h
+  -- a token into the text
+  pub reached-text : {T : Type 0} (r : TextReader I A) (s : Incoming I) (t : List ℕ) (a b : Counts) (x : T) → IsSized r → held_by r ≤ a.held
+      → ReadsInto device r.source s a b (length r.text) (length t) r.limits.scalar (Ok x) → Reached r (record r { source = s; text = t }) a b
+  reached-text r s t a b x sized there reads =
+      let few = sized.few in let noted = sized.annotated in let name = sized.name in
+      let held = reads.charges.held in let share = reads.charges.share in let peak = reads.charges.peak in
+      stepped-by ⊥ None r (record r { source = s; text = t }) a b (λ e. e) refl refl refl refl (record { checked = sized.checked; few = few; annotated = noted; name = name; text = share }) reads.moves reads.causes
+      (record { held = omega (arith, held); share = omega (arith, few, noted, name, share); peak = omega (arith, few, noted, name, there, peak); rises = reads.charges.rises })
 
-  -- the field and the annotations of an item were given back
-  abbrev pub forgot : TextReader I A → TextReader I A
-  forgot r = record r { field = None; annotations = []; texts = [] }
+  -- ---- steps
 
-  pub reached-forgot : (r : TextReader I A) (a b : Counts) → IsSized r → IsReady r → held_by r ≤ a.held → Shrinks a b (16 * length r.annotations + length r.texts) → Reached r (forgot r) a b
-  reached-forgot r a b sized ready there cost =
-      let held = cost.held in let peak = cost.peak in
-      let few = sized.few in let name = sized.name in let text = sized.text in
+  gives-same : (before after : Reading) (new : TextReader I A) (result : Result StepResult Fault) → before ≡ after → StepGives device after new result → StepGives device before new result
+  gives-same before after new result e h = subst (λ r. StepGives device r new result) (sym e) h
+
+  -- a step behind what was read
+  pub steps-behind : (result : Result StepResult Fault) (p q r : TextReader I A) (a b c : Counts) (start next : Option ℕ) (before behind : Cursor → Reading) (most more : ℕ) → held_by p ≤ a.held → Reached p q a b
+      → (device.observable p.source.device → (d : Cursor) → blanks d ≡ going start (cursor device p.source) → (e : Cursor) × ((blanks e ≡ going next (cursor device q.source)) × (before d ≡ behind e)))
+      → GrowsWithin a b (held_by p) (held_by q + more) (most + 16 * (left_to p - left_to q)) → StepsTo device next behind more q r b c result → StepsTo device start before most p r a c result
+  steps-behind result p q r a b c start next before behind most more there reached same grows s =
+      let lx = reached.moves.limit in let fx = reached.moves.further in let ly = s.stepped.moves.limit in let fy = s.stepped.moves.further in
+      let held = reached.charges.held in let own = grows.own in let peak = grows.peak in let own_then = s.goes.own in let peak_then = s.goes.peak in
       record {
-        kinds = refl;
-        limits = refl;
-        done = refl;
-        failed = refl;
-        sized = record { checked = sized.checked; few = few; annotated = omega arith; name = name; text = text };
-        held = record {
-          stands = λ _. ready.stands;
-          moves = moves-not device r.source;
-          causes = record { memory = λ e. absurd (cc e); counted = λ _. cost.refused; device = λ e. absurd (cc e); steady = λ _. refl; limit = λ e. absurd (cc e); no_writes = λ e. cc e };
-          charges = record { held = omega (arith, held); share = omega (arith, few, name, text); peak = omega (arith, peak); rises = omega (arith, peak) };
-        };
+        gives = λ h d blank. let x = same h d blank in gives-same (before d) (behind x.0) r result x.1.1 (s.gives (reached.moves.still_observable.1 h) x.0 x.1.0);
+        ready = s.ready;
+        stepped = stepped-then _ _ p q r a b c there reached s.stepped;
+        goes = record { own = omega (arith, lx, fx, ly, fy, own, own_then); peak = omega (arith, lx, fx, ly, fy, held, own, peak, peak_then) };
       }
 
-  pub inside-forgot : (r : TextReader I A) → IsReady r → r.unfinished ≡ None → IsInside (forgot r)
-  inside-forgot r ready finished = record { stands = ready.stands; expects = ready.expects; kept = record { within = tt; costs = refl }; finished = finished }
+  -- behind a source that was read on
+  pub steps-ahead : {T : Type 0} (result : Result StepResult Fault) (p r : TextReader I A) (s : Incoming I) (m c : Counts) (x : T) (next : Option ℕ) (before behind : Cursor → Reading) (more : ℕ) → CanStep p m
+      → Reads device p.source s (Ok x)
+      → (device.observable p.source.device → (d : Cursor) → blanks d ≡ blanks (cursor device p.source) → (e : Cursor) × ((blanks e ≡ going next (cursor device s)) × (before d ≡ behind e)))
+      → (CanStep (record p { source = s }) m → StepsTo device next behind more (record p { source = s }) r m c result) → StepsTo device None before more p r m c result
+  steps-ahead result p r s m c x next before behind more can reads same steps =
+      let reached = reached-source p s m x can.sized can.held reads in
+      let inside : IsInside (record p { source = s }) = record { stands = reads.stands; expects = can.inside.expects; kept = can.inside.kept; finished = can.inside.finished } in
+      steps-behind result p (record p { source = s }) r m m c None next before behind more more can.held reached same (record { own = omega arith; peak = omega arith })
+      (steps (record { room = can.room; held = can.held; countable = can.countable; sized = reached.sized; inside = inside }))
 
-  pub begins-inside : (r q : TextReader I A) (a b : Counts) → q ≡ forgot r → IsSized r → IsReady r → held_by r ≤ a.held → r.unfinished ≡ None → Shrinks a b (16 * length r.annotations + length r.texts)
-      → Reached r q a b × (IsInside q × ((left_to q ≤ left_to r) × (to_come_by device r ≡ to_come_in device q)))
-  begins-inside r q a b is sized ready there finished cost =
-      subst (λ (x : TextReader I A). Reached r x a b × (IsInside x × ((left_to x ≤ left_to r) × (to_come_by device r ≡ to_come_in device x)))) (sym is) (
-        reached-forgot r a b sized ready there cost,
-        (
-          inside-forgot r ready finished,
-          (omega arith, ap (λ (u : Option ℕ). unless_unfinished u (later r.limits (state_behind (cursor device r.source) r))) finished),
-        ),
-      )
+  -- what was to come, told in another way
+  pub steps-same : (result : Result StepResult Fault) (p q : TextReader I A) (a b : Counts) (start : Option ℕ) (before behind : Cursor → Reading) (more : ℕ) → ((d : Cursor) → before d ≡ behind d)
+      → StepsTo device start behind more p q a b result → StepsTo device start before more p q a b result
+  steps-same result p q a b start before behind more same s =
+      record { gives = λ h d blank. gives-same (before d) (behind d) q result (same d) (s.gives h d blank); ready = s.ready; stepped = s.stepped; goes = s.goes }
 
-  pub can-loop : (p q : TextReader I A) (a b : Counts) → a.held ≤ 2 ^ 62 → held_by p ≤ a.held → a.refused < 2 ^ 64 - 1 → Reached p q a b → IsInside q → CanStep q b
-  can-loop p q a b room there countable x inside =
-      let held = x.held.charges.held in let still = x.held.causes.counted (λ e. cc e) in
-      record {
-        room = omega (arith, room, there, held);
-        held = omega (arith, there, held);
-        countable = omega (arith, countable, still);
-        sized = x.sized;
-        inside = inside;
-      }
+  -- so much more may be taken
+  pub steps-more : (result : Result StepResult Fault) (p q : TextReader I A) (a b : Counts) (start : Option ℕ) (before : Cursor → Reading) (less more : ℕ) → less ≤ more
+      → StepsTo device start before less p q a b result → StepsTo device start before more p q a b result
+  steps-more result p q a b start before less more le s =
+      let own = s.goes.own in let peak = s.goes.peak in
+      record { gives = s.gives; ready = s.ready; stepped = s.stepped; goes = record { own = omega (arith, own, le); peak = omega (arith, peak, le) } }
 
-  pub reached-passed : (p q : TextReader I A) (a b : Counts) (x : StepResult) → x ≡ step_result.Passed → Stepped device step_result.Item p q a b (Ok x) → Reached p q a b
-  reached-passed p q a b x e s = record {
-    kinds = s.stays (λ i. absurd (cc (e, i)));
-    limits = s.limits;
-    done = s.done;
-    failed = s.failed;
-    sized = s.sized;
-    held = into-held device p.source q.source a b (held_by p) (held_by q) (share_of p) (Ok x) s.reads;
+  -- a fault of what was read, nothing else having happened
+  pub steps-refused : (r : TextReader I A) (m : Counts) (start : Option ℕ) (before : Cursor → Reading) (more : ℕ) (reason : Reason) (place : ℕ) → IsSized r → held_by r ≤ m.held
+      → ((d : Cursor) → before d ≡ Stopped reason place) → StepsTo device start before more r r m m (Err (Refused reason place))
+  steps-refused r m start before more reason place sized there stops = record {
+    gives = λ h d blank. stops d;
+    ready = tt;
+    stepped = stepped-by _ _ r r m m (λ e. cc e) refl refl refl refl sized (moves-not device r.source) (causes-refused reason place m m _ _ _ (causes-none m m _ _ refl))
+        (charges-none m (held_by r) (share_of r) (held-share r sized) there);
+    goes = record { own = omega arith; peak = omega arith };
   }
 
-  pub stepped-item : (p q : TextReader I A) (a b : Counts) (x : StepResult) → x ≡ step_result.Item → Stepped device step_result.Item p q a b (Ok x) → Stepped device true p q a b (Ok true)
-  stepped-item p q a b x e s = record {
-    opens = λ _. s.opens (ap (λ (y : StepResult). Ok y) e);
-    stays = λ other. absurd (other refl);
-    fits = λ _. s.fits (ap (λ (y : StepResult). Ok y) e);
-    limits = s.limits;
-    done = s.done;
-    failed = s.failed;
-    sized = s.sized;
-    reads = record { stands = s.reads.stands; moves = s.reads.moves; causes = s.reads.causes; charges = s.reads.charges };
+  -- ---- up to an item
+
+  -- what steps did so far, from between two items
+  abbrev pub SoFar : TextReader I A → TextReader I A → Counts → Counts → Type 0
+  SoFar old mid earlier later = StepsTo device None (λ _. to_come_by device old) 0 old mid earlier later (Ok step_result.Passed)
+
+  pub so-far-can : (p q : TextReader I A) (a b : Counts) → CanAdvance p a → SoFar p q a b → CanStep q b
+  so-far-can p q a b can s =
+      let room = can.room in let there = can.held in let held = s.stepped.charges.held in
+      record { room = omega (arith, room, there, held); held = omega (arith, there, held); countable = omega (arith, can.countable, s.stepped.causes.counted (λ e. cc e)); sized = s.stepped.sized; inside = s.ready }
+
+  pub so-far-then : (result : Result StepResult Fault) (p q r : TextReader I A) (a b c : Counts) → CanAdvance p a → SoFar p q a b → StepsTo device None (λ _. to_come_in device q) 0 q r b c result
+      → StepsTo device None (λ _. to_come_by device p) 0 p r a c result
+  so-far-then result p q r a b c can s =
+      steps-behind result p q r a b c None None (λ _. to_come_by device p) (λ _. to_come_in device q) 0 0 can.held
+      (stepped-as (Ok step_result.Passed ≡ Ok step_result.Item) ⊥ None p q a b (λ e. cc e) (λ e. absurd e) s.stepped) (λ h d blank. (cursor device q.source, (refl, s.gives h d blank)))
+      (record { own = omega (arith, s.goes.own); peak = omega (arith, s.goes.peak) })
+
+  -- ---- a call for the next item
+
+  fault-refused : (before : Reading) (new : TextReader I A) (fault : Fault) (r : Reason) (p : ℕ) → StepGives device before new (Err fault) → fault ≡ Refused r p → before ≡ Stopped r p
+  fault-refused before new fault r p h e = grind arith
+
+  goes-all : (p q : TextReader I A) (a b : Counts) → GrowsWithin a b (held_by p) (held_by q) (0 + 16 * (left_to p - left_to q)) → GrowsWithin a b (held_by p) (held_by q) (16 * (left_to p - left_to q))
+  goes-all p q a b goes = record { own = omega (arith, goes.own); peak = omega (arith, goes.peak) }
+
+  pub advanced : (result : Result Bool Fault) (p q : TextReader I A) (a b : Counts) → StepsTo device None (λ _. to_come_by device p) 0 p q a b (as_step result) → (result ≡ Ok true → left_to q < left_to p)
+      → Advances device p q a b result
+  advanced (Ok true) p q a b s falls = record {
+    gives = λ h e. s.gives h (cursor device p.source) refl;
+    ends = λ h e. absurd (cc e);
+    refuses = λ h r place e. absurd (cc e);
+    ready = s.ready;
+    falls = falls;
+    stepped = stepped-as _ _ None p q a b (λ e. refl) (λ e. refl) s.stepped;
+    goes = goes-all p q a b s.goes;
+  }
+  advanced (Ok false) p q a b s falls = record {
+    gives = λ h e. absurd (cc e);
+    ends = λ h e. s.gives h (cursor device p.source) refl;
+    refuses = λ h r place e. absurd (cc e);
+    ready = s.ready;
+    falls = falls;
+    stepped = stepped-as _ _ None p q a b (λ e. cc e) (λ e. cc e) s.stepped;
+    goes = goes-all p q a b s.goes;
+  }
+  advanced (Err fault) p q a b s falls = record {
+    gives = λ h e. absurd (cc e);
+    ends = λ h e. absurd (cc e);
+    refuses = λ h r place e. fault-refused (to_come_by device p) q fault r place (s.gives h (cursor device p.source) refl) (cc e);
+    ready = tt;
+    falls = falls;
+    stepped = stepped-as _ _ (Some fault) p q a b (λ e. cc e) (λ e. cc e) s.stepped;
+    goes = goes-all p q a b s.goes;
   }
 
-  pub stepped-ended : (p q : TextReader I A) (a b : Counts) (x : StepResult) → x ≡ step_result.Ended → Stepped device step_result.Item p q a b (Ok x) → Stepped device true p q a b (Ok false)
-  stepped-ended p q a b x e s = record {
-    opens = λ i. absurd (cc i);
-    stays = λ _. s.stays (λ i. absurd (cc (e, i)));
-    fits = λ i. absurd (cc i);
-    limits = s.limits;
-    done = s.done;
-    failed = s.failed;
-    sized = s.sized;
-    reads = record { stands = s.reads.stands; moves = s.reads.moves; causes = s.reads.causes; charges = s.reads.charges };
-  }
-
-  pub stepped-failed : (p q : TextReader I A) (a b : Counts) (fault : Fault) → Stepped device step_result.Item p q a b (Err fault) → Stepped device true p q a b (Err fault)
-  stepped-failed p q a b fault s = record {
-    opens = λ i. absurd (cc i);
-    stays = λ _. s.stays (λ i. absurd (cc i));
-    fits = λ i. absurd (cc i);
-    limits = s.limits;
-    done = s.done;
-    failed = s.failed;
-    sized = s.sized;
-    reads = record { stands = tt; moves = s.reads.moves; causes = s.reads.causes; charges = s.reads.charges };
-  }
-
-  pub stepped-unfinished : (r : TextReader I A) (m : Counts) (reason : Reason) (place : ℕ) → IsSized r → IsReady r → held_by r ≤ m.held → Stepped device true r r m m (Err (Refused reason place))
-  stepped-unfinished r m reason place sized ready there =
-      stepped-failed r r m m (Refused reason place) (stepped-refused device r m reason place sized ready.stands there)
+  -- by steps so far, and the last
+  pub advanced-then : (result : Result Bool Fault) (p q r : TextReader I A) (a b c : Counts) → CanAdvance p a → SoFar p q a b → StepsTo device None (λ _. to_come_in device q) 0 q r b c (as_step result)
+      → (result ≡ Ok true → left_to r < left_to q) → Advances device p r a c result
+  advanced-then result p q r a b c can s last falls =
+      advanced result p r a c (so-far-then (as_step result) p q r a b c can s last) (λ e. omega (arith, falls e, s.stepped.moves.limit, s.stepped.moves.further))

@@ -1,53 +1,56 @@
 -- The steps of the reader: what they give, and what they keep.
-use Rattle.std.proofs.Common.{◌≡◌, Bool, true, false, ℕ, ◌<◌, ◌≤◌, not, nat_le, List, [], ◌∷◌, ◌++◌, length, is_some, reverse, IfSome, MatchOption, Option, Some, None, Result, Ok, Err, refl, sym, ap, subst, ◌∙◌, arith}
-use Rattle.std.proofs.lemmas.List.{reverse-append}
+use Rattle.std.proofs.Common.{◌≡◌, Bool, true, false, ℕ, ◌+◌, ◌-◌, ◌<◌, ◌≤◌, not, nat_le, List, [], ◌∷◌, ◌++◌, drop, length, is_some, reverse, IfSome, MatchOption, Option, Some, None, Result, Ok, Err, ◌⊎◌, refl, sym, ap, ◌∙◌, arith, length-append}
+use Rattle.std.proofs.lemmas.Bool.{le-leb, lt-leb}
+use Rattle.std.proofs.lemmas.List.{length-reverse, reverse-append}
 use Rattle.std.specs.Str.{bytes_eq}
-use Rattle.ion_meter.specs.Counts.{Counts}
+use Rattle.ion_meter.specs.Counts.{Counts, Grows, Shrinks}
 use Rattle.ion_meter.specs.declared.device.Input.{Ghosts as InputOf}
-use Rattle.ion_meter.specs.declared.fault.Fault.{Fault}
-use Rattle.ion_meter.specs.declared.fault.Fault.TheVariants.{Refused, Memory, ReadFault, WriteFault, InputLimit}
+use Rattle.ion_meter.specs.declared.fault.Fault.TheVariants.{Refused}
 use Rattle.ion_meter.specs.declared.fault.Reason.{Reason}
 use Rattle.ion_meter.specs.declared.fault.Reason.TheVariants.{BadToken, BadVersion, DepthLimit, Truncated}
 use Rattle.ion_meter.specs.declared.limits.Limits.{Limits}
-use Rattle.ion_meter.specs.Windows.{Incoming, left}
-use Rattle.ion_meter.specs.Sources.{Cursor, cursor, skip, Stands}
+use Rattle.ion_meter.specs.Windows.{Incoming, left, lent}
+use Rattle.ion_meter.specs.Sources.{Cursor, cursor, skip}
 use Rattle.ion_value.specs.declared.ion_type.Kind.{Kind}
 use Rattle.ion_value.specs.declared.item.Annotation.{Annotation}
-use Rattle.ion_value.specs.Calls.{ReadsInto}
 use Rattle.ion_value.specs.Parts.{part, refuse, ◌>>=◌, ◌>>◌}
-use Rattle.ion_value.specs.Reading.{Reading, Stops, Gives, Finished, More, Stopped, next_reading}
-use Rattle.ion_value.specs.Standing.{in_struct}
+use Rattle.ion_value.specs.Reading.{Stops, Finished, More, Stopped, next_reading}
+use Rattle.ion_value.specs.Standing.{in_struct, open_after, Fits, InRange}
+use Rattle.ion_value.proofs.Passing.{lent-there}
+use Rattle.ion_value.proofs.Cursors.{moves-not}
 use Rattle.ion_value.proofs.Readings.{reading_by-step}
-use Rattle.ion_value.specs.Name.{is_version, version_word}
+use Rattle.ion_value.specs.Name.{version_word}
 use Rattle.ion_value.specs.Value as value
-use Rattle.ion_value.specs.Value.{Symbol, SymbolAt}
+use Rattle.ion_value.specs.Value.{SymbolAt}
+use Rattle.ion_text_in.specs.declared.token.Body.{Body}
+use Rattle.ion_text_in.specs.declared.token.Body.TheVariants as body
 use Rattle.ion_text_in.specs.declared.token.Symbol.{Symbol as CodeSymbol}
-use Rattle.ion_text_in.specs.declared.token.Symbol.TheVariants as symbol
 use Rattle.ion_text_in.specs.declared.reader.ItemKind.{ItemKind}
 use Rattle.ion_text_in.specs.declared.reader.ItemKind.TheVariants as kind
 use Rattle.ion_text_in.specs.declared.symbol.FieldName.{FieldName}
 use Rattle.ion_text_in.specs.declared.expected.Expected.{Expected}
 use Rattle.ion_text_in.specs.declared.expected.Expected.TheVariants as expected
-use Rattle.ion_text_in.specs.declared.reader.StepResult.{StepResult}
 use Rattle.ion_text_in.specs.declared.reader.StepResult.TheVariants as step_result
 use Rattle.ion_text_in.specs.declared.reader.TextReader.{TextReader}
 use Rattle.ion_text_in.specs.Blanks.{blanks, blanks_at}
 use Rattle.ion_text_in.specs.Positions.{State, Wants, at, in_sexp, innermost}
+use Rattle.ion_text_in.specs.declared.first.Ahead.{Ahead}
 use Rattle.ion_text_in.specs.declared.first.First as code_first
 use Rattle.ion_text_in.specs.declared.first.First.TheVariants as firsts
-use Rattle.ion_text_in.specs.Firsts.{first_of, width}
+use Rattle.ion_text_in.specs.Firsts.{first_of, width, IsAhead}
 use Rattle.ion_text_in.specs.Overrun.{overrun}
-use Rattle.ion_text_in.specs.Reading.{step, step_of, part_at, part_behind, part_from, behind_colons, colons_at, colons_behind, symbol_step, value_or_version, next_part, may_come, final_step, take, size, item_step, end_step, is_same, item_of, member_of, behind_member, is_marker, tells_version, top_of}
+use Rattle.ion_text_in.specs.Reading.{step, step_of, part_at, part_behind, part_from, at_member, bare_end_step, behind_colons, colons_at, colons_behind, symbol_step, value_or_version, next_part, may_come, final_step, take, size, item_step, is_same, item_of, member_of, behind_member, is_marker, tells_version, top_of}
 use Rattle.ion_text_in.specs.Token as tokens
-use Rattle.ion_text_in.specs.Token.{First, Token, no_token, two_colons, first_at, token_of}
+use Rattle.ion_text_in.specs.Token.{First, Token, no_token, first_at, token_of}
 use Rattle.ion_text_in.specs.Scanning.{moved_to}
-use Rattle.ion_text_in.specs.Tokens.{as_symbol, going}
+use Rattle.ion_text_in.specs.Tokens.{as_scalar, as_symbol, going, BodyInRange}
 use Rattle.ion_text_in.specs.Symbols.{as_annotations, as_field, is_annotated}
 use Rattle.ion_text_in.specs.Expecting.{wanted, MayExpect}
-use Rattle.ion_text_in.specs.Steps.{annotations_in, as_head, closing, comes, ending, field_in, given_by, held_by, later, lent_by, opened_in, opening, share_of, state_behind, to_come_by, to_come_in, taking, unless_unfinished, with_colons, without_colons, IsSized, IsInside, StepGives, Stepped}
+use Rattle.ion_text_in.specs.Steps.{annotations_in, as_head, comes, ending, field_in, giving, held_by, later, lent_by, opened_in, part_by, share_of, state_at, state_behind, to_come_in, taking, unless_unfinished, with_colons, without_colons, CanStep, IsInside, MayGive, StepsTo}
 use Rattle.ion_text_in.proofs.Behind.{blanks-again}
 use Rattle.ion_text_in.proofs.Falling.{each_step_falls}
-use Rattle.ion_text_in.proofs.Holding.{held-none, held-into}
+use Rattle.ion_text_in.proofs.Holding.{causes-none, charges-none}
+use Rattle.ion_text_in.proofs.ReaderCalls.{held-share, stepped-by, steps-refused}
 
 -- ---- what is to come
 
@@ -71,150 +74,114 @@ pub later-moved : (limits : Limits) (s : State) (d c : Cursor) (start : Option �
 later-moved limits s d c None e = later-step limits (moved_to d s) ∙ (ap (next_reading (later limits)) (step-same limits s d c e) ∙ sym (later-step limits (moved_to c s)))
 later-moved limits s d c (Some start) e = later-step limits (moved_to d s) ∙ ap (next_reading (later limits)) (step-stops limits s d start e)
 
--- ---- what a step gives
-
-module _ {I A : Type 0} (device : InputOf I) where
-  pub gives-same : (before after : Reading) (new : TextReader I A) (result : Result StepResult Fault) → before ≡ after → StepGives device after new result → StepGives device before new result
-  gives-same before after new result e h = subst (λ r. StepGives device r new result) (sym e) h
-
-  -- an item was taken
-  pub gives-given : (r new : TextReader I A) (what : ItemKind) (place : ℕ) (start : Option ℕ) (d : Cursor) → new ≡ given_by r what place start new.expected
-      → wanted new.expected None [] ≡ behind_member (innermost (opened_in r)) → blanks d ≡ going start (cursor device r.source)
-      → next_reading (later r.limits) (item_step (opened_in r) r.top (field_in r) (annotations_in r) place (as_head r.text place what) (opened_in r) (behind_member (innermost (opened_in r))) d)
-      ≡ More (lent_by new) (to_come_by device new)
-  gives-given r new what place start d is behind blank =
-      let T = top_of (opened_in r) r.top (annotations_in r) place in
-      let g = given_by r what place start new.expected in
-      ap (More (lent_by g))
-      (ap (λ (w : Wants). later r.limits (record { kinds = opened_in r; top = T; wants = w; cursor = d })) (sym behind)
-      ∙ later-moved r.limits (state_behind d g) d (cursor device r.source) start blank)
-      ∙ ap (λ (n : TextReader I A). More (lent_by n) (to_come_by device n)) (sym is)
-
--- ---- what a step keeps
-
-module _ {I : Type 0} (device : InputOf I) where
-  -- nothing was read
-  pub reads-none : {T : Type 0} (s : Incoming I) (m : Counts) (n most : ℕ) (x : T) → Stands s → n ≤ most → n ≤ m.held → ReadsInto device s s m m n n most (Ok x)
-  reads-none s m n most x stands le there = held-into device s s m m n n most (Ok x) (held-none device s m n most stands le there)
-
-  pub reads-refused : {T : Type 0} (s : Incoming I) (m : Counts) (n most : ℕ) (reason : Reason) (place : ℕ) → Stands s → n ≤ most → n ≤ m.held
-      → ReadsInto {T = T} device s s m m n n most (Err (Refused reason place))
-  reads-refused s m n most reason place stands le there =
-      let h = held-none device s m n most stands le there in
-      record {
-        stands = tt;
-        moves = h.moves;
-        causes = record { memory = λ e. absurd (cc e); counted = λ _. refl; device = λ e. absurd (cc e); steady = λ _. refl; limit = λ e. absurd (cc e); no_writes = λ e. cc e };
-        charges = h.charges;
-      }
+-- ---- an item that is no container's
 
 field-some : (name : List ℕ) (field : Option FieldName) → is_some (as_field name field) ≡ is_some field
 field-some name None = refl
 field-some name (Some f) = refl
 
+no-field : (name : List ℕ) (field : Option FieldName) → is_some field ≡ false → as_field name field ≡ None
+no-field name None e = refl
+no-field name (Some f) e = absurd (cc e)
+
+separator-bare : (e : Expected) (kinds : List Kind) (field : Option FieldName) (annotations : List Annotation) → e ≡ expected.Separator → MayExpect e kinds field annotations → (field ≡ None) × (annotations ≡ [])
+separator-bare e kinds field annotations is h = grind arith
+
 value-expects : (e : Expected) (kinds : List Kind) (field : Option FieldName) (annotations : List Annotation) → e ≡ expected.Value → MayExpect e kinds field annotations → is_some field ≡ in_struct kinds
-value-expects expected.Value kinds field annotations e h = h
-value-expects expected.Field kinds field annotations e h = absurd (cc e)
-value-expects expected.Separator kinds field annotations e h = absurd (cc e)
+value-expects e kinds field annotations is h = grind arith
+
+body-fits : (text : List ℕ) (place : ℕ) (b : Body) → BodyInRange b → InRange (as_scalar text place b)
+body-fits text place b h = grind arith
+
+module _ {I A : Type 0} where
+  -- it leaves the containers as they are, and has its place
+  given-opens : (r : TextReader I A) (what : ItemKind) (place : ℕ) → MayGive r what → opened_in r ≡ open_after (opened_in r) (as_head r.text place what)
+  given-opens r what place may = grind arith
+
+  given-fits : (r : TextReader I A) (what : ItemKind) (place top : ℕ) → is_some (field_in r) ≡ in_struct (opened_in r) → MayGive r what
+      → Fits r.limits.depth (opened_in r) (item_of top (field_in r) (annotations_in r) place (as_head r.text place what))
+  given-fits r (kind.Scalar body) place top field may = record { place = body-fits r.text place body may; field = field; annotations = tt }
+  given-fits r kind.Marker place top field may = record { place = may.0; field = field ∙ ap (λ (l : List Kind). in_struct l) may.0; annotations = may.1 }
+  given-fits r (kind.Begin k) place top field may = absurd may
+  given-fits r kind.End place top field may = absurd may
 
 module _ {I A : Type 0} (device : InputOf I) where
-  pub held-share : (r : TextReader I A) → IsSized r → held_by r ≤ share_of r
-  held-share r s = let few = s.few in let annotated = s.annotated in let name = s.name in let text = s.text in omega (arith, few, annotated, name, text)
-
-  given-sized : (r : TextReader I A) (what : ItemKind) (place : ℕ) (start : Option ℕ) (e : Expected) → IsSized r → IsSized (given_by r what place start e)
-  given-sized r what place start e s = record { checked = s.checked; few = s.few; annotated = s.annotated; name = s.name; text = s.text }
-
-  -- a version marker was taken
-  pub stepped-marker : (r new : TextReader I A) (place : ℕ) (start : Option ℕ) (m : Counts) → new ≡ given_by r kind.Marker place start new.expected → r.expected ≡ expected.Value → opened_in r ≡ [] → r.annotations ≡ []
-      → IsSized r → IsInside r → held_by r ≤ m.held → Stepped device step_result.Item r new m m (Ok step_result.Item)
-  stepped-marker r new place start m is value top none sized inside there =
-      subst (λ (n : TextReader I A). Stepped device step_result.Item r n m m (Ok step_result.Item)) (sym is) (record {
-        opens = λ _. refl;
-        stays = λ other. absurd (other refl);
-        fits = λ _. record {
-          place = top;
-          field = field-some r.name r.field ∙ (value-expects r.expected (opened_in r) r.field r.annotations value inside.expects ∙ ap (λ (l : List Kind). in_struct l) top);
-          annotations = ap (λ (l : List Annotation). as_annotations r.texts l) none;
+  pub steps-given : (r : TextReader I A) (what : ItemKind) (place top : ℕ) (start : Option ℕ) (e : Expected) (m : Counts) → top ≡ top_of (opened_in r) r.top (annotations_in r) place
+      → wanted e None [] ≡ behind_member (innermost (opened_in r)) → MayExpect e (opened_in r) None [] → CanStep r m → r.expected ≡ expected.Value → MayGive r what
+      → StepsTo device start (giving r what place) 0 r (record r { what = what; place = place; top = top; unfinished = start; expected = e }) m m (Ok step_result.Item)
+  steps-given r what place top start e m is behind expects can value may =
+      let new = record r { what = what; place = place; top = top; unfinished = start; expected = e } in
+      let sized = can.sized in
+      let field = field-some r.name r.field ∙ value-expects r.expected (opened_in r) r.field r.annotations value can.inside.expects in
+      record {
+        gives = λ h d blank.
+            ap (λ (n : ℕ). More (item_of n (field_in r) (annotations_in r) place (as_head r.text place what)) (later r.limits (record { kinds = opened_in r; top = n; wants = behind_member (innermost (opened_in r)); cursor = d }))) (sym is)
+            ∙ ap (More (lent_by new)) (ap (λ (w : Wants). later r.limits (record { kinds = opened_in r; top = top; wants = w; cursor = d })) (sym behind)
+            ∙ later-moved r.limits (state_behind d new) d (cursor device r.source) start blank);
+        ready = record { stands = can.inside.stands; expects = expects };
+        stepped = record {
+          opens = λ _. given-opens r what place may;
+          stays = λ other. absurd (other refl);
+          fits = λ _. given-fits r what place top field may;
+          limits = refl;
+          done = refl;
+          failed = refl;
+          sized = record { checked = sized.checked; few = sized.few; annotated = sized.annotated; name = sized.name; text = sized.text };
+          moves = moves-not device r.source;
+          causes = causes-none m m _ _ refl;
+          charges = charges-none m (held_by r) (share_of r) (held-share device r sized) can.held;
         };
-        limits = refl;
-        done = refl;
-        failed = refl;
-        sized = given-sized r kind.Marker place start new.expected sized;
-        reads = reads-none device r.source m (held_by r) (share_of r) step_result.Item inside.stands (held-share r sized) there;
-      })
-
-  -- a fault of what was read, nothing else having happened
-  pub stepped-refused : (r : TextReader I A) (m : Counts) (reason : Reason) (place : ℕ) → IsSized r → Stands r.source → held_by r ≤ m.held
-      → Stepped device step_result.Item r r m m (Err (Refused reason place))
-  stepped-refused r m reason place sized stands there = record {
-    opens = λ e. absurd (cc e);
-    stays = λ _. refl;
-    fits = λ e. absurd (cc e);
-    limits = refl;
-    done = refl;
-    failed = refl;
-    sized = sized;
-    reads = reads-refused device r.source m (held_by r) (share_of r) reason place stands (held-share r sized) there;
-  }
+        goes = record { own = omega arith; peak = omega arith };
+      }
 
 -- ---- words of versions
-
-pub tells-quoted : (k : Option Kind) (annotations : List SymbolAt) (s : Symbol) → tells_version k annotations true s ≡ false
-unfolding tells_version
-tells-quoted None [] s = refl
-tells-quoted None (a ∷ annotations) s = refl
-tells-quoted (Some k) annotations s = refl
-
-pub tells-inside : (k : Option Kind) (annotations : List SymbolAt) (quoted : Bool) (s : Symbol) → is_some k ≡ true → tells_version k annotations quoted s ≡ false
-unfolding tells_version
-tells-inside None annotations quoted s e = absurd (cc e)
-tells-inside (Some k) annotations quoted s e = refl
-
-pub tells-annotated : (k : Option Kind) (annotations : List SymbolAt) (quoted : Bool) (s : Symbol) → is_annotated annotations ≡ true → tells_version k annotations quoted s ≡ false
-unfolding tells_version
-tells-annotated k [] quoted s e = absurd (cc e)
-tells-annotated None (a ∷ annotations) quoted s e = refl
-tells-annotated (Some k) (a ∷ annotations) quoted s e = refl
-
-pub tells-id : (k : Option Kind) (annotations : List SymbolAt) (quoted : Bool) (text : List ℕ) (s : CodeSymbol) (id : ℕ) → s ≡ symbol.Id id → tells_version k annotations quoted (as_symbol text s) ≡ false
-unfolding tells_version
-tells-id k annotations quoted text symbol.Text id e = absurd (cc e)
-tells-id None [] true text (symbol.Id i) id e = refl
-tells-id None [] false text (symbol.Id i) id e = refl
-tells-id None (a ∷ annotations) quoted text (symbol.Id i) id e = refl
-tells-id (Some k) annotations quoted text (symbol.Id i) id e = refl
 
 pub none-is : {X : Type 0} (o : Option X) → is_some o ≡ false → o ≡ None
 none-is None e = refl
 none-is (Some x) e = absurd (cc e)
 
-pub not-annotated : (annotations : List SymbolAt) → is_annotated annotations ≡ false → annotations ≡ []
+not-annotated : (annotations : List SymbolAt) → is_annotated annotations ≡ false → annotations ≡ []
 not-annotated [] e = refl
 not-annotated (a ∷ annotations) e = absurd (cc e)
 
-pub none-open : (l : List Kind) → innermost l ≡ None → l ≡ []
+none-open : (l : List Kind) → innermost l ≡ None → l ≡ []
 none-open [] e = refl
 none-open (k ∷ l) e = absurd (cc e)
 
-pub tells-text : (k : Option Kind) (annotations : List SymbolAt) (quoted : Bool) (text : List ℕ) (s : CodeSymbol) → is_some k ≡ false → is_annotated annotations ≡ false → quoted ≡ false → s ≡ symbol.Text
-    → tells_version k annotations quoted (as_symbol text s) ≡ is_version text
-unfolding tells_version
-tells-text k annotations quoted text s top none bare is = rw (none-is k top, not-annotated annotations none, bare, is) refl
-
 -- such a word stands without annotations at top level
-pub told-version : (k : Option Kind) (annotations : List SymbolAt) (quoted : Bool) (text : List ℕ) (s : CodeSymbol) → tells_version k annotations quoted (as_symbol text s) ≡ true
+told-version : (k : Option Kind) (annotations : List SymbolAt) (quoted : Bool) (text : List ℕ) (s : CodeSymbol) → tells_version k annotations quoted (as_symbol text s) ≡ true
     → (k ≡ None) × (annotations ≡ []) × (is_marker (as_symbol text s) ≡ bytes_eq version_word text)
 unfolding tells_version
-told-version None [] false text symbol.Text e = (refl, refl, refl)
-told-version None [] true text symbol.Text e = absurd (cc e)
-told-version None [] false text (symbol.Id id) e = absurd (cc e)
-told-version None [] true text (symbol.Id id) e = absurd (cc e)
-told-version None (a ∷ annotations) quoted text s e = absurd (cc e)
-told-version (Some k) annotations quoted text s e = absurd (cc e)
+told-version k annotations quoted text s e = grind arith
 
-pub none-annotated : (texts : List ℕ) (annotations : List Annotation) → as_annotations texts annotations ≡ [] → annotations ≡ []
-none-annotated texts [] e = refl
-none-annotated texts (a ∷ annotations) e = absurd (cc e)
+module _ {I A : Type 0} where
+  -- a symbol without two colons is a value, a version marker, or refused as one
+  symbol-told : (r : TextReader I A) (s : CodeSymbol) (quoted : Bool) (place : ℕ) (d : Cursor) (told : Bool) → tells_version (innermost (opened_in r)) (annotations_in r) quoted (as_symbol r.text s) ≡ told
+      → without_colons r s quoted place d ≡ comes r.limits (part place (value_or_version (opened_in r) r.top (field_in r) (annotations_in r) (at (as_symbol r.text s) place) d told))
+  symbol-told r s quoted place d told e = ap (λ (b : Bool). comes r.limits (part place (value_or_version (opened_in r) r.top (field_in r) (annotations_in r) (at (as_symbol r.text s) place) d b))) e
+
+  pub symbol-value : (r : TextReader I A) (s : CodeSymbol) (quoted : Bool) (place : ℕ) (d : Cursor) → tells_version (innermost (opened_in r)) (annotations_in r) quoted (as_symbol r.text s) ≡ false
+      → without_colons r s quoted place d ≡ giving r (kind.Scalar (body.Symbol s)) place d
+  symbol-value r s quoted place d e = symbol-told r s quoted place d false e
+
+  symbol-version : (r : TextReader I A) (s : CodeSymbol) (quoted : Bool) (place : ℕ) (d : Cursor) (word : Bool) → tells_version (innermost (opened_in r)) (annotations_in r) quoted (as_symbol r.text s) ≡ true
+      → bytes_eq version_word r.text ≡ word → without_colons r s quoted place d
+      ≡ comes r.limits (part place (refuse (not word) BadVersion >> Ok (item_step (opened_in r) r.top (field_in r) (annotations_in r) place value.marker (opened_in r) (behind_member (innermost (opened_in r))) d)))
+  symbol-version r s quoted place d word e is =
+      symbol-told r s quoted place d true e
+      ∙ ap (λ (b : Bool). comes r.limits (part place (refuse (not b) BadVersion >> Ok (item_step (opened_in r) r.top (field_in r) (annotations_in r) place value.marker (opened_in r) (behind_member (innermost (opened_in r))) d))))
+      ((told-version (innermost (opened_in r)) (annotations_in r) quoted r.text s e).2 ∙ is)
+
+  pub symbol-marker : (r : TextReader I A) (s : CodeSymbol) (quoted : Bool) (place : ℕ) (d : Cursor) → tells_version (innermost (opened_in r)) (annotations_in r) quoted (as_symbol r.text s) ≡ true
+      → bytes_eq version_word r.text ≡ true → without_colons r s quoted place d ≡ giving r kind.Marker place d
+  symbol-marker r s quoted place d e is = symbol-version r s quoted place d true e is
+
+  pub symbol-refused : (r : TextReader I A) (s : CodeSymbol) (quoted : Bool) (place : ℕ) (d : Cursor) → tells_version (innermost (opened_in r)) (annotations_in r) quoted (as_symbol r.text s) ≡ true
+      → bytes_eq version_word r.text ≡ false → without_colons r s quoted place d ≡ Stopped BadVersion place
+  symbol-refused r s quoted place d e is = symbol-version r s quoted place d false e is
+
+  pub marker-may : (r : TextReader I A) (s : CodeSymbol) (quoted : Bool) → tells_version (innermost (opened_in r)) (annotations_in r) quoted (as_symbol r.text s) ≡ true → MayGive r kind.Marker
+  marker-may r s quoted e = let told = told-version (innermost (opened_in r)) (annotations_in r) quoted r.text s e in (none-open (opened_in r) told.0, told.1)
 
 -- ---- a token, and what comes where there is none
 
@@ -253,128 +220,13 @@ part-token limits s c d first token may e =
     ap (λ (b : Bool). comes limits (next_part limits s c first b)) may
     ∙ ap (λ (o : Result (Token × Cursor) Reason). comes limits (part c.place o >>= (λ t. take limits s.kinds s.top s.wants c.place t.0 t.1))) e
 
+-- ---- what a token makes of it
+
+pub taken-as : {I A : Type 0} (r : TextReader I A) (e : Expected) (token : Token) (place : ℕ) (d : Cursor) → r.expected ≡ e
+    → taking r place token d ≡ comes r.limits (take r.limits (opened_in r) r.top (wanted e (field_in r) (annotations_in r)) place token d)
+taken-as r e token place d is = ap (λ (x : Expected). comes r.limits (take r.limits (opened_in r) r.top (wanted x (field_in r) (annotations_in r)) place token d)) is
+
 -- ---- containers
-
-module _ {I A : Type 0} (device : InputOf I) where
-  -- a container was closed
-  pub gives-closed : (r : TextReader I A) (j k : Kind) (left : List Kind) (e : Expected) (place : ℕ) (d : Cursor)
-      → opened_in r ≡ j ∷ reverse left → is_same j k ≡ true → r.field ≡ None → r.annotations ≡ [] → r.unfinished ≡ None
-      → wanted e None [] ≡ behind_member (innermost (reverse left)) → blanks d ≡ blanks (cursor device r.source)
-      → let new = record r { kinds = left; what = kind.End; place = place; expected = e } in closing r k place d ≡ More (lent_by new) (to_come_by device new)
-  gives-closed r j k left e place d opened same field none finished behind blank =
-      let new = record r { kinds = left; what = kind.End; place = place; expected = e } in
-      ap (λ (l : List Kind). comes r.limits (part place (end_step l r.top k place d))) opened
-      ∙ (ap (λ (b : Bool). comes r.limits (part place (refuse (not b) BadToken
-      >> Ok (Gives (item_of r.top None [] place value.end) (record { kinds = reverse left; top = r.top; wants = behind_member (innermost (reverse left)); cursor = d }))))) same
-      ∙ rw (field, none, finished) (ap (More (item_of r.top None [] place value.end))
-      (ap (λ (w : Wants). later r.limits (record { kinds = reverse left; top = r.top; wants = w; cursor = d })) (sym behind)
-      ∙ later-moved r.limits (state_behind d new) d (cursor device r.source) None blank)))
-
-  -- a container was opened
-  pub gives-opened : (r : TextReader I A) (k : Kind) (e : Expected) (place : ℕ) (d : Cursor)
-      → nat_le r.limits.depth (length (opened_in r)) ≡ false → r.unfinished ≡ None → wanted e None [] ≡ member_of k → blanks d ≡ blanks (cursor device r.source)
-      → let new = record r { kinds = r.kinds ++ k ∷ []; top = top_of (opened_in r) r.top (annotations_in r) place; what = kind.Begin k; place = place; expected = e } in
-      opening r k place d ≡ More (lent_by new) (to_come_by device new)
-  gives-opened r k e place d few finished behind blank =
-      let T = top_of (opened_in r) r.top (annotations_in r) place in
-      let new = record r { kinds = r.kinds ++ k ∷ []; top = T; what = kind.Begin k; place = place; expected = e } in
-      let opened : reverse (r.kinds ++ k ∷ []) ≡ k ∷ reverse r.kinds = reverse-append r.kinds (k ∷ []) in
-      ap (λ (b : Bool). comes r.limits (part place (refuse b DepthLimit
-      >> Ok (item_step (opened_in r) r.top (field_in r) (annotations_in r) place (value.begin k) (k ∷ opened_in r) (member_of k) d)))) few
-      ∙ rw finished (ap (More (lent_by new))
-      (ap (λ (w : Wants). later r.limits (record { kinds = k ∷ opened_in r; top = T; wants = w; cursor = d })) (sym behind)
-      ∙ (ap (λ (l : List Kind). later r.limits (record { kinds = l; top = T; wants = wanted e None []; cursor = d })) (sym opened)
-      ∙ later-moved r.limits (state_behind d new) d (cursor device r.source) None blank)))
-
--- ---- the end of the input
-
-ended-is : (limits : Limits) (kinds : List Kind) (e : Expected) (field : Option SymbolAt) (annotations : List SymbolAt) (place : ℕ) → kinds ≡ [] → e ≡ expected.Value → field ≡ None → annotations ≡ []
-    → comes limits (final_step kinds (wanted e field annotations) place) ≡ Finished
-ended-is limits kinds e field annotations place top value none bare = rw (top, value, none, bare) refl
-
-no-field : (name : List ℕ) (field : Option FieldName) → is_some field ≡ false → as_field name field ≡ None
-no-field name None e = refl
-no-field name (Some f) e = absurd (cc e)
-
-module _ {I A : Type 0} (device : InputOf I) where
-  pub end-over : (r : TextReader I A) → is_some (innermost (opened_in r)) ≡ false → is_annotated (annotations_in r) ≡ false → r.expected ≡ expected.Value → IsInside r
-      → left device.rest r.source ≡ [] → (ending r r.source.place ≡ Finished) × (to_come_by device r ≡ Finished) × (left device.rest r.source ≡ [])
-  end-over r top none value inside over =
-      let c = cursor device r.source in
-      let kinds = none-open (opened_in r) (none-is (innermost (opened_in r)) top) in
-      let bare = not-annotated (annotations_in r) none in
-      let field = no-field r.name r.field (value-expects r.expected (opened_in r) r.field r.annotations value inside.expects ∙ ap (λ (l : List Kind). in_struct l) kinds) in (
-        ended-is r.limits (opened_in r) r.expected (field_in r) (annotations_in r) c.place kinds value field bare,
-        ap (λ (u : Option ℕ). unless_unfinished u (later r.limits (state_behind c r))) inside.finished
-            ∙ (step-ended r.limits (state_behind c r) c (no-blanks c over) over ∙ ended-is r.limits (opened_in r) r.expected None [] c.place kinds value refl refl),
-        over,
-      )
-
-  -- a version marker was taken
-  pub gives-marker : (r new : TextReader I A) (s : CodeSymbol) (quoted : Bool) (place : ℕ) (start : Option ℕ) (d : Cursor)
-      → tells_version (innermost (opened_in r)) (annotations_in r) quoted (as_symbol r.text s) ≡ true → is_marker (as_symbol r.text s) ≡ true
-      → new ≡ given_by r kind.Marker place start new.expected → wanted new.expected None [] ≡ behind_member (innermost (opened_in r)) → blanks d ≡ going start (cursor device r.source)
-      → without_colons r s quoted place d ≡ More (lent_by new) (to_come_by device new)
-  gives-marker r new s quoted place start d told marker is behind blank =
-      let a = at (as_symbol r.text s) place in
-      let k = opened_in r in
-      ap (λ (b : Bool). comes r.limits (part place (value_or_version k r.top (field_in r) (annotations_in r) a d b))) told
-      ∙ (ap (λ (b : Bool). comes r.limits (part place (refuse (not b) BadVersion
-      >> Ok (item_step k r.top (field_in r) (annotations_in r) place value.marker k (behind_member (innermost k)) d)))) marker
-      ∙ gives-given device r new kind.Marker place start d is behind blank)
-
--- ---- symbols
-
-colons-found : (f : code_first.First) (c : Cursor) → (Some f ≡ Some firsts.Colons → ⊥) → colons_at (first_of f) c ≡ None
-colons-found firsts.Number c other = refl
-colons-found firsts.Word c other = refl
-colons-found firsts.QuotedSymbol c other = refl
-colons-found firsts.String c other = refl
-colons-found firsts.LongString c other = refl
-colons-found firsts.Lob c other = refl
-colons-found firsts.Operator c other = refl
-colons-found firsts.Infinity c other = refl
-colons-found (firsts.Begin k) c other = refl
-colons-found (firsts.End k) c other = refl
-colons-found firsts.Comma c other = refl
-colons-found firsts.Colon c other = refl
-colons-found firsts.Colons c other = absurd (other refl)
-colons-found firsts.Nothing c other = refl
-
-nothing-first : (sexp : Bool) (rest : List ℕ) → rest ≡ [] → first_at sexp rest ≡ no_token
-unfolding first_at
-nothing-first sexp rest e = rw e refl
-
-pub colons-none : (sexp : Bool) (d c : Cursor) (start : Option ℕ) (found : Option code_first.First) → blanks d ≡ overrun start c
-    → MatchOption found (c.rest ≡ []) (λ f. first_at sexp c.rest ≡ first_of f) → (found ≡ Some firsts.Colons → ⊥) → behind_colons sexp d ≡ None
-colons-none sexp d c (Some p) found blank is other = ap (colons_behind sexp) blank
-colons-none sexp d c None None blank is other = ap (colons_behind sexp) blank ∙ ap (λ (f : First). colons_at f c) (nothing-first sexp c.rest is)
-colons-none sexp d c None (Some f) blank is other = ap (colons_behind sexp) blank ∙ (ap (λ (f : First). colons_at f c) is ∙ colons-found f c other)
-
-pub colons-some : (sexp : Bool) (d c : Cursor) (start : Option ℕ) → blanks d ≡ overrun start c → IfSome start (λ p. c.rest ≡ []) → first_at sexp c.rest ≡ two_colons
-    → behind_colons sexp d ≡ Some (skip 2 c)
-colons-some sexp d c (Some p) blank none is = absurd (cc (nothing-first sexp c.rest none, is))
-colons-some sexp d c None blank none is = ap (colons_behind sexp) blank ∙ ap (λ (f : First). colons_at f c) is
-
-module _ {I A : Type 0} (device : InputOf I) where
-  -- what a symbol makes of it, with two colons behind it and without
-  symbol-taken : (r : TextReader I A) (s : CodeSymbol) (quoted : Bool) (place : ℕ) (d : Cursor) → r.expected ≡ expected.Value
-      → taking r place (tokens.name quoted (as_symbol r.text s)) d
-      ≡ comes r.limits (part place (symbol_step r.limits (opened_in r) r.top (field_in r) (annotations_in r) quoted (at (as_symbol r.text s) place) d (behind_colons (in_sexp (innermost (opened_in r))) d)))
-  unfolding take
-  symbol-taken r s quoted place d value = rw value refl
-
-  pub symbol-colons : (r : TextReader I A) (s : CodeSymbol) (quoted : Bool) (place : ℕ) (d b : Cursor) → r.expected ≡ expected.Value → behind_colons (in_sexp (innermost (opened_in r))) d ≡ Some b
-      → taking r place (tokens.name quoted (as_symbol r.text s)) d ≡ with_colons r s place b
-  symbol-colons r s quoted place d b value is =
-      symbol-taken r s quoted place d value
-      ∙ ap (λ (o : Option Cursor). comes r.limits (part place (symbol_step r.limits (opened_in r) r.top (field_in r) (annotations_in r) quoted (at (as_symbol r.text s) place) d o))) is
-
-  pub symbol-alone : (r : TextReader I A) (s : CodeSymbol) (quoted : Bool) (place : ℕ) (d : Cursor) → r.expected ≡ expected.Value → behind_colons (in_sexp (innermost (opened_in r))) d ≡ None
-      → taking r place (tokens.name quoted (as_symbol r.text s)) d ≡ without_colons r s quoted place d
-  symbol-alone r s quoted place d value is =
-      symbol-taken r s quoted place d value
-      ∙ ap (λ (o : Option Cursor). comes r.limits (part place (symbol_step r.limits (opened_in r) r.top (field_in r) (annotations_in r) quoted (at (as_symbol r.text s) place) d o))) is
 
 -- the innermost container was the last
 pub closed-opened : (kinds left : List Kind) (j : Kind) (popped : Option Kind) → innermost (reverse kinds) ≡ Some j
@@ -385,55 +237,244 @@ closed-opened kinds left j (Some k) some e =
     let same : k ≡ j = cc (ap innermost all, some) in
     all ∙ ap (λ (x : Kind). x ∷ reverse left) same
 
--- blanks that were passed over, whatever they end with
-pub blanks-overrun : (start : Option ℕ) (d c e : Cursor) → blanks d ≡ overrun start c → c ≡ e → blanks d ≡ going start e
-blanks-overrun None d c e blank same = blanks-going d c blank ∙ ap (λ (x : Cursor). blanks x) same
-blanks-overrun (Some p) d c e blank same = blank
+closed-cost : (kinds left : List Kind) (popped : Option Kind) (a b : Counts) (j : Kind) → reverse kinds ≡ j ∷ reverse left
+    → MatchOption popped ((kinds ≡ []) × (left ≡ [])) (λ k. kinds ≡ left ++ k ∷ []) → MatchOption popped (b ≡ a) (λ _. Shrinks a b 16) → Shrinks a b 16
+closed-cost kinds left popped a b j opened e cost = grind arith
 
--- ---- steps one after the other
+-- a closing bracket, whatever is expected
+end-of : (limits : Limits) (kinds : List Kind) (top : ℕ) (e : Expected) (name : List ℕ) (field : Option FieldName) (texts : List ℕ) (annotations : List Annotation) (place : ℕ) (k : Kind) (d : Cursor)
+    → MayExpect e kinds field annotations
+    → take limits kinds top (wanted e (as_field name field) (as_annotations texts annotations)) place (tokens.end k) d
+    ≡ part place (bare_end_step (as_field name field) (as_annotations texts annotations) kinds top k place d)
+unfolding take
+end-of limits kinds top expected.Value name field texts annotations place k d h = refl
+end-of limits kinds top expected.Field name field texts annotations place k d h = rw (h.1, h.2) refl
+end-of limits kinds top expected.Separator name field texts annotations place k d h = rw (h.0, h.1) refl
 
-pub stopped-same : (a r : Reason) (s p : ℕ) → Refused a s ≡ Refused r p → Stopped a s ≡ Stopped r p
-stopped-same a r s p e =
-    let one : a ≡ r = cc e in
-    let two : s ≡ p = cc e in
-    ap (λ (x : Reason). Stopped x s) one ∙ ap (λ (n : ℕ). Stopped r n) two
+not-closed : (name : List ℕ) (f : Option FieldName) (annotations : List SymbolAt) (k : Kind) (kinds : List Kind) (top place : ℕ) (d : Cursor)
+    → (innermost kinds ≡ None) ⊎ ((is_some f ≡ true) ⊎ ((is_annotated annotations ≡ true) ⊎ ((j : Kind) × ((innermost kinds ≡ Some j) × (is_same j k ≡ false)))))
+    → bare_end_step (as_field name f) annotations kinds top k place d ≡ Err BadToken
+not-closed name f annotations k kinds top place d why = grind arith
 
-pub width-some : (f : First) → 1 ≤ width f
-width-some tokens.a_run = omega arith
-width-some tokens.a_word = omega arith
-width-some tokens.a_quoted = omega arith
-width-some tokens.a_short = omega arith
-width-some tokens.a_long = omega arith
-width-some tokens.a_lob = omega arith
-width-some tokens.an_operator = omega arith
-width-some tokens.an_infinity = omega arith
-width-some (tokens.a_begin k) = omega arith
-width-some (tokens.an_end k) = omega arith
-width-some tokens.a_comma = omega arith
-width-some tokens.a_colon = omega arith
-width-some tokens.two_colons = omega arith
-width-some tokens.no_token = omega arith
+module _ {I A : Type 0} where
+  end-taken : (r : TextReader I A) (k : Kind) (place : ℕ) (d : Cursor) → IsInside r
+      → taking r place (tokens.end k) d ≡ comes r.limits (part place (bare_end_step (field_in r) (annotations_in r) (opened_in r) r.top k place d))
+  end-taken r k place d inside = ap (comes r.limits) (end-of r.limits (opened_in r) r.top r.expected r.name r.field r.texts r.annotations place k d inside.expects)
+
+  -- as many containers are open as may be
+  pub opening-refused : (r : TextReader I A) (k : Kind) (place : ℕ) (d : Cursor) → r.expected ≡ expected.Value → r.limits.depth ≤ length r.kinds → taking r place (tokens.begin k) d ≡ Stopped DepthLimit place
+  unfolding take
+  opening-refused r k place d is_value many = let full : nat_le r.limits.depth (length (opened_in r)) ≡ true = le-leb r.limits.depth (length (opened_in r)) (omega (arith, many, length-reverse r.kinds)) in rw (is_value, full) refl
 
 module _ {I A : Type 0} (device : InputOf I) where
-  pub ended-gives : (before : Reading) (new : TextReader I A) (x : StepResult) → x ≡ step_result.Ended → StepGives device before new (Ok x)
-      → (before ≡ Finished) × (to_come_by device new ≡ Finished) × (left device.rest new.source ≡ [])
-  ended-gives before new step_result.Ended e h = h
-  ended-gives before new step_result.Passed e h = absurd (cc e)
-  ended-gives before new step_result.Item e h = absurd (cc e)
+  -- a container was closed
+  pub steps-closed : (r : TextReader I A) (j k : Kind) (left : List Kind) (popped : Option Kind) (e : Expected) (place : ℕ) (a b : Counts) → innermost (opened_in r) ≡ Some j
+      → MatchOption popped ((r.kinds ≡ []) × (left ≡ [])) (λ k. r.kinds ≡ left ++ k ∷ []) → MatchOption popped (b ≡ a) (λ _. Shrinks a b 16)
+      → is_same j k ≡ true → is_some r.field ≡ false → is_annotated (annotations_in r) ≡ false → wanted e None [] ≡ behind_member (innermost (reverse left)) → MayExpect e (reverse left) None [] → CanStep r a
+      → StepsTo device None (taking r place (tokens.end k)) 0 r (record r { kinds = left; what = kind.End; place = place; expected = e }) a b (Ok step_result.Item)
+  steps-closed r j k left popped e place a b inner items popped_cost same no_field no_annotation behind expects can =
+      let new = record r { kinds = left; what = kind.End; place = place; expected = e } in
+      let opened = closed-opened r.kinds left j popped inner items in
+      let cost = closed-cost r.kinds left popped a b j opened items popped_cost in
+      let field : field_in r ≡ None = no-field r.name r.field no_field in
+      let none = not-annotated (annotations_in r) no_annotation in
+      let sized = can.sized in
+      let long : length r.kinds ≡ length left + 1 = omega (arith, ap (λ (l : List Kind). length l) opened, length-reverse r.kinds, length-reverse left) in
+      let held = cost.held in let peak = cost.peak in
+      record {
+        gives = λ h d blank.
+            end-taken r k place d can.inside
+            ∙ ap (λ (l : List Kind). comes r.limits (part place (bare_end_step (field_in r) (annotations_in r) l r.top k place d))) opened
+            ∙ (rw (field, none, same, can.inside.finished) (ap (More (item_of r.top None [] place value.end))
+            (ap (λ (w : Wants). later r.limits (record { kinds = reverse left; top = r.top; wants = w; cursor = d })) (sym behind)
+            ∙ later-moved r.limits (state_behind d new) d (cursor device r.source) None blank)));
+        ready = record { stands = can.inside.stands; expects = expects };
+        stepped = record {
+          opens = λ _. ap (λ (l : List Kind). drop 1 l) (sym opened);
+          stays = λ other. absurd (other refl);
+          fits = λ _. record { place = omega (arith, long, length-reverse r.kinds); field = ap (λ (f : Option SymbolAt). is_some f) field; annotations = none };
+          limits = refl;
+          done = refl;
+          failed = refl;
+          sized = record { checked = sized.checked; few = omega (arith, long, sized.few); annotated = sized.annotated; name = sized.name; text = sized.text };
+          moves = moves-not device r.source;
+          causes = causes-none a b _ _ cost.refused;
+          charges = record { held = omega (arith, held, long); share = omega (arith, long, held-share device r sized); peak = omega (arith, peak); rises = omega (arith, peak) };
+        };
+        goes = record { own = omega (arith, long); peak = omega (arith, peak) };
+      }
 
-  pub passed-gives : (before : Reading) (new : TextReader I A) (x : StepResult) → x ≡ step_result.Passed → StepGives device before new (Ok x) → before ≡ to_come_in device new
-  passed-gives before new step_result.Ended e h = absurd (cc e)
-  passed-gives before new step_result.Passed e h = h
-  passed-gives before new step_result.Item e h = absurd (cc e)
+  -- or none may be: the innermost is of another kind, or a value has to come
+  pub steps-unclosed : (r : TextReader I A) (k : Kind) (place : ℕ) (m : Counts) → CanStep r m
+      → (innermost (opened_in r) ≡ None) ⊎ ((is_some r.field ≡ true) ⊎ ((is_annotated (annotations_in r) ≡ true) ⊎ ((j : Kind) × ((innermost (opened_in r) ≡ Some j) × (is_same j k ≡ false)))))
+      → StepsTo device None (taking r place (tokens.end k)) 0 r r m m (Err (Refused BadToken place))
+  steps-unclosed r k place m can why =
+      steps-refused device r m None (taking r place (tokens.end k)) 0 BadToken place can.sized can.held
+      (λ d. end-taken r k place d can.inside ∙ ap (λ o. comes r.limits (part place o)) (not-closed r.name r.field (annotations_in r) k (opened_in r) r.top place d why))
 
-  pub item-gives : (before : Reading) (new : TextReader I A) (x : StepResult) → x ≡ step_result.Item → StepGives device before new (Ok x) → before ≡ More (lent_by new) (to_come_by device new)
-  item-gives before new step_result.Ended e h = absurd (cc e)
-  item-gives before new step_result.Passed e h = absurd (cc e)
-  item-gives before new step_result.Item e h = h
+  -- a container was opened
+  pub steps-opened : (r : TextReader I A) (k : Kind) (kinds : List Kind) (e : Expected) (place top : ℕ) (a b : Counts) → kinds ≡ r.kinds ++ k ∷ [] → top ≡ top_of (opened_in r) r.top (annotations_in r) place
+      → length r.kinds < r.limits.depth → wanted e None [] ≡ member_of k → MayExpect e (k ∷ opened_in r) None [] → CanStep r a → r.expected ≡ expected.Value → Grows a b 16
+      → StepsTo device None (taking r place (tokens.begin k)) 16 r (record r { kinds = kinds; top = top; what = kind.Begin k; place = place; expected = e }) a b (Ok step_result.Item)
+  unfolding take
+  steps-opened r k kinds e place top a b is at_top few behind expects can is_value cost =
+      let new = record r { kinds = kinds; top = top; what = kind.Begin k; place = place; expected = e } in
+      let opened : reverse kinds ≡ k ∷ opened_in r = ap (λ (l : List Kind). reverse l) is ∙ reverse-append r.kinds (k ∷ []) in
+      let long : length kinds ≡ length r.kinds + 1 = ap (λ (l : List Kind). length l) is ∙ length-append r.kinds (k ∷ []) in
+      let sized = can.sized in
+      let held = cost.held in let peak = cost.peak in let there = can.held in
+      let room : nat_le r.limits.depth (length (opened_in r)) ≡ false = lt-leb r.limits.depth (length (opened_in r)) (omega (arith, few, length-reverse r.kinds)) in
+      let share : held_by new ≤ share_of r = omega (arith, long, few, sized.annotated, sized.name, sized.text) in
+      record {
+        gives = λ h d blank. rw (is_value, room, at_top, opened, can.inside.finished) (ap (More (item_of (top_of (opened_in r) r.top (annotations_in r) place) (field_in r) (annotations_in r) place (value.begin k)))
+            (ap (λ (w : Wants). later r.limits (record { kinds = k ∷ opened_in r; top = top_of (opened_in r) r.top (annotations_in r) place; wants = w; cursor = d })) (sym behind)
+            ∙ later-moved r.limits (record { kinds = k ∷ opened_in r; top = top_of (opened_in r) r.top (annotations_in r) place; wants = wanted e None []; cursor = d }) d (cursor device r.source) None blank));
+        ready = record { stands = can.inside.stands; expects = rw opened expects };
+        stepped = record {
+          opens = λ _. opened;
+          stays = λ other. absurd (other refl);
+          fits = λ _. record { place = omega (arith, few, length-reverse r.kinds); field = field-some r.name r.field ∙ value-expects r.expected (opened_in r) r.field r.annotations is_value can.inside.expects; annotations = tt };
+          limits = refl;
+          done = refl;
+          failed = refl;
+          sized = record { checked = sized.checked; few = omega (arith, long, few); annotated = sized.annotated; name = sized.name; text = sized.text };
+          moves = moves-not device r.source;
+          causes = causes-none a b _ _ cost.refused;
+          charges = record { held = omega (arith, held, long); share = share; peak = omega (arith, held, peak, share, long, there); rises = omega (arith, peak) };
+        };
+        goes = record { own = omega (arith, long); peak = omega (arith, held, peak) };
+      }
 
-  pub failed-refuses : (first before : Reading) (new : TextReader I A) (fault : Fault) (r : Reason) (p : ℕ) → first ≡ before → StepGives device before new (Err fault) → fault ≡ Refused r p → first ≡ Stopped r p
-  failed-refuses first before new (Refused reason place) r p e h is = e ∙ (h ∙ stopped-same reason r place p is)
-  failed-refuses first before new Memory r p e h is = absurd (cc is)
-  failed-refuses first before new ReadFault r p e h is = absurd (cc is)
-  failed-refuses first before new WriteFault r p e h is = absurd (cc is)
-  failed-refuses first before new InputLimit r p e h is = absurd (cc is)
+  -- a comma was passed over
+  pub steps-comma : (r : TextReader I A) (e : Expected) (place : ℕ) (m : Counts) → r.expected ≡ expected.Separator → wanted e None [] ≡ at_member (innermost (opened_in r)) → MayExpect e (opened_in r) None [] → CanStep r m
+      → StepsTo device None (taking r place tokens.comma) 0 r (record r { expected = e }) m m (Ok step_result.Passed)
+  unfolding take
+  steps-comma r e place m separator member expects can =
+      let bare = separator-bare r.expected (opened_in r) r.field r.annotations separator can.inside.expects in
+      let c = cursor device r.source in
+      record {
+        gives = λ h d blank.
+            rw separator (ap (λ (w : Wants). later r.limits (record { kinds = opened_in r; top = r.top; wants = w; cursor = d })) (sym member)
+            ∙ (later-moved r.limits (record { kinds = opened_in r; top = r.top; wants = wanted e None []; cursor = d }) d c None blank
+            ∙ ap (λ (w : Wants). later r.limits (record { kinds = opened_in r; top = r.top; wants = w; cursor = c })) (rw (bare.0, bare.1) refl)));
+        ready = record { stands = can.inside.stands; expects = rw (bare.0, bare.1) expects; kept = can.inside.kept; finished = can.inside.finished };
+        stepped = stepped-by device _ _ r (record r { expected = e }) m m (λ e. cc e) refl refl refl refl (record { checked = can.sized.checked; few = can.sized.few; annotated = can.sized.annotated; name = can.sized.name; text = can.sized.text })
+            (moves-not device r.source) (causes-none m m _ _ refl) (charges-none m (held_by r) (share_of r) (held-share device r can.sized) can.held);
+        goes = record { own = omega arith; peak = omega arith };
+      }
+
+-- ---- the end of the input
+
+ended-is : (limits : Limits) (kinds : List Kind) (e : Expected) (field : Option SymbolAt) (annotations : List SymbolAt) (place : ℕ) → kinds ≡ [] → e ≡ expected.Value → field ≡ None → annotations ≡ []
+    → comes limits (final_step kinds (wanted e field annotations) place) ≡ Finished
+ended-is limits kinds e field annotations place top value none bare = rw (top, value, none, bare) refl
+
+module _ {I A : Type 0} (device : InputOf I) where
+  pub steps-ended : (r : TextReader I A) (m : Counts) → is_some (innermost (opened_in r)) ≡ false → is_annotated (annotations_in r) ≡ false → r.expected ≡ expected.Value → CanStep r m
+      → (device.observable r.source.device → left device.rest r.source ≡ []) → StepsTo device None (λ _. ending r None) 0 r r m m (Ok step_result.Ended)
+  steps-ended r m top none value can over =
+      let c = cursor device r.source in
+      let inside = can.inside in
+      let kinds = none-open (opened_in r) (none-is (innermost (opened_in r)) top) in
+      let bare = not-annotated (annotations_in r) none in
+      let field = no-field r.name r.field (value-expects r.expected (opened_in r) r.field r.annotations value inside.expects ∙ ap (λ (l : List Kind). in_struct l) kinds) in
+      record {
+        gives = λ h d blank. (
+          ended-is r.limits (opened_in r) r.expected (field_in r) (annotations_in r) c.place kinds value field bare,
+          ap (λ (u : Option ℕ). unless_unfinished u (later r.limits (state_behind c r))) inside.finished
+              ∙ (step-ended r.limits (state_behind c r) c (no-blanks c (over h)) (over h) ∙ ended-is r.limits (opened_in r) r.expected None [] c.place kinds value refl refl),
+          over h,
+        );
+        ready = record { stands = inside.stands; expects = rw (value, kinds) refl };
+        stepped = stepped-by device _ _ r r m m (λ e. cc e) refl refl refl refl can.sized (moves-not device r.source) (causes-none m m _ _ refl)
+            (charges-none m (held_by r) (share_of r) (held-share device r can.sized) can.held);
+        goes = record { own = omega arith; peak = omega arith };
+      }
+
+-- ---- what comes behind blanks
+
+pub width-some : (f : code_first.First) → 1 ≤ width (first_of f)
+width-some f = grind arith
+
+ahead-token : (sexp : Bool) (c d : Cursor) (start : Option ℕ) (found : Option code_first.First) (f : code_first.First) → blanks c ≡ overrun start d → IfSome start (λ _. d.rest ≡ [])
+    → MatchOption found (d.rest ≡ []) (λ g. first_at sexp d.rest ≡ first_of g) → found ≡ Some f → 1 ≤ length d.rest → (blanks c ≡ Ok d) × (first_at sexp d.rest ≡ first_of f)
+ahead-token sexp c d start found f blank used_up first is some = grind arith
+
+wide-ahead : (found : Option code_first.First) (f : code_first.First) (n : ℕ) → IfSome found (λ g. width (first_of g) ≤ n) → found ≡ Some f → width (first_of f) ≤ n
+wide-ahead found f n wide is = grind arith
+
+-- or the input's end
+end-ahead : (limits : Limits) (s : State) (d : Cursor) (start : Option ℕ) → blanks s.cursor ≡ overrun start d → d.rest ≡ [] → later limits s ≡ unless_unfinished start (comes limits (final_step s.kinds s.wants d.place))
+end-ahead limits s d None blank none = step-ended limits s d blank none
+end-ahead limits s d (Some p) blank none = step-unfinished limits s p blank
+
+none-left : (found : Option code_first.First) (sexp : Bool) (rest : List ℕ) → MatchOption found (rest ≡ []) (λ g. first_at sexp rest ≡ first_of g) → found ≡ None → rest ≡ []
+none-left found sexp rest first is = grind arith
+
+module _ {I : Type 0} (device : InputOf I) where
+  -- a token
+  pub token-ahead : (s t : Incoming I) (sexp : Bool) (a : Ahead) (f : code_first.First) → IsAhead sexp (cursor device s) (cursor device t) a → IfSome a.first (λ g. width (first_of g) ≤ length (lent t)) → a.first ≡ Some f
+      → (blanks (cursor device s) ≡ Ok (cursor device t)) × ((first_at sexp (left device.rest t) ≡ first_of f) × (1 ≤ length (left device.rest t)))
+  token-ahead s t sexp a f ahead wide is =
+      let some = lent-there device.rest t 1 (omega (arith, wide-ahead a.first f (length (lent t)) wide is, width-some f)) in
+      let token = ahead-token sexp (cursor device s) (cursor device t) a.unfinished a.first f ahead.blank ahead.used_up ahead.first is some in
+      (token.0, (token.1, some))
+
+module _ {I A : Type 0} (device : InputOf I) where
+  pub part-ahead : (r : TextReader I A) (t : Incoming I) (sexp : Bool) (a : Ahead) (f : code_first.First) → sexp ≡ in_sexp (innermost (opened_in r)) → IsAhead sexp (cursor device r.source) (cursor device t) a
+      → IfSome a.first (λ g. width (first_of g) ≤ length (lent t)) → a.first ≡ Some f → to_come_in device r ≡ part_by device (record r { source = t }) (first_of f)
+  part-ahead r t sexp a f same ahead wide is =
+      let token = token-ahead device r.source t sexp a f ahead wide is in
+      step-part r.limits (state_at (cursor device r.source) r) (cursor device t) (first_of f) token.0 token.1.1 (ap (λ (b : Bool). first_at b (left device.rest t)) (sym same) ∙ token.1.0)
+
+  pub ended-ahead : (r : TextReader I A) (t : Incoming I) (sexp : Bool) (a : Ahead) → IsAhead sexp (cursor device r.source) (cursor device t) a → a.first ≡ None
+      → (left device.rest t ≡ []) × (to_come_in device r ≡ ending (record r { source = t }) a.unfinished)
+  ended-ahead r t sexp a ahead is =
+      let none = none-left a.first sexp (left device.rest t) ahead.first is in
+      (none, end-ahead r.limits (state_at (cursor device r.source) r) (cursor device t) a.unfinished ahead.blank none)
+
+-- ---- symbols
+
+colons-found : (f : code_first.First) (c : Cursor) → (f ≡ firsts.Colons → ⊥) → colons_at (first_of f) c ≡ None
+colons-found f c other = grind arith
+
+nothing-first : (sexp : Bool) (rest : List ℕ) → rest ≡ [] → first_at sexp rest ≡ no_token
+unfolding first_at
+nothing-first sexp rest e = rw e refl
+
+colons-none : (sexp : Bool) (d c : Cursor) (start : Option ℕ) (found : Option code_first.First) → blanks d ≡ overrun start c
+    → MatchOption found (c.rest ≡ []) (λ f. first_at sexp c.rest ≡ first_of f) → (found ≡ Some firsts.Colons → ⊥) → behind_colons sexp d ≡ None
+colons-none sexp d c (Some p) found blank is other = ap (colons_behind sexp) blank
+colons-none sexp d c None None blank is other = ap (colons_behind sexp) blank ∙ ap (λ (f : First). colons_at f c) (nothing-first sexp c.rest is)
+colons-none sexp d c None (Some f) blank is other = ap (colons_behind sexp) blank ∙ (ap (λ (f : First). colons_at f c) is ∙ colons-found f c (λ e. other (ap Some e)))
+
+-- blanks that were passed over, whatever they end with
+pub overrun-going : (start : Option ℕ) (d c : Cursor) → blanks d ≡ overrun start c → blanks d ≡ going start c
+overrun-going None d c e = blanks-going d c e
+overrun-going (Some start) d c e = e
+
+module _ {I A : Type 0} (device : InputOf I) where
+  symbol-taken : (r : TextReader I A) (s : CodeSymbol) (quoted : Bool) (place : ℕ) (d : Cursor) (behind : Option Cursor) → r.expected ≡ expected.Value → behind_colons (in_sexp (innermost (opened_in r))) d ≡ behind
+      → taking r place (tokens.name quoted (as_symbol r.text s)) d
+      ≡ comes r.limits (part place (symbol_step r.limits (opened_in r) r.top (field_in r) (annotations_in r) quoted (at (as_symbol r.text s) place) d behind))
+  unfolding take
+  symbol-taken r s quoted place d behind is_value is = rw (is_value, is) refl
+
+  -- a symbol with two colons behind it
+  pub symbol-noted : (r : TextReader I A) (s : CodeSymbol) (quoted : Bool) (place : ℕ) (t : Incoming I) (sexp : Bool) (a : Ahead) (d : Cursor) → r.expected ≡ expected.Value → sexp ≡ in_sexp (innermost (opened_in r))
+      → IsAhead sexp (cursor device r.source) (cursor device t) a → IfSome a.first (λ g. width (first_of g) ≤ length (lent t)) → a.first ≡ Some firsts.Colons → blanks d ≡ blanks (cursor device r.source)
+      → taking r place (tokens.name quoted (as_symbol r.text s)) d ≡ with_colons (record r { source = t }) s place (skip 2 (cursor device t))
+  symbol-noted r s quoted place t sexp a d is_value same ahead wide is blank =
+      let token = token-ahead device r.source t sexp a firsts.Colons ahead wide is in
+      symbol-taken r s quoted place d (Some (skip 2 (cursor device t))) is_value
+      (ap (λ (b : Bool). behind_colons b d) (sym same) ∙ ap (colons_behind sexp) (blank ∙ token.0) ∙ ap (λ (f : First). colons_at f (cursor device t)) token.1.0)
+
+  -- and one without
+  pub symbol-alone : (r : TextReader I A) (s : CodeSymbol) (quoted : Bool) (place : ℕ) (t : Incoming I) (sexp : Bool) (a : Ahead) (d : Cursor) → r.expected ≡ expected.Value → sexp ≡ in_sexp (innermost (opened_in r))
+      → IsAhead sexp (cursor device r.source) (cursor device t) a → (a.first ≡ Some firsts.Colons → ⊥) → blanks d ≡ blanks (cursor device r.source)
+      → (blanks d ≡ going a.unfinished (cursor device t)) × (taking r place (tokens.name quoted (as_symbol r.text s)) d ≡ without_colons (record r { source = t }) s quoted place d)
+  symbol-alone r s quoted place t sexp a d is_value same ahead other blank = (
+    overrun-going a.unfinished d (cursor device t) (blank ∙ ahead.blank),
+    symbol-taken r s quoted place d None is_value
+        (ap (λ (b : Bool). behind_colons b d) (sym same) ∙ colons-none sexp d (cursor device t) a.unfinished a.first (blank ∙ ahead.blank) ahead.first other),
+  )

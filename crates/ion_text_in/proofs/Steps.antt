@@ -1,15 +1,15 @@
 -- Each step of a reading leads from a path of the grammar to the path with the item that it gives.
-use Rattle.std.proofs.Common.{◌≡◌, ◌==◌, ℕ, Bool, true, false, not, List, [], ◌∷◌, ◌++◌, Option, Some, None, Result, Ok, Err, nat_lt, nat_le, length, sum_by, refl, sym, ap, subst, ◌∙◌}
-use Rattle.std.proofs.lemmas.Bool.{false≢true, eqb-true, and_parts}
-use Rattle.std.specs.Str.{bytes_eq}
+use Rattle.std.proofs.Common.{◌≡◌, ℕ, Bool, true, false, not, List, [], ◌∷◌, ◌++◌, Option, Some, None, Result, Ok, Err, nat_lt, nat_le, length, sum_by, refl, sym, ap, subst, ◌∙◌, arith}
+use Rattle.std.proofs.lemmas.Bool.{false≢true}
+use Rattle.std.proofs.lemmas.Slice.Eq.{bytes_eq-Decides}
 use Rattle.ion_meter.specs.declared.fault.Reason.{Reason}
-use Rattle.ion_meter.specs.declared.fault.Reason.TheVariants.{BadVersion, DepthLimit, AnnotationLimit}
+use Rattle.ion_meter.specs.declared.fault.Reason.TheVariants.{BadToken, BadVersion, DepthLimit, AnnotationLimit}
 use Rattle.ion_meter.specs.declared.limits.Limits.{Limits}
 use Rattle.ion_value.specs.declared.ion_type.Kind.{Kind}
 use Rattle.ion_value.specs.declared.ion_type.Kind.TheVariants as kind
 use Rattle.ion_value.specs.Name.{is_version, version_word}
 use Rattle.ion_value.specs.Value as value
-use Rattle.ion_value.specs.Value.{Symbol, SymbolAt, Scalar, Value, Members, PlacedItem}
+use Rattle.ion_value.specs.Value.{Symbol, SymbolAt, Scalar, Value, PlacedItem}
 use Rattle.ion_value.specs.Path.{Path, closed, opened, Nest, outermost, inner, path_items}
 use Rattle.ion_value.specs.Reading.{Step, Gives, GoesOn}
 use Rattle.ion_meter.specs.Sources.{Cursor, skip}
@@ -233,15 +233,6 @@ module _ (limits : Limits) (bytes : List ℕ) (path : Path SymbolAt ℕ) (top : 
 
 -- ---- version markers
 
-same-bytes : (xs ys : List ℕ) → bytes_eq xs ys ≡ true → ys ≡ xs
-same-bytes [] [] e = refl
-same-bytes [] (y ∷ ys) e = absurd (false≢true e)
-same-bytes (x ∷ xs) [] e = absurd (false≢true e)
-same-bytes (x ∷ xs) (y ∷ ys) e =
-    let both = and_parts (x == y) (bytes_eq xs ys) e in
-    let first : x ≡ y = eqb-true x y both.0 in
-    rw (first, same-bytes xs ys both.1) refl
-
 -- the word of a version stands alone at top level
 record IsVersion (k : Option Kind) (annotations : List SymbolAt) (quoted : Bool) (symbol : Symbol) : Type 0 where
   at_top : k ≡ None
@@ -250,11 +241,10 @@ record IsVersion (k : Option Kind) (annotations : List SymbolAt) (quoted : Bool)
 
 told-version : (k : Option Kind) (annotations : List SymbolAt) (quoted : Bool) (symbol : Symbol) → tells_version k annotations quoted symbol ≡ true → IsVersion k annotations quoted symbol
 unfolding tells_version
-told-version None [] false (value.Text word) e = record { at_top = refl; bare = refl; unquoted = refl }
-told-version k annotations quoted symbol e = absurd (false≢true e)
+told-version k annotations quoted symbol e = grind arith
 
 marker-word : (symbol : Symbol) → is_marker symbol ≡ true → symbol ≡ value.Text version_word
-marker-word (value.Text word) e = ap value.Text (same-bytes version_word word e)
+marker-word (value.Text word) e = ap value.Text (sym ((bytes_eq-Decides version_word word).0 e))
 marker-word (value.Id id) e = absurd (false≢true e)
 
 module _ (limits : Limits) (bytes : List ℕ) (path : Path SymbolAt ℕ) (top : ℕ) (is_top : IsTop path top) (p : ℕ) (d : Cursor) where

@@ -1,11 +1,16 @@
 -- What is seen of the kinds of tokens of the code.
-use Rattle.std.specs.Prelude.{ℕ, Bool, not, ◌&&◌, ◌==◌, if◌then◌else◌, List, drop, codes}
+use Rattle.std.specs.Prelude.{◌≡◌, ℕ, Bool, not, ◌&&◌, ◌==◌, if◌then◌else◌, List, [], drop, codes, IfSome, MatchOption}
+use Rattle.ion_meter.specs.Sources.{Cursor}
 use Rattle.ion_value.specs.declared.ion_type.Kind.TheVariants as kinds
 use Rattle.ion_value.specs.Digits.{first_is, is_digit}
 use Rattle.ion_value.specs.Name.{begins_with, is_identifier_byte, is_identifier_start}
+use Rattle.ion_text_in.specs.Blanks.{blanks}
+use Rattle.ion_text_in.specs.Overrun.{overrun}
+use Rattle.ion_text_in.specs.declared.first.Ahead.{Ahead}
 use Rattle.ion_text_in.specs.declared.first.First as code
 use Rattle.ion_text_in.specs.declared.first.First.TheVariants as kind
 use Rattle.ion_text_in.specs.Token as tokens
+use Rattle.ion_text_in.specs.Token.{first_at}
 
 -- a kind of token, from the code's `First`
 abbrev pub first_of : code.First → tokens.First
@@ -40,20 +45,11 @@ numbered n =
 
 -- how many bytes of a token tell its kind
 abbrev pub width : tokens.First → ℕ
-width tokens.a_run = 1
-width tokens.a_word = 1
-width tokens.a_quoted = 1
-width tokens.a_short = 1
 width tokens.a_long = 3
 width tokens.a_lob = 2
-width tokens.an_operator = 1
 width tokens.an_infinity = 4
-width (tokens.a_begin kind) = 1
-width (tokens.an_end kind) = 1
-width tokens.a_comma = 1
-width tokens.a_colon = 1
 width tokens.two_colons = 2
-width tokens.no_token = 1
+width _ = 1
 
 -- a byte that begins no word, no number and no string, and needs none behind it to tell what it begins
 abbrev pub is_told_alone : ℕ → Bool
@@ -63,3 +59,9 @@ is_told_alone b =
 -- `inf`, and no identifier goes on behind it
 abbrev pub is_inf : List ℕ → Bool
 is_inf bytes = begins_with (codes "inf") bytes && not (first_is is_identifier_byte (drop 3 bytes))
+
+-- blanks from one cursor to another, or up to the input's end where a comment does not end, and what begins there
+pub record IsAhead (in_sexp : Bool) (old new : Cursor) (ahead : Ahead) : Type 0 where
+  pub blank : blanks old ≡ overrun ahead.unfinished new
+  pub used_up : IfSome ahead.unfinished (λ _. new.rest ≡ [])
+  pub first : MatchOption ahead.first (new.rest ≡ []) (λ f. first_at in_sexp new.rest ≡ first_of f)

@@ -1,24 +1,24 @@
 -- What is seen of the reader, and what one step of it asks for, gives, keeps and moves.
-use Rattle.std.specs.Prelude.{◌≡◌, ◌≢◌, ℕ, ◌+◌, ◌*◌, ◌-◌, ◌^◌, ◌<◌, ◌≤◌, Bool, true, false, List, [], length, reverse, Option, Some, None, Result, Ok, Err}
+use Rattle.std.specs.Prelude.{◌≡◌, ℕ, ◌+◌, ◌*◌, ◌-◌, ◌^◌, ◌<◌, ◌≤◌, Bool, true, false, List, [], length, reverse, Option, Some, None, Result, Ok, Err, OnOk}
 use Rattle.std.proofs.Common.{arith}
 use Rattle.std.proofs.lemmas.List.{length-reverse}
 use Rattle.ion_meter.specs.Counts.{Counts}
 use Rattle.ion_meter.specs.declared.device.Input.{Ghosts as InputOf}
 use Rattle.ion_meter.specs.declared.fault.Fault.{Fault}
 use Rattle.ion_meter.specs.declared.fault.Fault.TheVariants.{Refused, Memory, ReadFault, WriteFault, InputLimit}
+use Rattle.ion_meter.specs.declared.fault.Reason.{Reason}
 use Rattle.ion_meter.specs.declared.fault.Reason.TheVariants.{Truncated}
 use Rattle.ion_meter.specs.declared.limits.Limits.{Limits}
 use Rattle.ion_meter.specs.Limits.{AreChecked}
-use Rattle.ion_meter.specs.Sources.{Cursor, cursor, Stands}
+use Rattle.ion_meter.specs.Sources.{Cursor, cursor, Exceeds, Stands, Moves}
 use Rattle.ion_meter.specs.Windows.{Incoming, left}
 use Rattle.ion_value.specs.declared.ion_type.Kind.{Kind}
-use Rattle.ion_value.specs.Calls.{ReadsInto}
+use Rattle.ion_value.specs.Shares.{fault_of, Charges, GoesWithReading, GrowsWithin, ReadCauses}
 use Rattle.ion_value.specs.Parts.{Placed, part}
 use Rattle.ion_value.specs.Reading.{Reading, Finished, Stopped, More, Step, next_reading, reading_by}
 use Rattle.ion_value.specs.Standing.{Fits, ReadsWithin, open_after}
 use Rattle.ion_value.specs.Value as value
 use Rattle.ion_value.specs.Value.{SymbolAt, Head, PlacedItem}
-use Rattle.ion_text_in.specs.declared.token.Body.{Body}
 use Rattle.ion_text_in.specs.declared.token.Symbol.{Symbol}
 use Rattle.ion_text_in.specs.declared.reader.ItemKind.{ItemKind}
 use Rattle.ion_text_in.specs.declared.reader.ItemKind.TheVariants as kind
@@ -26,10 +26,11 @@ use Rattle.ion_text_in.specs.declared.expected.Expected.{Expected}
 use Rattle.ion_text_in.specs.declared.reader.StepResult.{StepResult}
 use Rattle.ion_text_in.specs.declared.reader.StepResult.TheVariants as step_result
 use Rattle.ion_text_in.specs.declared.reader.TextReader.{TextReader}
+use Rattle.ion_text_in.specs.Blanks.{blanks}
 use Rattle.ion_text_in.specs.Positions.{State, innermost, at}
-use Rattle.ion_text_in.specs.Reading.{step, step_of, size, take, with_annotation, begin_step, colon_of, end_step, final_step, field_step, part_from, scalar_step, tells_version, top_of, value_or_version}
+use Rattle.ion_text_in.specs.Reading.{step, step_of, size, take, with_annotation, behind_member, final_step, field_step, item_step, part_from, tells_version, top_of, value_or_version}
 use Rattle.ion_text_in.specs.Token as tokens
-use Rattle.ion_text_in.specs.Tokens.{as_symbol, as_scalar}
+use Rattle.ion_text_in.specs.Tokens.{as_symbol, as_scalar, going, BodyInRange}
 use Rattle.ion_text_in.specs.Symbols.{as_field, as_annotations, AreKept}
 use Rattle.ion_text_in.specs.Expecting.{wanted, MayExpect}
 
@@ -122,6 +123,13 @@ pub record IsInside {I A : Type 0} (r : TextReader I A) : Type 0 where
   pub kept : AreKept r.annotations r.texts
   pub finished : r.unfinished ≡ None
 
+-- and so that an item that is no container's may be given
+abbrev pub MayGive : {I A : Type 0} → TextReader I A → ItemKind → Type 0
+MayGive r (kind.Scalar body) = BodyInRange body
+MayGive r kind.Marker = (opened_in r ≡ []) × (annotations_in r ≡ [])
+MayGive r (kind.Begin k) = ⊥
+MayGive r kind.End = ⊥
+
 -- between calls
 pub record IsSound {I A : Type 0} (r : TextReader I A) : Type 0 where
   pub sized : IsSized r
@@ -168,13 +176,14 @@ taking r place token c = comes r.limits (take r.limits (opened_in r) r.top (want
 abbrev pub part_by : {I A : Type 0} → InputOf I → TextReader I A → tokens.First → Reading
 part_by device r first = comes r.limits (part_from r.limits (state_at (cursor device r.source) r) (cursor device r.source) first)
 
--- the end of the input
-abbrev pub ending : {I A : Type 0} → TextReader I A → ℕ → Reading
-ending r place = comes r.limits (final_step (opened_in r) (wanted r.expected (field_in r) (annotations_in r)) place)
+-- the end of the input, or a comment that begins at a place and does not end
+abbrev pub ending : {I A : Type 0} → TextReader I A → Option ℕ → Reading
+ending r start = unless_unfinished start (comes r.limits (final_step (opened_in r) (wanted r.expected (field_in r) (annotations_in r)) r.source.place))
 
--- a scalar
-abbrev pub scalar_by : {I A : Type 0} → TextReader I A → Body → ℕ → Cursor → Reading
-scalar_by r body place c = comes r.limits (Ok (scalar_step (opened_in r) r.top (field_in r) (annotations_in r) place (as_scalar r.text place body) c))
+-- an item that is no container's
+abbrev pub giving : {I A : Type 0} → TextReader I A → ItemKind → ℕ → Cursor → Reading
+giving r what place c =
+    comes r.limits (Ok (item_step (opened_in r) r.top (field_in r) (annotations_in r) place (as_head r.text place what) (opened_in r) (behind_member (innermost (opened_in r))) c))
 
 -- all that is to come where a symbol was read with two colons before the cursor: it is an annotation
 abbrev pub with_colons : {I A : Type 0} → TextReader I A → Symbol → ℕ → Cursor → Reading
@@ -187,20 +196,8 @@ without_colons r symbol quoted place c =
     (tells_version (innermost (opened_in r)) (annotations_in r) quoted (as_symbol r.text symbol))))
 
 -- all that is to come where a field's name was read
-abbrev pub naming : {I A : Type 0} → TextReader I A → List ℕ → Symbol → ℕ → Cursor → Reading
-naming r text symbol place c = comes r.limits (field_step (opened_in r) r.top (at (as_symbol text symbol) place) c)
-
--- the same at the colon, the name's text being kept
-abbrev pub naming_here : {I A : Type 0} → TextReader I A → Symbol → ℕ → Cursor → Reading
-naming_here r symbol place c = comes r.limits (colon_of (opened_in r) r.top (at (as_symbol r.name symbol) place) c tokens.a_colon)
-
--- all that is to come where a bracket was read that closes a container of this kind
-abbrev pub closing : {I A : Type 0} → TextReader I A → Kind → ℕ → Cursor → Reading
-closing r k place c = comes r.limits (part place (end_step (opened_in r) r.top k place c))
-
--- all that is to come where a bracket was read that opens a container of this kind
-abbrev pub opening : {I A : Type 0} → TextReader I A → Kind → ℕ → Cursor → Reading
-opening r k place c = comes r.limits (part place (begin_step r.limits (opened_in r) r.top (field_in r) (annotations_in r) k place c))
+abbrev pub naming : {I A : Type 0} → TextReader I A → Symbol → ℕ → Cursor → Reading
+naming r symbol place c = comes r.limits (field_step (opened_in r) r.top (at (as_symbol r.text symbol) place) c)
 
 -- ---- a step
 
@@ -238,19 +235,40 @@ ReadyAfter (Ok step_result.Passed) r = IsInside r
 ReadyAfter (Ok step_result.Item) r = IsReady r
 ReadyAfter (Err fault) r = Unit {0}
 
--- what a call keeps and moves whatever it answers: `item` where it took one
-pub record Stepped {I A T : Type 0} (device : InputOf I) (item : T) (old new : TextReader I A) (earlier later : Counts) (result : Result T Fault) : Type 0 where
+-- what a call keeps and moves, whether it took an item, and whatever its fault
+pub record Stepped {I A : Type 0} (device : InputOf I) (took : Type 0) (fault : Option Fault) (old new : TextReader I A) (earlier later : Counts) : Type 0 where
   -- the containers that are open
-  pub opens : result ≡ Ok item → opened_in new ≡ open_after (opened_in old) (lent_by new).head
-  pub stays : result ≢ Ok item → new.kinds ≡ old.kinds
-  pub fits : result ≡ Ok item → Fits old.limits.depth (opened_in old) (lent_by new)
+  pub opens : took → opened_in new ≡ open_after (opened_in old) (lent_by new).head
+  pub stays : (took → ⊥) → new.kinds ≡ old.kinds
+  pub fits : took → Fits old.limits.depth (opened_in old) (lent_by new)
   -- what stays
   pub limits : new.limits ≡ old.limits
   pub done : new.done ≡ old.done
   pub failed : new.failed ≡ old.failed
   -- the input, faults and memory
   pub sized : IsSized new
-  pub reads : ReadsInto device old.source new.source earlier later (held_by old) (held_by new) (share_of old) result
+  pub moves : Moves device old.source new.source
+  pub causes : ReadCauses fault earlier later (device.failure_count old.source.device) (device.failure_count new.source.device) (Exceeds device old.source)
+  pub charges : Charges earlier later (held_by old) (held_by new) (share_of old)
+
+-- what a step does. `before` is what was to come where its token ended at a cursor: behind it blanks were passed over, up to where the source
+-- stands, or all that is left where a comment begins at `start` that does not end. It takes so many counted bytes more, and 16 for each that it
+-- passes over
+pub record StepsTo {I A : Type 0} (device : InputOf I) (start : Option ℕ) (before : Cursor → Reading) (more : ℕ) (old new : TextReader I A) (earlier later : Counts) (result : Result StepResult Fault) : Type 0 where
+  pub gives : device.observable old.source.device → (d : Cursor) → blanks d ≡ going start (cursor device old.source) → StepGives device (before d) new result
+  pub ready : ReadyAfter result new
+  pub stepped : Stepped device (result ≡ Ok step_result.Item) (fault_of result) old new earlier later
+  pub goes : GrowsWithin earlier later (held_by old) (held_by new) (more + 16 * (left_to old - left_to new))
+
+-- what a call for the next item does
+pub record Advances {I A : Type 0} (device : InputOf I) (old new : TextReader I A) (earlier later : Counts) (result : Result Bool Fault) : Type 0 where
+  pub gives : device.observable old.source.device → result ≡ Ok true → to_come_by device old ≡ More (lent_by new) (to_come_by device new)
+  pub ends : device.observable old.source.device → result ≡ Ok false → (to_come_by device old ≡ Finished) × (to_come_by device new ≡ Finished) × (left device.rest new.source ≡ [])
+  pub refuses : device.observable old.source.device → (r : Reason) (p : ℕ) → result ≡ Err (Refused r p) → to_come_by device old ≡ Stopped r p
+  pub ready : OnOk result (IsReady new)
+  pub falls : result ≡ Ok true → left_to new < left_to old
+  pub stepped : Stepped device (result ≡ Ok true) (fault_of result) old new earlier later
+  pub goes : GoesWithReading earlier later (held_by old) (held_by new) (left_to old) (left_to new)
 
 -- ---- memory
 

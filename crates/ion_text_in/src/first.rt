@@ -1,14 +1,15 @@
 //! Which kind of token begins at a place (Ion specification, "Text Encoding").
-ghost use Rattle.std.specs.Prelude.{◌≡◌, ℕ, List, [], ◌+◌, ◌++◌, ◌∷◌, ◌<◌, ◌≤◌, length, slice_index, Bool, true, false, Ok, Err, ◌⊎◌, if◌then◌else◌, IfOk, IfSome, IsSome, MatchOption};
-ghost use Rattle.ion_meter.specs.Sources.{Stands};
-ghost use Rattle.ion_meter.specs.Windows.{left, lent, Extends};
+ghost use Rattle.std.specs.Prelude.{◌≡◌, ◌≢◌, ℕ, List, [], ◌+◌, ◌++◌, ◌∷◌, ◌<◌, ◌≤◌, length, slice_index, Bool, true, false, Ok, Err, ◌⊎◌, if◌then◌else◌, IfOk, IfSome, IsSome, MatchOption};
+ghost use Rattle.ion_meter.specs.Sources.{cursor, Stands};
+ghost use Rattle.ion_meter.specs.Windows.{lent};
 ghost use Rattle.ion_value.specs.Calls.{Reads};
 ghost use Rattle.ion_value.specs.Digits.{first_is, is_digit};
-ghost use Rattle.ion_text_in.specs.Firsts.{first_of, is_inf, is_told_alone, numbered, width};
+ghost use Rattle.ion_text_in.specs.Firsts.{first_of, is_inf, is_told_alone, numbered, width, IsAhead};
 ghost use Rattle.ion_text_in.specs.Blanks.{blanks};
 ghost use Rattle.ion_text_in.specs.Meaning.{at};
 ghost use Rattle.ion_text_in.specs.Token.{a_colon, first_at};
 
+use crate::blank::pass_blanks;
 use crate::run::is_operator_byte;
 use ion_meter::device::Input;
 use ion_meter::fault::{Fault, Reason};
@@ -50,6 +51,15 @@ pub(crate) enum First {
     Nothing,
 }
 
+/// What comes behind blanks.
+#[derive(Clone, Copy)]
+pub(crate) struct Ahead {
+    /// The token that begins there, or none at the input's end.
+    pub(crate) first: Option<First>,
+    /// Where a comment begins that does not end: it takes the rest of the input.
+    pub(crate) unfinished: Option<u64>,
+}
+
 /// Which kind of token begins at the front of a slice, where the slice shows it: it does where it
 /// has five bytes.
 #[tactic(auto, unfolding(crate::specs::Token::first_at))]
@@ -66,9 +76,21 @@ pub(crate) fn scan_first(in_sexp: bool, bytes: &[u8]) -> Option<First>
             b'0'..=b'9' => Some(First::Number),
             b'a'..=b'z' | b'A'..=b'Z' | b'_' | b'$' => Some(First::Word),
             b'"' => Some(First::String),
-            b'\'' => quote(others),
-            b'{' => brace(others),
-            b':' => colon(others),
+            b'\'' => match others {
+                [] | [b'\''] => None,
+                [b'\'', b'\'', ..] => Some(First::LongString),
+                _ => Some(First::QuotedSymbol),
+            },
+            b'{' => match others {
+                [] => None,
+                [b'{', ..] => Some(First::Lob),
+                _ => Some(First::Begin(Kind::Struct)),
+            },
+            b':' => match others {
+                [] => None,
+                [b':', ..] => Some(First::Colons),
+                _ => Some(First::Colon),
+            },
             b'+' | b'-' => sign(in_sexp, *byte, others),
             byte => Some(mark(in_sexp, byte)),
         },
@@ -149,94 +171,58 @@ static FIRST_BYTES: [u8; 256] = [
     0, 0, 0, 0, 0, 0, 0, 0, 0, 0, 0, 0, 0, 0, 0, 0, 0, 0, 0, 0, 0, 0, 0, 0, 0, 0, 0, 0, 0, 0, 0, 0,
 ];
 
-/// Which kind of token begins here, or none where the input ends; nothing is passed over.
+/// Passes over blanks, and tells what comes behind them.
 ///
 /// No byte is waited for but those that tell it, and they stand in the window then.
-#[inline(always)]
-pub(crate) fn next_first<I: Input, A: Allocator + Copy>(
+pub(crate) fn next_ahead<I: Input, A: Allocator + Copy>(
     source: &mut Source<I, A>,
     in_sexp: bool,
-) -> Result<Option<First>, Fault>
+) -> Result<Ahead, Fault>
     requires stands { Stands source.old }
-    ensures first { I.observable source.old.device → IfOk result (λ found. MatchOption found
-        (left I.rest source.old ≡ [])
-        (λ f. first_at in_sexp (left I.rest source.old) ≡ first_of f)) }
-    ensures wide { IfOk result (λ found. IfSome found
+    ensures ahead { I.observable source.old.device → IfOk result
+        (IsAhead in_sexp (cursor I.Input source.old) (cursor I.Input source.new)) }
+    ensures wide { IfOk result (λ ahead. IfSome ahead.first
         (λ f. width (first_of f) ≤ length (lent source.new))) }
-    ensures kept { Extends I.rest I.observable source.old source.new }
-    ensures plain { (reason : Reason) (at : ℕ) → result ≡ Err (Fault.Refused reason at) → ⊥ }
+    ensures plain { (r : Reason) (p : ℕ) → result ≢ Err (Fault.Refused r p) }
     ensures reads { Reads I.Input source.old source.new result }
 {
-    if let Some(first) = scan_first(in_sexp, source.buffer()) {
-        return Ok(Some(first));
-    }
-    look_ahead(source, in_sexp)
-}
-
-// Which kind of token begins here, where the window does not show it.
-#[cold]
-#[inline(never)]
-fn look_ahead<I: Input, A: Allocator + Copy>(
-    source: &mut Source<I, A>,
-    in_sexp: bool,
-) -> Result<Option<First>, Fault>
-    requires stands { Stands source.old }
-    requires short { length (lent source.old) < 5 }
-    ensures first { I.observable source.old.device → IfOk result (λ found. MatchOption found
-        (left I.rest source.old ≡ [])
-        (λ f. first_at in_sexp (left I.rest source.old) ≡ first_of f)) }
-    ensures wide { IfOk result (λ found. IfSome found
-        (λ f. width (first_of f) ≤ length (lent source.new))) }
-    ensures kept { Extends I.rest I.observable source.old source.new }
-    ensures plain { (reason : Reason) (at : ℕ) → result ≡ Err (Fault.Refused reason at) → ⊥ }
-    ensures reads { Reads I.Input source.old source.new result }
-{
-    let mut ahead = 0;
-    'ahead: loop {
-        let Some(_) = source.peek(ahead)? else {
-            return Ok(ended_first(in_sexp, source.buffer()));
-        };
-        if let Some(first) = scan_first(in_sexp, source.buffer()) {
-            return Ok(Some(first));
+    let unfinished = pass_blanks(source)?;
+    'more: loop {
+        let bytes = source.buffer();
+        let shown = bytes.len();
+        if let Some(first) = scan_first(in_sexp, bytes) {
+            let first = Some(first);
+            return Ok(Ahead { first, unfinished });
         }
-        ahead += 1;
+        let Some(_) = source.peek(shown)? else {
+            let first = ended_first(in_sexp, source.buffer());
+            return Ok(Ahead { first, unfinished });
+        };
     }
 }
 
 // What begins at the front of a slice where the input ends behind it, or none where there is no
-// byte.
+// byte. A byte that goes on with no token changes nothing.
+#[cold]
 fn ended_first(in_sexp: bool, bytes: &[u8]) -> Option<First>
     ensures first { MatchOption result (bytes.now ≡ [])
         (λ f. first_at in_sexp bytes.now ≡ first_of f) }
     ensures wide { IfSome result (λ f. width (first_of f) ≤ length bytes.now) }
 {
-    if bytes.is_empty() {
+    let [byte, ..] = bytes else {
         return None;
+    };
+    if let Some(first) = scan_first(in_sexp, bytes) {
+        return Some(first);
     }
-    match scan_first(in_sexp, bytes) {
-        Some(first) => Some(first),
-        None => Some(short_first(in_sexp, bytes)),
-    }
-}
-
-// What begins at fewer than five bytes at the input's end: a byte that goes on with none of them
-// changes nothing.
-fn short_first(in_sexp: bool, bytes: &[u8]) -> First
-    requires some { 1 ≤ length bytes.now }
-    requires few { length bytes.now < 5 }
-    ensures { first_at in_sexp bytes.now ≡ first_of result }
-{
     let padded = [
-        bytes[0],
+        *byte,
         byte_at(bytes, 1),
         byte_at(bytes, 2),
         byte_at(bytes, 3),
         0,
     ];
-    match scan_first(in_sexp, &padded) {
-        Some(first) => first,
-        None => First::Nothing,
-    }
+    scan_first(in_sexp, &padded)
 }
 
 // The byte at an index, or 0 behind the last.
@@ -244,54 +230,6 @@ fn byte_at(bytes: &[u8], index: usize) -> u8
     ensures { result ≡ slice_index bytes.now index }
 {
     if index < bytes.len() { bytes[index] } else { 0 }
-}
-
-// What begins with a single quote.
-#[tactic(auto, unfolding(crate::specs::Token::first_at))]
-#[inline(always)]
-fn quote(others: &[u8]) -> Option<First>
-    ensures shows { (in_sexp : Bool) → IfSome result (λ f. (more : List ℕ)
-        → first_at in_sexp (39 ∷ (others.now ++ more)) ≡ first_of f) }
-    ensures wide { IfSome result (λ f. width (first_of f) ≤ 1 + length others.now) }
-    ensures known { 2 ≤ length others.now → IsSome result }
-{
-    match others {
-        [] | [b'\''] => None,
-        [b'\'', b'\'', ..] => Some(First::LongString),
-        _ => Some(First::QuotedSymbol),
-    }
-}
-
-// What begins with a brace.
-#[tactic(auto, unfolding(crate::specs::Token::first_at))]
-#[inline(always)]
-fn brace(others: &[u8]) -> Option<First>
-    ensures shows { (in_sexp : Bool) → IfSome result (λ f. (more : List ℕ)
-        → first_at in_sexp (123 ∷ (others.now ++ more)) ≡ first_of f) }
-    ensures wide { IfSome result (λ f. width (first_of f) ≤ 1 + length others.now) }
-    ensures known { 1 ≤ length others.now → IsSome result }
-{
-    match others {
-        [] => None,
-        [b'{', ..] => Some(First::Lob),
-        _ => Some(First::Begin(Kind::Struct)),
-    }
-}
-
-// What begins with a colon.
-#[tactic(auto, unfolding(crate::specs::Token::first_at))]
-#[inline(always)]
-fn colon(others: &[u8]) -> Option<First>
-    ensures shows { (in_sexp : Bool) → IfSome result (λ f. (more : List ℕ)
-        → first_at in_sexp (58 ∷ (others.now ++ more)) ≡ first_of f) }
-    ensures wide { IfSome result (λ f. width (first_of f) ≤ 1 + length others.now) }
-    ensures known { 1 ≤ length others.now → IsSome result }
-{
-    match others {
-        [] => None,
-        [b':', ..] => Some(First::Colons),
-        _ => Some(First::Colon),
-    }
 }
 
 // What begins with a sign.

@@ -1,9 +1,8 @@
 //! Operators, infinities and punctuation (Ion specification, "Text Encoding").
-ghost use Rattle.std.specs.Prelude.{◌≡◌, ◌≤◌, ◌<◌, ◌*◌, ℕ, Option, Some, Ok, Err, length, OnOk};
-ghost use Rattle.ion_meter.specs.Sources.{cursor, Stands};
-ghost use Rattle.ion_meter.specs.Windows.{lent, CanPass, IsPassed};
+ghost use Rattle.std.specs.Prelude.{◌≤◌, ◌<◌, ◌*◌, Some, Ok, Err, length, OnOk};
+ghost use Rattle.ion_meter.specs.Sources.{Stands};
+ghost use Rattle.ion_meter.specs.Windows.{lent};
 ghost use Rattle.ion_value.specs.Calls.{AnswersBy, CanRead, Reads, ReadsInto, passed_over};
-ghost use Rattle.ion_value.specs.declared.ion_type.Kind.{Kind};
 ghost use Rattle.ion_value.specs.Shares.{GrowsWithin};
 ghost use Rattle.ion_text_in.specs.Scanners.{Shows};
 ghost use Rattle.ion_text_in.specs.Token as tokens;
@@ -88,39 +87,4 @@ pub(crate) fn next_infinity<I: Input, A: Allocator + Copy>(
     }
     source.consume(4);
     Ok(())
-}
-
-/// Passes over a bracket, a brace, a parenthesis, a comma or a colon, which stands in the window.
-#[tactic(auto, unfolding(crate::specs::Token::token_of))]
-#[inline(always)]
-pub(crate) fn pass_mark<I: Input, A: Allocator + Copy>(source: &mut Source<I, A>)
-    requires stands { Stands source.old }
-    requires there { 1 ≤ length (lent source.old) }
-    ensures begin { (limit : Option ℕ) (kind : Kind)
-        → token_of limit (tokens.a_begin kind) (cursor I.Input source.old)
-        ≡ Ok (tokens.begin kind, cursor I.Input source.new) }
-    ensures end { (limit : Option ℕ) (kind : Kind)
-        → token_of limit (tokens.an_end kind) (cursor I.Input source.old)
-        ≡ Ok (tokens.end kind, cursor I.Input source.new) }
-    ensures comma { (limit : Option ℕ) → token_of limit tokens.a_comma (cursor I.Input source.old)
-        ≡ Ok (tokens.comma, cursor I.Input source.new) }
-    ensures colon { (limit : Option ℕ) → token_of limit tokens.a_colon (cursor I.Input source.old)
-        ≡ Ok (tokens.colon, cursor I.Input source.new) }
-    ensures passed { IsPassed source.old source.new 1 }
-{
-    source.consume(1);
-}
-
-/// Passes over two colons, which stand in the window.
-#[tactic(auto, unfolding(crate::specs::Token::token_of))]
-#[inline(always)]
-pub(crate) fn pass_colons<I: Input, A: Allocator + Copy>(source: &mut Source<I, A>)
-    requires stands { Stands source.old }
-    requires there { 2 ≤ length (lent source.old) }
-    ensures colons { (limit : Option ℕ)
-        → token_of limit tokens.two_colons (cursor I.Input source.old)
-        ≡ Ok (tokens.colons, cursor I.Input source.new) }
-    ensures passed { IsPassed source.old source.new 2 }
-{
-    source.consume(2);
 }

@@ -1,32 +1,24 @@
 //! The reader of texts.
-ghost use Rattle.std.specs.Prelude.{◌≡◌, ◌≢◌, ℕ, ◌+◌, ◌-◌, ◌*◌, ◌^◌, ◌<◌, ◌≤◌, [], length, is_some, Option, Some, None, Ok, Err, true, false, OnOk};
-ghost use Rattle.ion_meter.specs.declared.fault.Reason.{Reason};
-ghost use Rattle.ion_meter.specs.declared.fault.Fault.TheVariants.{Refused};
+ghost use Rattle.std.specs.Prelude.{◌≡◌, ◌≢◌, ◌+◌, ◌*◌, ◌<◌, ◌≤◌, [], length, is_some, Option, None, Ok, true};
 ghost use Rattle.ion_meter.specs.Counts.{Counts, Shrinks};
 ghost use Rattle.ion_meter.specs.Limits.{AreChecked};
-ghost use Rattle.ion_meter.specs.Sources.{BytesAreLeft, Cursor, cursor, skip, Exceeds, Stands};
+ghost use Rattle.ion_meter.specs.Sources.{BytesAreLeft, cursor, skip, Exceeds, Stands};
 ghost use Rattle.ion_meter.specs.Windows.{left, lent};
-ghost use Rattle.ion_value.specs.Reading.{Finished, More, Stopped};
-ghost use Rattle.ion_value.specs.Calls.{passed_over};
-ghost use Rattle.ion_value.specs.Shares.{GoesWithReading, GrowsWithin};
-ghost use Rattle.ion_text_in.specs.Blanks.{blanks};
-ghost use Rattle.ion_text_in.specs.Positions.{at, innermost, in_sexp};
+ghost use Rattle.ion_value.specs.Reading.{Finished};
+ghost use Rattle.ion_text_in.specs.Positions.{innermost, in_sexp};
 ghost use Rattle.ion_text_in.specs.Reading as reading;
 ghost use Rattle.ion_text_in.specs.Reading.{reading, reading_from};
 ghost use Rattle.ion_text_in.specs.Token.{name};
-ghost use Rattle.ion_text_in.specs.Tokens.{as_symbol, going, BodyInRange};
+ghost use Rattle.ion_text_in.specs.Tokens.{as_symbol};
 ghost use Rattle.ion_text_in.specs.Symbols.{is_annotated, kept_text};
-ghost use Rattle.ion_text_in.specs.Expecting.{wanted, MayExpect};
-ghost use Rattle.ion_text_in.specs.Steps.{annotations_in, ending, failed_of, given_by, held_by, left_to, lent_by, limits_of, naming, naming_here, opened_in, scalar_by, share_of, sound-within, source_of, taking, to_come_by, to_come_in, with_colons, without_colons, CanAdvance, CanStep, HasEnded, IsGoing, IsInside, IsReady, IsSized, IsSound, ReadyAfter, StepGives, Stepped};
+ghost use Rattle.ion_text_in.specs.Steps.{annotations_in, ending, failed_of, giving, held_by, left_to, lent_by, limits_of, naming, opened_in, share_of, sound-within, source_of, taking, to_come_by, to_come_in, with_colons, without_colons, Advances, CanAdvance, CanStep, HasEnded, IsGoing, IsSized, IsSound, MayGive, StepsTo};
 
 mod lent;
 mod taking;
 mod window;
 
-use crate::blank::pass_blanks;
 use crate::expected::{Expected, behind_member, is_colons};
-use crate::first::{First, next_first};
-use crate::operator::{pass_colons, pass_mark};
+use crate::first::{First, next_ahead};
 use crate::symbol::{FieldName, annotation_place, keep_text, lent_field};
 use crate::token::{Body, Symbol};
 use crate::waiting::shows_item;
@@ -215,37 +207,18 @@ impl<I: Input, A: Allocator + Copy> TextReader<I, A> {
         }
     }
 
-    // Lends an item whose head begins at a place, behind what was read of it.
+    // Lends a scalar or a version marker whose head begins at a place, behind what was read of it.
     #[inline(always)]
-    fn give(&mut self, what: ItemKind, place: u64, unfinished: Option<u64>)
-        ensures given { self.new
-            ≡ given_by self.old what place unfinished self.new.expected }
-        ensures behind { wanted self.new.expected None []
-            ≡ reading.behind_member (innermost (opened_in self.old)) }
-        ensures may { MayExpect self.new.expected (opened_in self.old) None [] }
+    fn give(&mut self, what: ItemKind, place: u64, unfinished: Option<u64>) -> StepResult
+        ensures { (m : Counts) → CanStep self.old m → self.old.expected ≡ Expected.Value
+            → MayGive self.old what → StepsTo I.Input unfinished (giving self.old what place) 0
+            self.old self.new m m (Ok result) }
     {
         self.top = self.top_at(place);
         self.place = place;
         self.what = what;
         self.unfinished = unfinished;
         self.expected = behind_member(self.innermost());
-    }
-
-    // Takes a scalar that no annotation goes before that was not read.
-    #[inline(always)]
-    fn scalar(&mut self, body: Body, place: u64, unfinished: Option<u64>) -> StepResult
-        requires value { self.old.expected ≡ Expected.Value }
-        requires inside { IsInside self.old }
-        requires sized { IsSized self.old }
-        requires range { BodyInRange body }
-        ensures gives { I.observable self.old.source.device → (d : Cursor)
-            → blanks d ≡ going unfinished (cursor I.Input self.old.source)
-            → StepGives I.Input (scalar_by self.old body place d) self.new (Ok result) }
-        ensures ready { ReadyAfter (Ok result) self.new }
-        ensures stepped { (m : Counts) → held_by self.old ≤ m.held
-            → Stepped I.Input StepResult.Item self.old self.new m m (Ok result) }
-    {
-        self.give(ItemKind::Scalar(body), place, unfinished);
         StepResult::Item
     }
 
@@ -257,39 +230,27 @@ impl<I: Input, A: Allocator + Copy> TextReader<I, A> {
         place: u64,
         unfinished: Option<u64>,
     ) -> Result<StepResult, Fault>
-        requires value { self.old.expected ≡ Expected.Value }
-        requires inside { IsInside self.old }
-        requires sized { IsSized self.old }
-        ensures gives { I.observable self.old.source.device → (d : Cursor)
-            → blanks d ≡ going unfinished (cursor I.Input self.old.source)
-            → StepGives I.Input (without_colons self.old symbol quoted place d) self.new result }
-        ensures ready { ReadyAfter result self.new }
-        ensures stepped { (m : Counts) → held_by self.old ≤ m.held
-            → Stepped I.Input StepResult.Item self.old self.new m m result }
+        ensures { (m : Counts) → CanStep self.old m → self.old.expected ≡ Expected.Value
+            → StepsTo I.Input unfinished (without_colons self.old symbol quoted place) 0
+            self.old self.new m m result }
     {
         if !self.tells_version(symbol, quoted) {
-            return Ok(self.scalar(Body::Symbol(symbol), place, unfinished));
+            return Ok(self.give(ItemKind::Scalar(Body::Symbol(symbol)), place, unfinished));
         }
         if !is_version_word(self.text.as_slice()) {
             return Err(Fault::Refused(Reason::BadVersion, place));
         }
-        self.give(ItemKind::Marker, place, unfinished);
-        Ok(StepResult::Item)
+        Ok(self.give(ItemKind::Marker, place, unfinished))
     }
 
     // Whether a symbol is a version's word without quotes and annotations at top level.
+    #[tactic(auto, unfolding(crate::specs::Reading::tells_version))]
     #[inline]
     fn tells_version(&self, symbol: Symbol, quoted: bool) -> bool
         ensures { result ≡ reading.tells_version (innermost (opened_in self.now))
             (annotations_in self.now) quoted (as_symbol self.now.text symbol) }
     {
-        if quoted {
-            return false;
-        }
-        if self.is_inside() {
-            return false;
-        }
-        if self.is_annotated() {
+        if quoted || self.is_inside() || self.is_annotated() {
             return false;
         }
         match symbol {
@@ -308,29 +269,20 @@ impl<I: Input, A: Allocator + Copy> TextReader<I, A> {
         requires can_step { CanStep self.old meter.old }
         requires value { self.old.expected ≡ Expected.Value }
         requires colons { 2 ≤ length (lent self.old.source) }
-        ensures gives { I.observable self.old.source.device
-            → StepGives I.Input (with_colons self.old symbol place
-            (skip 2 (cursor I.Input self.old.source))) self.new result }
-        ensures ready { ReadyAfter result self.new }
-        ensures stepped { Stepped I.Input StepResult.Item self.old self.new
-            meter.old meter.new result }
-        ensures goes { GrowsWithin meter.old meter.new (held_by self.old) (held_by self.new)
-            (length (kept_text self.old.text symbol)
-            + 16 * passed_over self.old.source self.new.source) }
+        ensures { StepsTo I.Input None
+            (λ _. with_colons self.old symbol place (skip 2 (cursor I.Input self.old.source)))
+            (length (kept_text self.old.text symbol))
+            self.old self.new meter.old meter.new result }
     {
-        let limit = self.limits.scalar;
-        let cost = self.annotations_cost(symbol);
-        if limit < cost {
+        if self.limits.scalar < self.annotations_cost(symbol) {
             return Err(Fault::Refused(Reason::AnnotationLimit, place));
         }
-        pass_colons(&mut self.source);
-        match keep_text(&mut self.texts, self.text.as_slice(), symbol, place, meter) {
-            Err(fault) => Err(fault),
-            Ok(annotation) => match self.annotations.push(meter, annotation) {
-                Err((_, fault)) => Err(fault),
-                Ok(()) => Ok(StepResult::Passed),
-            },
+        self.source.consume(2);
+        let annotation = keep_text(&mut self.texts, self.text.as_slice(), symbol, place, meter)?;
+        if let Err((_, fault)) = self.annotations.push(meter, annotation) {
+            return Err(fault);
         }
+        Ok(StepResult::Passed)
     }
 
     // What the annotations cost with the symbol that was read as one more.
@@ -359,128 +311,74 @@ impl<I: Input, A: Allocator + Copy> TextReader<I, A> {
     ) -> Result<StepResult, Fault>
         requires can_step { CanStep self.old meter.old }
         requires value { self.old.expected ≡ Expected.Value }
-        ensures gives { I.observable self.old.source.device → (d : Cursor)
-            → blanks d ≡ blanks (cursor I.Input self.old.source)
-            → StepGives I.Input (taking self.old place
-            (name quoted (as_symbol self.old.text symbol)) d) self.new result }
-        ensures ready { ReadyAfter result self.new }
-        ensures stepped { Stepped I.Input StepResult.Item self.old self.new
-            meter.old meter.new result }
-        ensures goes { GrowsWithin meter.old meter.new (held_by self.old) (held_by self.new)
-            (length (kept_text self.old.text symbol)
-            + 16 * passed_over self.old.source self.new.source) }
+        ensures { StepsTo I.Input None
+            (taking self.old place (name quoted (as_symbol self.old.text symbol)))
+            (length (kept_text self.old.text symbol))
+            self.old self.new meter.old meter.new result }
     {
-        let unfinished = pass_blanks(&mut self.source)?;
         let in_sexp = self.in_sexp();
-        let found = next_first(&mut self.source, in_sexp)?;
-        if is_colons(found) {
+        let ahead = next_ahead(&mut self.source, in_sexp)?;
+        if is_colons(ahead.first) {
             return self.annotate(symbol, place, meter);
         }
-        self.symbol_value(symbol, quoted, place, unfinished)
+        self.symbol_value(symbol, quoted, place, ahead.unfinished)
     }
 
     // Takes the symbol that was read as the name of a field: a colon has to follow.
-    fn named(&mut self, symbol: Symbol, place: u64) -> Result<StepResult, Fault>
-        requires value { self.old.expected ≡ Expected.Field }
-        requires inside { IsInside self.old }
-        requires sized { IsSized self.old }
-        ensures gives { I.observable self.old.source.device → (d : Cursor)
-            → blanks d ≡ blanks (cursor I.Input self.old.source)
-            → StepGives I.Input (naming self.old self.old.text symbol place d) self.new result }
-        ensures ready { ReadyAfter result self.new }
-        ensures stepped { (m : Counts) → held_by self.old ≤ m.held
-            → Stepped I.Input StepResult.Item self.old self.new m m result }
-    {
-        mem::swap(&mut self.name, &mut self.text);
-        self.behind_name(symbol, place)
-    }
-
-    // Takes a symbol as the name of a field, where its text is the name already: a colon has to
-    // follow.
     #[inline(never)]
-    fn behind_name(&mut self, symbol: Symbol, place: u64) -> Result<StepResult, Fault>
-        requires value { self.old.expected ≡ Expected.Field }
-        requires inside { IsInside self.old }
-        requires sized { IsSized self.old }
-        ensures gives { I.observable self.old.source.device → (d : Cursor)
-            → blanks d ≡ blanks (cursor I.Input self.old.source)
-            → StepGives I.Input (naming self.old self.old.name symbol place d) self.new result }
-        ensures ready { ReadyAfter result self.new }
-        ensures stepped { (m : Counts) → held_by self.old ≤ m.held
-            → Stepped I.Input StepResult.Item self.old self.new m m result }
+    fn named(&mut self, symbol: Symbol, place: u64) -> Result<StepResult, Fault>
+        requires stands { Stands self.old.source }
+        ensures { (m : Counts) → CanStep self.old m → self.old.expected ≡ Expected.Field
+            → StepsTo I.Input None (naming self.old symbol place) 0
+            self.old self.new m m result }
     {
-        if let Some(start) = pass_blanks(&mut self.source)? {
-            return Err(Fault::Refused(Reason::Truncated, start));
-        }
-        match next_first(&mut self.source, false)? {
-            None => Err(Fault::Refused(Reason::Truncated, self.source.place())),
-            Some(First::Colon) => self.at_colon(symbol, place),
-            Some(_) => Err(Fault::Refused(Reason::BadToken, self.source.place())),
+        let ahead = next_ahead(&mut self.source, false)?;
+        let here = self.source.place();
+        match ahead.first {
+            Some(First::Colon) => {
+                self.source.consume(1);
+                mem::swap(&mut self.name, &mut self.text);
+                self.field = Some(FieldName { symbol, place });
+                self.expected = Expected::Value;
+                Ok(StepResult::Passed)
+            }
+            Some(_) => Err(Fault::Refused(Reason::BadToken, here)),
+            None => Err(Fault::Refused(Reason::Truncated, ahead.unfinished.unwrap_or(here))),
         }
     }
 
-    // Takes a symbol as the name of a field, at the colon.
-    #[inline(always)]
-    fn at_colon(&mut self, symbol: Symbol, place: u64) -> Result<StepResult, Fault>
-        requires value { self.old.expected ≡ Expected.Field }
-        requires inside { IsInside self.old }
-        requires sized { IsSized self.old }
-        requires there { 1 ≤ length (lent self.old.source) }
-        ensures gives { I.observable self.old.source.device → StepGives I.Input
-            (naming_here self.old symbol place (cursor I.Input self.old.source)) self.new result }
-        ensures ready { ReadyAfter result self.new }
-        ensures stepped { (m : Counts) → held_by self.old ≤ m.held
-            → Stepped I.Input StepResult.Item self.old self.new m m result }
-    {
-        pass_mark(&mut self.source);
-        self.field = Some(FieldName { symbol, place });
-        self.expected = Expected::Value;
-        Ok(StepResult::Passed)
-    }
-
-    // The end of the input: the stream ends where nothing is open and a value may begin.
-    fn end(&self) -> Result<StepResult, Fault>
-        requires inside { IsInside self.now }
-        requires sized { IsSized self.now }
-        ensures gives { left I.rest self.now.source ≡ []
-            → StepGives I.Input (ending self.now self.now.source.place) self.now result }
-        ensures ready { ReadyAfter result self.now }
+    // The end of the input, or a comment that does not end: the stream ends where nothing is open
+    // and a value may begin.
+    fn end(&self, unfinished: Option<u64>) -> Result<StepResult, Fault>
         ensures ended { (t : StepResult) → result ≡ Ok t → t ≡ StepResult.Ended }
-        ensures stepped { (m : Counts) → held_by self.now ≤ m.held
-            → Stepped I.Input StepResult.Item self.now self.now m m result }
+        ensures steps { (m : Counts) → CanStep self.now m
+            → (I.observable self.now.source.device → left I.rest self.now.source ≡ [])
+            → StepsTo I.Input None (λ _. ending self.now unfinished) 0 self.now self.now m m result }
     {
-        if self.is_inside() {
-            return Err(Fault::Refused(Reason::Truncated, self.source.place()));
-        }
-        if self.is_annotated() {
-            return Err(Fault::Refused(Reason::Truncated, self.source.place()));
-        }
-        match self.expected {
-            Expected::Value => Ok(StepResult::Ended),
-            _ => Err(Fault::Refused(Reason::Truncated, self.source.place())),
+        match (self.expected, unfinished) {
+            (Expected::Value, None) if !self.is_inside() && !self.is_annotated() => {
+                Ok(StepResult::Ended)
+            }
+            _ => {
+                let stop = unfinished.unwrap_or(self.source.place());
+                Err(Fault::Refused(Reason::Truncated, stop))
+            }
         }
     }
 
     // One token, and what belongs to it: an item, a part of one, a comma, or the end of the stream.
     fn step(&mut self, meter: &mut Meter<A>) -> Result<StepResult, Fault>
-        requires can_step { CanStep self.old meter.old }
-        ensures gives { I.observable self.old.source.device → StepGives I.Input
-            (to_come_in I.Input self.old) self.new result }
-        ensures ready { ReadyAfter result self.new }
+        requires { CanStep self.old meter.old }
+        ensures steps { StepsTo I.Input None (λ _. to_come_in I.Input self.old) 0
+            self.old self.new meter.old meter.new result }
         ensures further { (t : StepResult) → result ≡ Ok t → t ≢ StepResult.Ended
             → left_to self.new < left_to self.old }
-        ensures stepped { Stepped I.Input StepResult.Item self.old self.new
-            meter.old meter.new result }
-        ensures goes { GoesWithReading meter.old meter.new
-            (held_by self.old) (held_by self.new) (left_to self.old) (left_to self.new) }
     {
-        if let Some(start) = pass_blanks(&mut self.source)? {
-            return Err(Fault::Refused(Reason::Truncated, start));
-        }
         let in_sexp = self.in_sexp();
-        match next_first(&mut self.source, in_sexp)? {
-            None => self.end(),
+        let ahead = next_ahead(&mut self.source, in_sexp)?;
+        match ahead.first {
             Some(first) => self.part(first, meter),
+            None => self.end(ahead.unfinished),
         }
     }
 
@@ -503,31 +401,18 @@ impl<I: Input, A: Allocator + Copy> TextReader<I, A> {
 
     // Takes the next item; false at the end of the stream.
     fn advance(&mut self, meter: &mut Meter<A>) -> Result<bool, Fault>
-        requires can_advance { CanAdvance self.old meter.old }
-        ensures gives { I.observable self.old.source.device → result ≡ Ok true
-            → to_come_by I.Input self.old ≡ More (lent_by self.new) (to_come_by I.Input self.new) }
-        ensures ends { I.observable self.old.source.device → result ≡ Ok false
-            → (to_come_by I.Input self.old ≡ Finished) × (to_come_by I.Input self.new ≡ Finished)
-            × (left I.rest self.new.source ≡ []) }
-        ensures refuses { I.observable self.old.source.device → (r : Reason) (p : ℕ)
-            → result ≡ Err (Refused r p) → to_come_by I.Input self.old ≡ Stopped r p }
-        ensures ready { OnOk result (IsReady self.new) }
-        ensures falls { result ≡ Ok true → left_to self.new < left_to self.old }
-        ensures stepped { Stepped I.Input true self.old self.new meter.old meter.new result }
-        ensures goes { GoesWithReading meter.old meter.new
-            (held_by self.old) (held_by self.new) (left_to self.old) (left_to self.new) }
+        requires { CanAdvance self.old meter.old }
+        ensures { Advances I.Input self.old self.new meter.old meter.new result }
     {
-        match self.unfinished {
-            Some(start) => return Err(Fault::Refused(Reason::Truncated, start)),
-            None => {}
+        if let Some(start) = self.unfinished {
+            return Err(Fault::Refused(Reason::Truncated, start));
         }
         self.forget(meter);
-        loop {
-            match self.step(meter) {
-                Err(fault) => return Err(fault),
-                Ok(StepResult::Ended) => return Ok(false),
-                Ok(StepResult::Item) => return Ok(true),
-                Ok(StepResult::Passed) => {}
+        'steps: loop {
+            match self.step(meter)? {
+                StepResult::Ended => return Ok(false),
+                StepResult::Item => return Ok(true),
+                StepResult::Passed => {}
             }
         }
     }

@@ -1,7 +1,7 @@
 //! Tokens, each read by the kind that its first bytes tell (Ion specification, "Text Encoding").
 ghost use Rattle.std.specs.Prelude.{◌≡◌, ◌≤◌, ◌+◌, ◌*◌, ℕ, List, None, Some, length, IfOk};
-ghost use Rattle.ion_meter.specs.Sources.{cursor};
-ghost use Rattle.ion_meter.specs.Windows.{lent};
+ghost use Rattle.ion_meter.specs.Sources.{cursor, skip, Stands};
+ghost use Rattle.ion_meter.specs.Windows.{lent, IsPassed};
 ghost use Rattle.ion_value.specs.Calls.{CanRead, passed_over};
 ghost use Rattle.ion_value.specs.Standing.{InRange};
 ghost use Rattle.ion_value.specs.Shares.{GrowsWithin};
@@ -16,7 +16,7 @@ ghost use Rattle.ion_text_in.specs.Views.{as_number, number_token, word_token_of
 use crate::first::First;
 use crate::lob::{Lob, next_lob};
 use crate::number::{Number, next_number};
-use crate::operator::{next_infinity, next_operator, pass_colons, pass_mark};
+use crate::operator::{next_infinity, next_operator};
 use crate::text::{next_long_string, next_quoted_symbol, next_short_string};
 use crate::word::{Word, next_word};
 use ion_meter::buf::Buf;
@@ -133,28 +133,30 @@ pub(crate) fn next_token<I: Input, A: Allocator + Copy>(
             next_infinity(source, limits)?;
             Ok(Token::NoNumber)
         }
-        First::Begin(kind) => {
-            pass_mark(source);
-            Ok(Token::Begin(kind))
-        }
-        First::End(kind) => {
-            pass_mark(source);
-            Ok(Token::End(kind))
-        }
-        First::Comma => {
-            pass_mark(source);
-            Ok(Token::Comma)
-        }
-        First::Colon => {
-            pass_mark(source);
-            Ok(Token::Colon)
-        }
-        First::Colons => {
-            pass_colons(source);
-            Ok(Token::Colons)
-        }
+        First::Begin(kind) => Ok(pass(source, 1, Token::Begin(kind))),
+        First::End(kind) => Ok(pass(source, 1, Token::End(kind))),
+        First::Comma => Ok(pass(source, 1, Token::Comma)),
+        First::Colon => Ok(pass(source, 1, Token::Colon)),
+        First::Colons => Ok(pass(source, 2, Token::Colons)),
         First::Nothing => Err(Fault::Refused(Reason::BadToken, source.place())),
     }
+}
+
+// Passes over a mark of so many bytes, which stand in the window.
+#[inline(always)]
+fn pass<I: Input, A: Allocator + Copy>(
+    source: &mut Source<I, A>,
+    count: usize,
+    mark: Token,
+) -> Token
+    requires stands { Stands source.old }
+    requires there { count ≤ length (lent source.old) }
+    ensures same { result ≡ mark }
+    ensures passed { IsPassed source.old source.new count }
+    ensures cursor { cursor I.Input source.new ≡ skip count (cursor I.Input source.old) }
+{
+    source.consume(count);
+    mark
 }
 
 // A word as a token.

@@ -1,5 +1,5 @@
 //! Whether the bytes of a window show the next item, so that its reader need not read more.
-ghost use Rattle.std.specs.Prelude.{◌<◌, ◌≤◌, ℕ, List, length, IfSome};
+ghost use Rattle.std.specs.Prelude.{◌<◌, ◌≤◌, length, IfSome};
 ghost use Rattle.ion_text_in.specs.Firsts.{first_of, width};
 ghost use Rattle.ion_text_in.specs.Waiting.{PassesSome};
 
@@ -12,15 +12,14 @@ use crate::scanned::Scanned;
 use crate::word::{Word, scan_word};
 use ion_value::ion_type::Kind;
 
-/// What the front of some bytes shows of the next item.
+/// What the front of some bytes shows of the next item, where it shows a whole token of it and what
+/// has to be seen behind that.
 #[derive(Clone, Copy)]
 pub(crate) enum Part<'a> {
     /// The rest of it.
     Item,
     /// A comma, a field's name or an annotation, behind which it goes on with these bytes.
     Passed(&'a [u8]),
-    /// Not all of a token, or not what follows it.
-    Cut,
 }
 
 /// Whether these bytes show the next item in a container of this kind, or at top level, so that it
@@ -32,38 +31,45 @@ pub(crate) fn shows_item(inside: Option<Kind>, bytes: &[u8]) -> bool {
     let mut rest = bytes;
     'parts: loop {
         match next_part(inside, rest) {
-            Part::Item => return true,
-            Part::Cut => return false,
-            Part::Passed(behind) => rest = behind,
+            None => return false,
+            Some(Part::Item) => return true,
+            Some(Part::Passed(behind)) => rest = behind,
         }
     }
 }
 
 // What the next token is, with what has to be seen behind it.
-fn next_part(inside: Option<Kind>, bytes: &[u8]) -> Part<'_>
-    ensures { PassesSome result bytes.now }
+fn next_part(inside: Option<Kind>, bytes: &[u8]) -> Option<Part<'_>>
+    ensures { IfSome result (PassesSome bytes.now) }
 {
     let in_sexp = matches!(inside, Some(Kind::Sexp));
-    let Some((first, bytes)) = first_behind(in_sexp, bytes) else {
-        return Part::Cut;
-    };
+    let (first, bytes) = first_behind(in_sexp, bytes)?;
     if inside.is_none() && may_be_declaration(bytes) {
-        return Part::Cut;
+        return None;
     }
     match first {
-        First::Comma | First::Colon => Part::Passed(&bytes[1..]),
-        First::Colons => Part::Passed(&bytes[2..]),
-        First::Number => run_part(Run::Number, bytes),
-        First::Operator => run_part(Run::Operator, bytes),
+        First::Comma | First::Colon => Some(Part::Passed(&bytes[1..])),
+        First::Colons => Some(Part::Passed(&bytes[2..])),
+        First::Number => {
+            token_extent(Run::Number, bytes)?;
+            Some(Part::Item)
+        }
+        First::Operator => {
+            token_extent(Run::Operator, bytes)?;
+            Some(Part::Item)
+        }
         First::Word => word_part(in_sexp, bytes),
-        First::QuotedSymbol => name_part(Quote::Symbol, in_sexp, &bytes[1..]),
-        First::String => match inside {
-            Some(Kind::Struct) => name_part(Quote::Short, in_sexp, &bytes[1..]),
-            _ => whole(behind_text(Quote::Short, &bytes[1..]).is_some()),
-        },
+        First::QuotedSymbol => behind_name(in_sexp, behind_text(Quote::Symbol, &bytes[1..])?),
+        First::String => {
+            let behind = behind_text(Quote::Short, &bytes[1..])?;
+            match inside {
+                Some(Kind::Struct) => behind_name(in_sexp, behind),
+                _ => Some(Part::Item),
+            }
+        }
         First::LongString => long_part(in_sexp, &bytes[3..]),
-        First::Lob => whole(ends_lob(&bytes[2..])),
-        First::Begin(_) | First::End(_) | First::Infinity | First::Nothing => Part::Item,
+        First::Lob => lob_part(&bytes[2..]),
+        First::Begin(_) | First::End(_) | First::Infinity | First::Nothing => Some(Part::Item),
     }
 }
 
@@ -81,66 +87,36 @@ fn may_be_declaration(bytes: &[u8]) -> bool {
     }
 }
 
-// An item, where all of its last token is there.
-fn whole<'a>(is_whole: bool) -> Part<'a>
-    ensures { (bytes : List ℕ) → PassesSome result bytes }
-{
-    if is_whole { Part::Item } else { Part::Cut }
-}
-
-// A number, a timestamp or an operator.
-fn run_part<'a>(run: Run, bytes: &'a [u8]) -> Part<'a>
-    ensures { PassesSome result bytes.now }
-{
-    whole(token_extent(run, bytes).is_some())
-}
-
 // A word.
-fn word_part(in_sexp: bool, bytes: &[u8]) -> Part<'_>
-    ensures { PassesSome result bytes.now }
+fn word_part(in_sexp: bool, bytes: &[u8]) -> Option<Part<'_>>
+    ensures { IfSome result (PassesSome bytes.now) }
 {
     match scan_word(u64::MAX, bytes) {
-        Scanned::Cut => Part::Cut,
-        Scanned::Fault(_) => Part::Item,
-        Scanned::Whole(word, count) => match word {
-            Word::Name | Word::Id(_) => behind_name(in_sexp, &bytes[count..]),
-            _ => Part::Item,
-        },
-    }
-}
-
-// A text between quotes that may be a name, from behind the opening quote.
-fn name_part(quote: Quote, in_sexp: bool, bytes: &[u8]) -> Part<'_>
-    ensures { PassesSome result bytes.now }
-{
-    match behind_text(quote, bytes) {
-        None => Part::Cut,
-        Some(behind) => behind_name(in_sexp, behind),
+        Scanned::Cut => None,
+        Scanned::Whole(Word::Name | Word::Id(_), count) => behind_name(in_sexp, &bytes[count..]),
+        _ => Some(Part::Item),
     }
 }
 
 // A long string, from behind the opening quotes: further segments may follow it.
-fn long_part(in_sexp: bool, bytes: &[u8]) -> Part<'_>
-    ensures { PassesSome result bytes.now }
+fn long_part(in_sexp: bool, bytes: &[u8]) -> Option<Part<'_>>
+    ensures { IfSome result (PassesSome bytes.now) }
 {
-    let Some(behind) = behind_text(Quote::Long, bytes) else {
-        return Part::Cut;
-    };
-    match first_behind(in_sexp, behind) {
-        Some((First::LongString, next)) => Part::Passed(next),
+    let behind = behind_text(Quote::Long, bytes)?;
+    match first_behind(in_sexp, behind)? {
+        (First::LongString, next) => Some(Part::Passed(next)),
         _ => behind_name(in_sexp, behind),
     }
 }
 
 // What stands behind a symbol or a text: with a colon behind it, it is a field's name or an
 // annotation.
-fn behind_name(in_sexp: bool, bytes: &[u8]) -> Part<'_>
-    ensures { PassesSome result bytes.now }
+fn behind_name(in_sexp: bool, bytes: &[u8]) -> Option<Part<'_>>
+    ensures { IfSome result (PassesSome bytes.now) }
 {
-    match first_behind(in_sexp, bytes) {
-        None => Part::Cut,
-        Some((First::Colon | First::Colons, behind)) => Part::Passed(&behind[1..]),
-        Some(_) => Part::Item,
+    match first_behind(in_sexp, bytes)? {
+        (First::Colon | First::Colons, behind) => Some(Part::Passed(&behind[1..])),
+        _ => Some(Part::Item),
     }
 }
 
@@ -186,15 +162,18 @@ fn behind_quotes(quote: Quote, bytes: &[u8]) -> Option<&[u8]>
     }
 }
 
-// Whether a blob or a clob in short quotes ends in these bytes, which stand behind its opening braces.
-fn ends_lob(bytes: &[u8]) -> bool {
-    match behind_white(bytes) {
-        [b'"', text @ ..] => match behind_text(Quote::Short, text) {
-            None => false,
-            Some(rest) => begins_closing(behind_white(rest)),
-        },
-        [b'\'', ..] => false,
-        groups => begins_closing(&groups[run_without(b'}', b'}', groups)..]),
+// A blob or a clob in short quotes, from behind its opening braces.
+fn lob_part(bytes: &[u8]) -> Option<Part<'_>>
+    ensures { IfSome result (PassesSome bytes.now) }
+{
+    let rest = match behind_white(bytes) {
+        [b'"', text @ ..] => behind_white(behind_text(Quote::Short, text)?),
+        [b'\'', ..] => return None,
+        groups => &groups[run_without(b'}', b'}', groups)..],
+    };
+    match rest {
+        [b'}', b'}', ..] => Some(Part::Item),
+        _ => None,
     }
 }
 
@@ -203,9 +182,4 @@ fn behind_white(bytes: &[u8]) -> &[u8]
     ensures { length result.now ≤ length bytes.now }
 {
     &bytes[white_run(bytes)..]
-}
-
-// Whether the two braces stand here that close a lob.
-fn begins_closing(bytes: &[u8]) -> bool {
-    matches!(bytes, [b'}', b'}', ..])
 }

@@ -1,46 +1,44 @@
-use Rattle.std.proofs.Common.{◌∙◌, ℕ, Option, Some, Ok, refl, sym, ap, arith}
-use Rattle.std.proofs.lemmas.Grind.{common_steps}
-use Rattle.ion_meter.specs.Sources.{cursor}
+use Rattle.std.proofs.Common.{◌≡◌, ◌∙◌, ℕ, List, Option, Some, None, Ok, refl, sym, ap}
+use Rattle.ion_meter.specs.Sources.{Cursor, cursor, skip}
 use Rattle.ion_text_in.specs.declared.first.First.{First}
+use Rattle.ion_text_in.specs.declared.token.Token.{Token}
 use Rattle.ion_text_in.specs.Firsts.{first_of}
 use Rattle.ion_text_in.specs.Token as tokens
 use Rattle.ion_text_in.specs.Token.{token_of}
-use Rattle.ion_text_in.specs.Tokens.{going}
-use Rattle.ion_text_in.proofs.ReaderTokens.{overrun-going}
+use Rattle.ion_text_in.specs.Tokens.{going, overrun_of, token_view, TokenGives}
+use Rattle.ion_text_in.proofs.ReaderSteps.{overrun-going}
 use Rattle.ion_text_in.proofs.token.next_token.Goals as goal
+
+-- a token behind which nothing was passed over
+alone : (limit : ℕ) (text : List ℕ) (place : ℕ) (first f : First) (from to : Cursor) (token : Token) (x : tokens.Token) → first ≡ f → token_of (Some limit) (first_of f) from ≡ Ok (x, to)
+    → token_view text place token ≡ x → overrun_of token ≡ None → TokenGives text place (Ok token) to (token_of (Some limit) (first_of first) from)
+alone limit text place first f from to token x is gives view none =
+    (to, ap (λ (f : First). token_of (Some limit) (first_of f) from) is ∙ gives ∙ ap (λ (x : tokens.Token). Ok (x, to)) (sym view), ap (λ (o : Option ℕ). going o to) (sym none))
+
+-- a mark of so many bytes
+marked : (limit : ℕ) (text : List ℕ) (place : ℕ) (first f : First) (from to : Cursor) (token mark : Token) (n : ℕ) → first ≡ f → token ≡ mark → to ≡ skip n from
+    → token_of (Some limit) (first_of f) from ≡ Ok (token_view text place mark, skip n from) → overrun_of mark ≡ None → TokenGives text place (Ok token) to (token_of (Some limit) (first_of first) from)
+marked limit text place first f from to token mark n is same behind gives none =
+    alone limit text place first f from to token (token_view text place mark) is (gives ∙ ap (λ (d : Cursor). Ok (token_view text place mark, d)) (sym behind)) (ap (λ (t : Token). token_view text place t) same)
+    (ap overrun_of same ∙ none)
 
 pub returns-in_ok-next_word-in-Word-clause-gives : goal.returns-in_ok-next_word-in-Word-clause-gives
 returns-in_ok-next_word-in-Word-clause-gives g c = λ h.
-    let d = cursor g.I.Input c.next_word.new.source in
-    let t = c.word_token.ensures in (
-      d,
-      ap (λ (f : First). token_of (Some c.args.limits.scalar) (first_of f) (cursor g.I.Input c.args.source.now)) c.in-Word.is
-          ∙ c.in_ok-next_word-in-Word.ensures.gives h
-          ∙ ap (λ (x : tokens.Token). Ok (x, d)) (sym (t.is c.next_word.new.text c.args.source.now.place)),
-      ap (λ (o : Option ℕ). going o d) (sym t.alone),
-    )
+    let t = c.word_token.ensures in
+    alone c.args.limits.scalar c.next_word.new.text c.args.source.now.place c.args.first _ (cursor g.I.Input c.args.source.now) (cursor g.I.Input c.next_word.new.source) c.word_token.result _ c.in-Word.is
+    (c.in_ok-next_word-in-Word.ensures.gives h) (t.is c.next_word.new.text c.args.source.now.place) t.alone
 
 pub returns-in_ok-next_number-in-Number-clause-gives : goal.returns-in_ok-next_number-in-Number-clause-gives
 returns-in_ok-next_number-in-Number-clause-gives g c = λ h.
-    let d = cursor g.I.Input c.next_number.new.source in
-    let t = c.number_token.ensures in (
-      d,
-      ap (λ (f : First). token_of (Some c.args.limits.scalar) (first_of f) (cursor g.I.Input c.args.source.now)) c.in-Number.is
-          ∙ c.in_ok-next_number-in-Number.ensures.gives h
-          ∙ ap (λ (x : tokens.Token). Ok (x, d)) (sym (t.is c.next_number.new.text c.args.source.now.place)),
-      ap (λ (o : Option ℕ). going o d) (sym t.alone),
-    )
+    let t = c.number_token.ensures in
+    alone c.args.limits.scalar c.next_number.new.text c.args.source.now.place c.args.first _ (cursor g.I.Input c.args.source.now) (cursor g.I.Input c.next_number.new.source) c.number_token.result _ c.in-Number.is
+    (c.in_ok-next_number-in-Number.ensures.gives h) (t.is c.next_number.new.text c.args.source.now.place) t.alone
 
 pub returns-in_ok-next_lob-in-Lob-clause-gives : goal.returns-in_ok-next_lob-in-Lob-clause-gives
 returns-in_ok-next_lob-in-Lob-clause-gives g c = λ h.
-    let d = cursor g.I.Input c.next_lob.new.source in
-    let t = c.lob_token.ensures in (
-      d,
-      ap (λ (f : First). token_of (Some c.args.limits.scalar) (first_of f) (cursor g.I.Input c.args.source.now)) c.in-Lob.is
-          ∙ c.in_ok-next_lob-in-Lob.ensures.gives h
-          ∙ ap (λ (x : tokens.Token). Ok (x, d)) (sym (t.is c.next_lob.new.text c.args.source.now.place)),
-      ap (λ (o : Option ℕ). going o d) (sym t.alone),
-    )
+    let t = c.lob_token.ensures in
+    alone c.args.limits.scalar c.next_lob.new.text c.args.source.now.place c.args.first _ (cursor g.I.Input c.args.source.now) (cursor g.I.Input c.next_lob.new.source) c.lob_token.result _ c.in-Lob.is
+    (c.in_ok-next_lob-in-Lob.ensures.gives h) (t.is c.next_lob.new.text c.args.source.now.place) t.alone
 
 pub returns-in_ok-next_long_string-in-LongString-clause-gives : goal.returns-in_ok-next_long_string-in-LongString-clause-gives
 returns-in_ok-next_long_string-in-LongString-clause-gives g c = λ h.
@@ -51,62 +49,31 @@ returns-in_ok-next_long_string-in-LongString-clause-gives g c = λ h.
     )
 
 pub returns-in-Begin-clause-gives : goal.returns-in-Begin-clause-gives
-returns-in-Begin-clause-gives g c = λ h. (
-  cursor g.I.Input c.pass_mark.new.source,
-  ap (λ (f : First). token_of (Some c.args.limits.scalar) (first_of f) (cursor g.I.Input c.args.source.now)) c.in-Begin.is ∙ c.pass_mark.ensures.begin (Some c.args.limits.scalar) c.in-Begin.kind,
-  refl,
-)
+unfolding token_of
+returns-in-Begin-clause-gives g c = λ _.
+    marked c.args.limits.scalar c.args.text.now c.args.source.now.place c.args.first _ _ _ c.pass.result _ _ c.in-Begin.is c.pass.ensures.same c.pass.ensures.cursor refl refl
 
 pub returns-in-End-clause-gives : goal.returns-in-End-clause-gives
-returns-in-End-clause-gives g c = λ h. (
-  cursor g.I.Input c.pass_mark-in-End.new.source,
-  ap (λ (f : First). token_of (Some c.args.limits.scalar) (first_of f) (cursor g.I.Input c.args.source.now)) c.in-End.is ∙ c.pass_mark-in-End.ensures.end (Some c.args.limits.scalar) c.in-End.kind,
-  refl,
-)
+unfolding token_of
+returns-in-End-clause-gives g c = λ _.
+    marked c.args.limits.scalar c.args.text.now c.args.source.now.place c.args.first _ _ _ c.pass-in-End.result _ _ c.in-End.is c.pass-in-End.ensures.same c.pass-in-End.ensures.cursor refl refl
 
 pub returns-in-Comma-clause-gives : goal.returns-in-Comma-clause-gives
-returns-in-Comma-clause-gives g c = λ h. (
-  cursor g.I.Input c.pass_mark-in-Comma.new.source,
-  ap (λ (f : First). token_of (Some c.args.limits.scalar) (first_of f) (cursor g.I.Input c.args.source.now)) c.in-Comma.is ∙ c.pass_mark-in-Comma.ensures.comma (Some c.args.limits.scalar),
-  refl,
-)
+unfolding token_of
+returns-in-Comma-clause-gives g c = λ _.
+    marked c.args.limits.scalar c.args.text.now c.args.source.now.place c.args.first _ _ _ c.pass-in-Comma.result _ _ c.in-Comma.is c.pass-in-Comma.ensures.same c.pass-in-Comma.ensures.cursor refl refl
 
 pub returns-in-Colon-clause-gives : goal.returns-in-Colon-clause-gives
-returns-in-Colon-clause-gives g c = λ h. (
-  cursor g.I.Input c.pass_mark-in-Colon.new.source,
-  ap (λ (f : First). token_of (Some c.args.limits.scalar) (first_of f) (cursor g.I.Input c.args.source.now)) c.in-Colon.is ∙ c.pass_mark-in-Colon.ensures.colon (Some c.args.limits.scalar),
-  refl,
-)
+unfolding token_of
+returns-in-Colon-clause-gives g c = λ _.
+    marked c.args.limits.scalar c.args.text.now c.args.source.now.place c.args.first _ _ _ c.pass-in-Colon.result _ _ c.in-Colon.is c.pass-in-Colon.ensures.same c.pass-in-Colon.ensures.cursor refl refl
 
 pub returns-in-Colons-clause-gives : goal.returns-in-Colons-clause-gives
-returns-in-Colons-clause-gives g c = λ h. (
-  cursor g.I.Input c.pass_colons.new.source,
-  ap (λ (f : First). token_of (Some c.args.limits.scalar) (first_of f) (cursor g.I.Input c.args.source.now)) c.in-Colons.is ∙ c.pass_colons.ensures.colons (Some c.args.limits.scalar),
-  refl,
-)
+unfolding token_of
+returns-in-Colons-clause-gives g c = λ _.
+    marked c.args.limits.scalar c.args.text.now c.args.source.now.place c.args.first _ _ _ c.pass-in-Colons.result _ _ c.in-Colons.is c.pass-in-Colons.ensures.same c.pass-in-Colons.ensures.cursor refl refl
 
 pub returns-in-Nothing-clause-gives : goal.returns-in-Nothing-clause-gives
 unfolding token_of
 returns-in-Nothing-clause-gives g c = λ h.
     (ap (λ (f : First). token_of (Some c.args.limits.scalar) (first_of f) (cursor g.I.Input c.args.source.now)) c.in-Nothing.is, c.place.ensures)
-
-pub returns-in-Colons-clause-reads : goal.returns-in-Colons-clause-reads
-returns-in-Colons-clause-reads g c = grind (arith, common_steps)
-
-pub returns-in-Nothing-clause-reads : goal.returns-in-Nothing-clause-reads
-returns-in-Nothing-clause-reads g c = grind (arith, common_steps) steps 400000
-
-pub returns-in-Colon-clause-reads : goal.returns-in-Colon-clause-reads
-returns-in-Colon-clause-reads g c = grind (arith, common_steps)
-
-pub returns-in-Begin-clause-reads : goal.returns-in-Begin-clause-reads
-returns-in-Begin-clause-reads g c = grind (arith, common_steps)
-
-pub returns-in-End-clause-reads : goal.returns-in-End-clause-reads
-returns-in-End-clause-reads g c = grind (arith, common_steps)
-
-pub returns-in-Comma-clause-reads : goal.returns-in-Comma-clause-reads
-returns-in-Comma-clause-reads g c = grind (arith, common_steps)
-
-pub returns-in-Begin-clause-paid : goal.returns-in-Begin-clause-paid
-returns-in-Begin-clause-paid g c = grind (arith, common_steps)

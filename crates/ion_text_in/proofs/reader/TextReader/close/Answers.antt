@@ -1,33 +1,25 @@
-use Rattle.std.proofs.Common.{◌∙◌, Option, sym, ap, arith}
-use Rattle.std.proofs.lemmas.Grind.{common_steps}
+use Rattle.std.proofs.Common.{◌∙◌, Option, reverse, inl, inr, sym, ap}
 use Rattle.ion_value.specs.declared.ion_type.Kind.{Kind}
 use Rattle.ion_text_in.specs.Reading.{behind_member}
-use Rattle.ion_text_in.proofs.ReaderSteps.{gives-closed, closed-opened}
+use Rattle.ion_text_in.proofs.ReaderSteps.{steps-closed, steps-unclosed}
 use Rattle.ion_text_in.proofs.reader.TextReader.close.Goals as goal
+use Rattle.ion_text_in.proofs.reader.TextReader.close.Goals.{then-is_some-via-then-is_some, then-is_some-via-else-is_some+then-is_annotated, then-is_some-via-else-is_some+else-is_annotated+then-not-is_same}
 
-pub returns-clause-gives : goal.returns-clause-gives
-returns-clause-gives g c = λ h d blank.
-    let r = c.args.self.now in
+pub returns-in_default : goal.returns-in_default
+returns-in_default g c = steps-unclosed g.I.Input c.args.self.now c.args.kind c.args.place c.args.meter.now c.requires (inl (sym c.innermost.ensures ∙ c.in_default.is))
+
+pub returns-then-is_some : goal.returns-then-is_some
+returns-then-is_some g c = steps-unclosed g.I.Input c.args.self.now c.args.kind c.args.place c.args.meter.now c.requires (elim c.then-is_some.branch [
+  | then-is_some-via-then-is_some w ↦ inr (inl (sym c.is_some.ensures ∙ w.if-is_some.true))
+  | then-is_some-via-else-is_some+then-is_annotated w ↦ inr (inr (inl (sym w.is_annotated.ensures ∙ w.if-is_annotated.true)))
+  | then-is_some-via-else-is_some+else-is_annotated+then-not-is_same w ↦ inr (inr (inr (c.in-Some.innermost, (sym c.innermost.ensures ∙ c.in-Some.is, sym w.is_same.ensures ∙ w.if-not-is_same.true))))
+])
+
+pub returns : goal.returns
+returns g c =
+    let e = c.behind_member-self.ensures in
+    let inner = c.innermost-2.ensures in
     let left = c.pop-closed.new.self in
-    let opened = closed-opened r.kinds left c.in-Some.innermost c.pop-closed.result (sym c.innermost.ensures ∙ c.in-Some.is) c.pop-closed.ensures.items in
-    gives-closed g.I.Input r c.in-Some.innermost c.args.kind left c.behind_member-self.result c.args.place d opened
-    (sym c.is_same.ensures ∙ c.if-not-is_same.false) c.requires.bare.0 c.requires.bare.1 c.requires.can_step.inside.finished
-    (c.behind_member-self.ensures.is ∙ ap (λ (k : Option Kind). behind_member k) c.innermost-2.ensures) blank
-
-pub returns-in_default-clause-stepped : goal.returns-in_default-clause-stepped
-returns-in_default-clause-stepped g c = grind (arith, common_steps) steps 400000
-
-pub returns-then-not-is_same-clause-stepped : goal.returns-then-not-is_same-clause-stepped
-returns-then-not-is_same-clause-stepped g c = grind (arith, common_steps) steps 400000
-
-pub returns-clause-goes : goal.returns-clause-goes
-returns-clause-goes g c = grind (arith, common_steps)
-
-pub returns-clause-stepped : goal.returns-clause-stepped
-returns-clause-stepped g c = grind (arith, common_steps)
-
-pub returns-clause-ready : goal.returns-clause-ready
-returns-clause-ready g c = grind (arith, common_steps) steps 400000
-
-pub returns-then-not-is_same-clause-gives : goal.returns-then-not-is_same-clause-gives
-returns-then-not-is_same-clause-gives g c = grind (arith, common_steps)
+    steps-closed g.I.Input c.args.self.now c.in-Some.innermost c.args.kind left c.pop-closed.result c.behind_member-self.result c.args.place c.args.meter.now c.pop-closed.new.meter
+    (sym c.innermost.ensures ∙ c.in-Some.is) c.pop-closed.ensures.items c.pop-closed.ensures.cost (sym c.is_same.ensures ∙ c.if-not-is_same.false) (sym c.is_some.ensures ∙ c.if-is_some.false)
+    (sym c.is_annotated.ensures ∙ c.if-is_annotated.false) (e.is ∙ ap (λ (k : Option Kind). behind_member k) inner) (e.may (reverse left) (sym inner)) c.requires

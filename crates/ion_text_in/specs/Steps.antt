@@ -22,13 +22,12 @@ use Rattle.ion_value.specs.Value.{SymbolAt, Head, PlacedItem}
 use Rattle.ion_text_in.specs.declared.token.Symbol.{Symbol}
 use Rattle.ion_text_in.specs.declared.reader.ItemKind.{ItemKind}
 use Rattle.ion_text_in.specs.declared.reader.ItemKind.TheVariants as kind
-use Rattle.ion_text_in.specs.declared.expected.Expected.{Expected}
 use Rattle.ion_text_in.specs.declared.reader.StepResult.{StepResult}
 use Rattle.ion_text_in.specs.declared.reader.StepResult.TheVariants as step_result
 use Rattle.ion_text_in.specs.declared.reader.TextReader.{TextReader}
 use Rattle.ion_text_in.specs.Blanks.{blanks}
 use Rattle.ion_text_in.specs.Positions.{State, innermost, at}
-use Rattle.ion_text_in.specs.Reading.{step, step_of, size, take, with_annotation, behind_member, final_step, field_step, item_step, part_from, tells_version, top_of, value_or_version}
+use Rattle.ion_text_in.specs.Reading.{step, step_of, size, take, with_annotation, behind_member, final_step, field_step, item_step, part_from, tells_version, value_or_version}
 use Rattle.ion_text_in.specs.Token as tokens
 use Rattle.ion_text_in.specs.Tokens.{as_symbol, as_scalar, going, BodyInRange}
 use Rattle.ion_text_in.specs.Symbols.{as_field, as_annotations, AreKept}
@@ -90,16 +89,6 @@ share_of r = 4096 + 16 * r.limits.depth + 3 * r.limits.scalar
 -- what falls with each token
 abbrev pub left_to : {I A : Type 0} → TextReader I A → ℕ
 left_to r = r.source.limit - r.source.place
-
--- with an item whose head begins at a place, behind what was read of it
-abbrev pub given_by : {I A : Type 0} → TextReader I A → ItemKind → ℕ → Option ℕ → Expected → TextReader I A
-given_by r what place unfinished expected = record r {
-  what = what;
-  place = place;
-  top = top_of (opened_in r) r.top (annotations_in r) place;
-  unfinished = unfinished;
-  expected = expected;
-}
 
 -- ---- what holds of a reader
 

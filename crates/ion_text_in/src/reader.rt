@@ -353,7 +353,8 @@ impl<I: Input, A: Allocator + Copy> TextReader<I, A> {
         ensures ended { (t : StepResult) → result ≡ Ok t → t ≡ StepResult.Ended }
         ensures steps { (m : Counts) → CanStep self.now m
             → (I.observable self.now.source.device → left I.rest self.now.source ≡ [])
-            → StepsTo I.Input None (λ _. ending self.now unfinished) 0 self.now self.now m m result }
+            → StepsTo I.Input None (λ _. ending self.now unfinished) 0
+            self.now self.now m m result }
     {
         match (self.expected, unfinished) {
             (Expected::Value, None) if !self.is_inside() && !self.is_annotated() => {

@@ -1,4 +1,4 @@
--- Calls that read into a text one after the other: what they hold, and the causes of their faults.
+-- Calls one after the other: what they charge, and the causes of their faults.
 use Rattle.std.proofs.Common.{◌≡◌, ℕ, ◌+◌, ◌≤◌, Option, Some, None, Result, Ok, Err, refl, ap, ◌∙◌, arith}
 use Rattle.std.specs.Result.{IsErr, IsErrAnd}
 use Rattle.ion_meter.specs.Counts.{Counts}
@@ -7,17 +7,8 @@ use Rattle.ion_meter.specs.declared.fault.Fault.{Fault}
 use Rattle.ion_meter.specs.declared.fault.Fault.TheVariants.{Refused}
 use Rattle.ion_meter.specs.declared.fault.Reason.{Reason}
 use Rattle.ion_meter.specs.Windows.{Incoming}
-use Rattle.ion_meter.specs.Sources.{Exceeds, Stands, Moves, Causes}
-use Rattle.ion_value.specs.Calls.{Reads, ReadsInto}
-use Rattle.ion_value.specs.Shares.{Charges, ReadCauses, fault_of}
-use Rattle.ion_value.proofs.Cursors.{moves-not, moves-then}
-
--- what calls did so far, or all of them with the last one's fault
-pub record Held {I : Type 0} (device : InputOf I) (old new : Incoming I) (earlier later : Counts) (before after most : ℕ) (fault : Option Fault) : Type 0 where
-  pub stands : fault ≡ None → Stands new
-  pub moves : Moves device old new
-  pub causes : ReadCauses fault earlier later (device.failure_count old.device) (device.failure_count new.device) (Exceeds device old)
-  pub charges : Charges earlier later before after most
+use Rattle.ion_meter.specs.Sources.{Exceeds, Moves, Causes}
+use Rattle.ion_value.specs.Shares.{Charges, ReadCauses}
 
 pub charges-none : (m : Counts) (n most : ℕ) → n ≤ most → n ≤ m.held → Charges m m n n most
 charges-none m n most le there = record { held = refl; share = le; peak = omega (arith, le, there); rises = omega arith }
@@ -63,58 +54,11 @@ causes-then device s t u a b c fault moves x y =
       no_writes = y.no_writes;
     }
 
-pub held-then : {I : Type 0} (device : InputOf I) (s t u : Incoming I) (a b c : Counts) (k l n most : ℕ) (fault : Option Fault) → k ≤ a.held
-    → Held device s t a b k l most None → Held device t u b c l n most fault → Held device s u a c k n most fault
-held-then device s t u a b c k l n most fault there x y = record {
-  stands = y.stands;
-  moves = moves-then device s t u x.moves y.moves;
-  causes = causes-then device s t u a b c fault x.moves x.causes y.causes;
-  charges = charges-then a b c k l n most there x.charges y.charges;
-}
-
--- ---- of one call
-
-pub into-held : {I T : Type 0} (device : InputOf I) (s t : Incoming I) (a b : Counts) (k l most : ℕ) (r : Result T Fault) → ReadsInto device s t a b k l most r → Held device s t a b k l most (fault_of r)
-into-held device s t a b k l most (Ok x) h = record { stands = λ _. h.stands; moves = h.moves; causes = h.causes; charges = h.charges }
-into-held device s t a b k l most (Err f) h = record { stands = λ e. absurd (cc e); moves = h.moves; causes = h.causes; charges = h.charges }
-
-pub held-into : {I T : Type 0} (device : InputOf I) (s t : Incoming I) (a b : Counts) (k l most : ℕ) (r : Result T Fault) → Held device s t a b k l most (fault_of r) → ReadsInto device s t a b k l most r
-held-into device s t a b k l most (Ok x) h = record { stands = h.stands refl; moves = h.moves; causes = h.causes; charges = h.charges }
-held-into device s t a b k l most (Err f) h = record { stands = tt; moves = h.moves; causes = h.causes; charges = h.charges }
-
 -- the fault that `?` hands on
 pub handed-on : {T E : Type 0} (r : Result T E) (e : E) → IsErr r × IsErrAnd r (λ y. y ≡ e) → r ≡ Err e
 handed-on (Ok x) e given = absurd (cc given.0)
 handed-on (Err y) e given = ap Err given.1
 
--- no fault is none that there is
-pub none-some : {Y : Type 0} {y : Y} → None ≡ Some y → ⊥
-none-some e = cc e
-
--- what was held so far, and then a call
-pub reads-then : {I T : Type 0} (device : InputOf I) (s t u : Incoming I) (a b c : Counts) (k l n most : ℕ) (r : Result T Fault) → k ≤ a.held → Held device s t a b k l most None → ReadsInto device t u b c l n most r
-    → ReadsInto device s u a c k n most r
-reads-then device s t u a b c k l n most r there x y = held-into device s u a c k n most r (held-then device s t u a b c k l n most (fault_of r) there x (into-held device t u b c l n most r y))
-
--- or a refusal
-pub reads-refused : {I T : Type 0} (device : InputOf I) (s t : Incoming I) (a b : Counts) (k l most : ℕ) (reason : Reason) (place : ℕ) → Held device s t a b k l most None
-    → ReadsInto {T = T} device s t a b k l most (Err (Refused reason place))
-reads-refused device s t a b k l most reason place x = record { stands = tt; moves = x.moves; causes = causes-refused reason place a b _ _ _ x.causes; charges = x.charges }
-
+-- a call that takes no memory
 pub causes-held : (fault : Option Fault) (m : Counts) (n k : ℕ) (exceeds : Type 0) → Causes fault n k exceeds → ReadCauses fault m m n k exceeds
 causes-held fault m n k exceeds c = record { memory = λ e. absurd (c.no_memory e); counted = λ _. refl; device = c.device; steady = c.steady; limit = c.limit; no_writes = c.no_writes }
-
--- one that takes no memory
-pub reads-held : {I T : Type 0} (device : InputOf I) (s t : Incoming I) (m : Counts) (n most : ℕ) (r : Result T Fault) → n ≤ most → n ≤ m.held → Reads device s t r → Held device s t m m n n most (fault_of r)
-reads-held device s t m n most (Ok x) le there h = record {
-  stands = λ _. h.stands;
-  moves = h.moves;
-  causes = causes-held None m _ _ _ h.causes;
-  charges = charges-none m n most le there;
-}
-reads-held device s t m n most (Err f) le there h = record {
-  stands = λ e. absurd (cc e);
-  moves = h.moves;
-  causes = causes-held (Some f) m _ _ _ h.causes;
-  charges = charges-none m n most le there;
-}

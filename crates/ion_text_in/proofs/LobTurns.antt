@@ -29,7 +29,7 @@ use Rattle.ion_text_in.proofs.Blobs.{Octets, octets-prefix, octets-behind, by_de
 use Rattle.ion_text_in.proofs.BlankTurns.{behind_white, white-first, white-none}
 use Rattle.ion_text_in.proofs.Fuel.{groups-first}
 use Rattle.ion_text_in.proofs.Gathering.{front-front}
-use Rattle.ion_text_in.proofs.Plain.{passes-fewer}
+use Rattle.ion_text_in.proofs.TokenCuts.{passes-fewer}
 
 -- ---- characters one by one
 

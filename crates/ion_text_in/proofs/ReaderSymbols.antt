@@ -1,5 +1,5 @@
 -- Symbols that the reader takes as annotations.
-use Rattle.std.proofs.Common.{◌≡◌, ℕ, ◌+◌, ◌*◌, ◌-◌, ◌≤◌, max, Bool, false, List, [], ◌∷◌, ◌++◌, length, nat_lt, sum_by, Option, None, Ok, refl, sym, ap, subst, ◌∙◌, arith, length-append}
+use Rattle.std.proofs.Common.{◌≡◌, ℕ, ◌+◌, ◌*◌, ◌≤◌, max, Bool, false, List, [], ◌∷◌, ◌++◌, length, nat_lt, sum_by, Option, None, Ok, refl, sym, ap, subst, ◌∙◌, arith, length-append}
 use Rattle.std.proofs.lemmas.Bool.{le-ltb}
 use Rattle.ion_meter.specs.Counts.{Counts, Grows}
 use Rattle.ion_meter.specs.declared.device.Input.{Ghosts as InputOf}

@@ -1,11 +1,8 @@
 -- Bytes that each go on with a token whatever follows them.
-use Rattle.std.proofs.Common.{◌≡◌, ℕ, zero, suc, ◌+◌, ◌<◌, ◌≤◌, Bool, true, false, not, ◌||◌, List, [], ◌∷◌, ◌++◌, get_or, codes, length, take, drop, map, refl, sym, subst, ap, ◌∙◌, arith}
+use Rattle.std.proofs.Common.{◌≡◌, ℕ, zero, suc, ◌+◌, ◌<◌, ◌≤◌, Bool, true, false, not, ◌||◌, List, [], ◌∷◌, ◌++◌, get_or, codes, length, take, drop, refl, sym, subst, ap, ◌∙◌, arith}
 use Rattle.std.proofs.lemmas.Bool.{and_parts}
 use Rattle.std.proofs.lemmas.Bool.Decides.{nat_tests}
 use Rattle.std.proofs.lemmas.List.{drop_more}
-use Rattle.std.specs.List.{prefix_len}
-use lib.Lanes.{chunk, mask_l}
-use lib.Count.{count_trailing_zeros}
 use Rattle.ion_value.specs.Digits.{first_is, all_are}
 use Rattle.ion_value.specs.Name.{is_identifier_byte, is_one_of}
 use Rattle.ion_text_in.specs.Blanks.{is_white, begins_comment}
@@ -14,17 +11,8 @@ use Rattle.ion_text_in.specs.Overrun.{IsRun}
 use Rattle.ion_text_in.specs.Runs.{GoOn, EndBehind, IsExtent, goes_on, stays, is_sure_in_number}
 use Rattle.ion_text_in.specs.declared.run.Run.{Run}
 use Rattle.ion_text_in.specs.declared.run.Run.TheVariants as run
-use Rattle.ion_text_in.proofs.Blocks.{run_at}
 use Rattle.ion_text_in.proofs.Meaning.{run-more}
 use Rattle.ion_text_in.proofs.RunEnds.{go-end, stays-on}
-
--- where the first stands that does not pass a test
-pub fail-at : (p : ℕ → Bool) (bytes : List ℕ) (size bits : ℕ) → size ≤ length bytes → size ≤ 64 → bits ≡ mask_l (map (λ b. not (p b)) (chunk 0 size bytes)) → 0 < bits
-    → (prefix_len p bytes ≡ count_trailing_zeros 64 bits) × (count_trailing_zeros 64 bits < length bytes)
-fail-at p bytes size bits room short e some =
-    let found = run_at p bytes 0 size (omega (arith, room)) short (omega (arith, e, some)) in
-    let same = ap (count_trailing_zeros 64) e in
-    (found.0 ∙ sym same, omega (arith, found.1, same, room))
 
 pub extent-ended : (kind : Run) (bytes : List ℕ) (n : ℕ) → n < length bytes → GoOn (goes_on kind) bytes n → EndBehind (goes_on kind) bytes n → IsExtent kind bytes (record { len = n; ended = true })
 extent-ended kind bytes n less goes ends =

@@ -1,4 +1,4 @@
-use Rattle.std.proofs.Common.{◌∙◌, ap, sym, [], arith}
+use Rattle.std.proofs.Common.{◌∙◌, ap, sym, []}
 use Rattle.std.proofs.lemmas.List.{append-nil}
 use Rattle.ion_text_in.specs.Token.{first_at}
 use Rattle.ion_text_in.proofs.FirstTokens.{ended-first, ended-wide}

@@ -20,7 +20,6 @@ mod run;
 mod scanned;
 mod segment;
 mod slice;
-mod symbol;
 mod text;
 mod token;
 mod waiting;

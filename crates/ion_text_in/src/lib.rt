@@ -20,6 +20,7 @@ mod run;
 mod scanned;
 mod segment;
 mod slice;
+mod symbol;
 mod text;
 mod token;
 mod waiting;

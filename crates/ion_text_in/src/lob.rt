@@ -29,7 +29,9 @@ use std::alloc::Allocator;
 /// A kind of lob.
 #[derive(Clone, Copy)]
 pub(crate) enum Lob {
+    /// A clob.
     Clob,
+    /// A blob.
     Blob,
 }
 

@@ -14,7 +14,9 @@ use crate::quoted::Quote;
 /// What a piece of a text means.
 #[derive(Clone, Copy)]
 pub(crate) enum Meant {
+    /// A character, by its code.
     Char(char),
+    /// A byte.
     Byte(u8),
     /// Nothing, as an end of a line behind a backslash does.
     Nothing,
@@ -23,7 +25,9 @@ pub(crate) enum Meant {
 /// What stands at a place between quotes, with how many bytes it has.
 #[derive(Clone, Copy)]
 pub(crate) enum Piece {
+    /// A piece of the text.
     Text(Meant, usize),
+    /// The closing quotes.
     Close(usize),
     /// Nothing that may stand in a text.
     Illegal,
@@ -199,44 +203,64 @@ fn letter(byte: u8) -> Option<u8>
     Some(meant)
 }
 
-// A character by its code, behind the letter that says how many digits this has: two of a byte in a
-// clob, and else of a character, four of this or of one of a pair of surrogates, or eight.
+// A character by its code, behind the letter that says how many digits this has.
 #[inline]
 fn coded(in_clob: bool, letter: u8, digits: &[u8]) -> Piece
     ensures { piece_of result ≡ quoted.coded in_clob letter digits.now }
 {
     if letter == b'x' {
-        return match hex_digits(2, digits) {
-            HexDigits::Number(number) => {
-                if in_clob {
-                    return Piece::Text(Meant::Byte(number as u8), 4);
-                }
-                by_code(number, 4)
-            }
-            HexDigits::NoDigit => Piece::Illegal,
-            HexDigits::Cut => Piece::Cut,
-        };
+        return byte_code(in_clob, digits);
     }
     if in_clob {
         return Piece::Illegal;
     }
     match letter {
-        b'u' => match hex_digits(4, digits) {
-            HexDigits::Number(number) => {
-                if 0xd800 <= number && number <= 0xdbff {
-                    return low_behind(number, &digits[4..]);
-                }
-                by_code(number, 6)
-            }
-            HexDigits::NoDigit => Piece::Illegal,
-            HexDigits::Cut => Piece::Cut,
-        },
-        b'U' => match hex_digits(8, digits) {
-            HexDigits::Number(number) => by_code(number, 10),
-            HexDigits::NoDigit => Piece::Illegal,
-            HexDigits::Cut => Piece::Cut,
-        },
+        b'u' => short_code(digits),
+        b'U' => long_code(digits),
         _ => Piece::Illegal,
+    }
+}
+
+// A code of two digits: of a byte in a clob, and else of a character.
+fn byte_code(in_clob: bool, digits: &[u8]) -> Piece
+    ensures { piece_of result ≡ quoted.byte_code in_clob (hex_behind 2 0 digits.now) }
+{
+    match hex_digits(2, digits) {
+        HexDigits::Number(number) => {
+            if in_clob {
+                return Piece::Text(Meant::Byte(number as u8), 4);
+            }
+            by_code(number, 4)
+        }
+        HexDigits::NoDigit => Piece::Illegal,
+        HexDigits::Cut => Piece::Cut,
+    }
+}
+
+// A code of four digits, or a pair of surrogates.
+fn short_code(digits: &[u8]) -> Piece
+    ensures { piece_of result ≡ quoted.short_code (hex_behind 4 0 digits.now) }
+{
+    match hex_digits(4, digits) {
+        HexDigits::Number(number) => {
+            if 0xd800 <= number && number <= 0xdbff {
+                return low_behind(number, &digits[4..]);
+            }
+            by_code(number, 6)
+        }
+        HexDigits::NoDigit => Piece::Illegal,
+        HexDigits::Cut => Piece::Cut,
+    }
+}
+
+// A code of eight digits.
+fn long_code(digits: &[u8]) -> Piece
+    ensures { piece_of result ≡ quoted.long_code (hex_behind 8 0 digits.now) }
+{
+    match hex_digits(8, digits) {
+        HexDigits::Number(number) => by_code(number, 10),
+        HexDigits::NoDigit => Piece::Illegal,
+        HexDigits::Cut => Piece::Cut,
     }
 }
 
@@ -248,17 +272,25 @@ fn low_behind(high: u32, bytes: &[u8]) -> Piece
     match bytes {
         [] => Piece::Cut,
         [b'\\'] => Piece::Cut,
-        [b'\\', b'u', digits @ ..] => match hex_digits(4, digits) {
-            HexDigits::Number(low) => {
-                if low < 0xdc00 || 0xdfff < low {
-                    return Piece::Illegal;
-                }
-                by_code(0x10000 + (high - 0xd800) * 1024 + (low - 0xdc00), 12)
-            }
-            HexDigits::NoDigit => Piece::Illegal,
-            HexDigits::Cut => Piece::Cut,
-        },
+        [b'\\', b'u', digits @ ..] => low_half(high, digits),
         _ => Piece::Illegal,
+    }
+}
+
+// The character of two surrogates, of which these are the digits of the second.
+fn low_half(high: u32, digits: &[u8]) -> Piece
+    requires { (0xD800 ≤ high) × (high ≤ 0xDBFF) }
+    ensures { piece_of result ≡ quoted.low_half high (hex_behind 4 0 digits.now) }
+{
+    match hex_digits(4, digits) {
+        HexDigits::Number(low) => {
+            if low < 0xdc00 || 0xdfff < low {
+                return Piece::Illegal;
+            }
+            by_code(0x10000 + (high - 0xd800) * 1024 + (low - 0xdc00), 12)
+        }
+        HexDigits::NoDigit => Piece::Illegal,
+        HexDigits::Cut => Piece::Cut,
     }
 }
 

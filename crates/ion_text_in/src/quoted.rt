@@ -55,6 +55,7 @@ impl Quote {
         matches!(self, Quote::Long | Quote::LongClob)
     }
 
+    /// Whether the text is that of a clob.
     #[inline(always)]
     pub(crate) fn in_clob(self) -> bool
         ensures { result ≡ (quote_of self).in_clob }
@@ -113,6 +114,7 @@ fn ascii_text(quote: Quote, bytes: &[u8]) -> Option<usize>
     Some(plain)
 }
 
+/// Whether bytes are UTF-8.
 #[inline(always)]
 pub(crate) fn is_text(bytes: &[u8]) -> bool
     ensures { IsTrue result ↔ IsUtf8 bytes.now }

@@ -118,6 +118,7 @@ fn take_plain<I: Input, A: Allocator + Copy>(
     Ok(())
 }
 
+/// Puts bytes behind a text.
 #[inline]
 pub(crate) fn put<A: Allocator + Copy>(
     text: &mut Buf<A>,
@@ -226,6 +227,7 @@ fn show_piece<I: Input, A: Allocator + Copy>(
     }
 }
 
+// How many bytes a piece has.
 #[inline]
 fn taken(piece: Piece) -> usize
     ensures { result ≡ taken_of piece }

@@ -1,5 +1,5 @@
 -- Strings, symbols and keywords in a lane.
-use Rattle.std.proofs.Common.{◌≡◌, ℕ, ◌+◌, ◌-◌, ◌<◌, ◌≤◌, Bool, true, false, not, ◌&&◌, ◌==◌, if◌then◌else◌, List, [], ◌∷◌, ◌++◌, length, take, drop, get_or, Option, Some, None, IfSome, Result, Ok, refl, sym, ap, subst, ◌∙◌, arith}
+use Rattle.std.proofs.Common.{◌≡◌, ℕ, ◌+◌, ◌-◌, ◌<◌, ◌≤◌, Bool, true, false, not, ◌&&◌, ◌==◌, if◌then◌else◌, List, [], ◌∷◌, ◌++◌, length, take, drop, get_or, Option, Some, None, Result, Ok, refl, sym, ap, subst, ◌∙◌, arith}
 use Rattle.std.proofs.lemmas.Bool.{and_parts}
 use Rattle.std.proofs.lemmas.List.{length-drop}
 use Rattle.ion_meter.specs.Sources.{Cursor, skip}
@@ -16,14 +16,13 @@ use Rattle.ion_value.specs.Standing.{InRange}
 use Rattle.ion_value.specs.Value as value
 use Rattle.ion_value.specs.Value.{Scalar, Symbol, SymbolAt}
 use Rattle.ion_text_in.specs.Blanks.{blanks}
-use Rattle.ion_text_in.specs.declared.feed.spot.Found.{Found}
 use Rattle.ion_text_in.specs.declared.feed.spot.Next.{Next}
 use Rattle.ion_text_in.specs.declared.feed.texts.Between.{Between}
 use Rattle.ion_text_in.specs.declared.quoted.Quote.{Quote as CodeQuote}
 use Rattle.ion_text_in.specs.declared.quoted.Quote.TheVariants as quotes
 use Rattle.ion_text_in.specs.declared.scanned.Scanned.TheVariants.{Whole}
 use Rattle.ion_text_in.specs.declared.word.Word.{Word}
-use Rattle.ion_text_in.specs.Feeding.{item_in, state, Begins, BeginsAs, BeginsText, IsBehind, IsBetween, IsFound, IsHead, IsHeadAs, IsNext, IsSimpleWord, IsSymbolFound}
+use Rattle.ion_text_in.specs.Feeding.{item_in, state, Begins, BeginsAs, BeginsText, IsBehind, IsBetween, IsHead, IsHeadAs, IsNext, IsSimpleWord}
 use Rattle.ion_text_in.specs.Firsts.{numbered}
 use Rattle.ion_text_in.specs.Meaning.{at}
 use Rattle.ion_text_in.specs.Positions as positions
@@ -179,15 +178,6 @@ token-word behind word begins = token-front behind word.some word.within word.sh
 
 pub word-marker : {limit n : ℕ} {bytes : List ℕ} → IsSimpleWord limit bytes n → (k : Option Kind) (annotations : List SymbolAt) → tells_version k annotations false (value.Text (take n bytes)) ≡ false
 word-marker {limit} {n} {bytes} word k annotations = no-marker k annotations (take n bytes) (no-version (take n bytes) (simple-free (take n bytes) word.simple))
-
--- the code found one
-pub found-symbol : (limits : Limits) {place : ℕ} {first : First} {bytes rest text : List ℕ} (quoted : Bool) (found : Option Found) → IsToken limits.scalar first (tokens.name quoted (value.Text text)) place bytes rest
-    → ((k : Option Kind) (annotations : List SymbolAt) → tells_version k annotations quoted (value.Text text) ≡ false) → IfSome found (IsSymbolFound text place rest) → IfSome found (IsFound limits place bytes)
-found-symbol limits quoted None token version is = tt
-found-symbol limits {text} quoted (Some f) token version is = record {
-  head = rw (is.head, is.same) (head-word quoted (value.Text text) (value.Text text) is.next token tt version is.is is.told);
-  spelled = rw is.head is.spelled;
-}
 
 -- ---- symbols in quotes
 

@@ -23,7 +23,7 @@ use Rattle.ion_text_in.specs.declared.feed.spot.Start.{Start}
 use Rattle.ion_text_in.specs.declared.scanned.Scanned.TheVariants.{Whole}
 use Rattle.ion_text_in.specs.declared.word.Word.{Word}
 use Rattle.ion_text_in.specs.declared.word.Word.TheVariants as word
-use Rattle.ion_text_in.specs.Feeding.{expected_of, place_in, BeginsAs, IsBehindName, IsFound, IsFoundBy, IsFoundRead, IsFurther, IsIdOf, IsNamedBy, IsNext, IsStartBy, IsStartRead, IsSymbolFound, Lane, Turn, TurnBy}
+use Rattle.ion_text_in.specs.Feeding.{expected_of, place_in, BeginsAs, IsBehindName, IsFound, IsFoundBy, IsFoundRead, IsFurther, IsHeadAs, IsIdOf, IsNamedBy, IsNext, IsStartBy, IsStartRead, Lane, Turns, TurnsBy}
 use Rattle.ion_text_in.specs.Meaning.{at}
 use Rattle.ion_text_in.specs.Positions as positions
 use Rattle.ion_text_in.specs.Positions.{a_field}
@@ -124,15 +124,13 @@ id-marker id None (a ∷ annotations) = refl
 id-marker id (Some k) annotations = refl
 
 -- an id behind which a token is told that is no two colons
-pub found-id : (texts : ℕ → Option (List ℕ)) {limits : Limits} {place n : ℕ} {bytes text rest : List ℕ} (found : Option Found) (is : IsIdOf texts limits.scalar bytes text n) → rest ≡ drop n bytes
-    → first_is (λ b. b == 36) bytes ≡ true → IfSome found (IsSymbolFound text place rest) → IfSome found (IsFoundBy texts limits place bytes)
-found-id texts None is behind dollar h = tt
-found-id texts {place} {text} (Some f) is behind dollar h = record {
-  raw = value.whole (value.symbol (positions.at (value.Id is.id) place));
-  seen = rw h.head (ap (λ (a : SymbolAt). value.whole (value.symbol a)) (id-seen texts is.id place text is.has));
-  head = rw (h.head, h.same) (head-word false (value.Id is.id) (value.Text text) h.next (token-id is behind dollar) tt (id-marker is.id) h.is h.told);
-  spelled = rw h.head h.spelled;
-}
+pub head-id : {texts : ℕ → Option (List ℕ)} {limits : Limits} {place n : ℕ} {bytes text rest : List ℕ} (next : Next) (is : IsIdOf texts limits.scalar bytes text n) → rest ≡ drop n bytes → IsNext rest next → (next.told ≡ 0 → ⊥)
+    → first_is (λ b. b == 36) bytes ≡ true → IsHeadAs (value.whole (value.symbol (positions.at (value.Id is.id) place))) limits place bytes (value.whole (value.symbol (positions.at (value.Text text) place))) rest
+head-id {text} next is behind told_next told dollar = head-word false (value.Id is.id) (value.Text text) next (token-id is behind dollar) tt (id-marker is.id) told_next told
+
+pub head-id-seen : (texts : ℕ → Option (List ℕ)) (id place : ℕ) (text : List ℕ) → texts id ≡ Some text
+    → map_head (named_at texts) (value.whole (value.symbol (positions.at (value.Id id) place))) ≡ value.whole (value.symbol (positions.at (value.Text text) place))
+head-id-seen texts id place text has = ap (λ (a : SymbolAt). value.whole (value.symbol a)) (id-seen texts id place text has)
 
 -- a head that is no id
 pub found-text : (texts : ℕ → Option (List ℕ)) {limits : Limits} {place : ℕ} {bytes : List ℕ} {found : Found} → IsFound limits place bytes found → IsFoundBy texts limits place bytes found
@@ -156,15 +154,8 @@ start-read {start} h = record { raw = option_map placed_text start.field; read =
 pub found-read : {limits : Limits} {place : ℕ} {bytes : List ℕ} {found : Found} → IsFound limits place bytes found → IsFoundRead limits place bytes found
 found-read {found} h = record { raw = raw_head found.head; head = h.head; spelled = h.spelled }
 
--- so they are where some texts are those of ids
-pub start-any : {texts : ℕ → Option (List ℕ)} {pair : Option SecondAt} {bounds : Bounds} {spot : Spot} {start : Start} → IsStartBy texts pair bounds spot start → IsStartRead pair bounds spot start
-start-any h = record { raw = h.raw; read = h.read }
-
-pub found-any : {texts : ℕ → Option (List ℕ)} {limits : Limits} {place : ℕ} {bytes : List ℕ} {found : Found} → IsFoundBy texts limits place bytes found → IsFoundRead limits place bytes found
-found-any h = record { raw = h.raw; head = h.head; spelled = h.spelled }
-
 -- what a turn moves by any texts it moves whatever they are
-turns-any : {W O A : Type 0} {w : WriterOf W O A} {bounds : Bounds} {more : Bool} {l n : Lane W O} → ((texts : ℕ → Option (List ℕ)) → TurnBy w bounds texts more l n) → Turn w bounds more l n
+turns-any : {W O A : Type 0} {w : WriterOf W O A} {bounds : Bounds} {more : Bool} {l n : Lane W O} → ((texts : ℕ → Option (List ℕ)) → TurnsBy w bounds texts more l n) → Turns w bounds more l n
 turns-any by =
     let turned = by (λ id. None) in
     let one = turned.moved in
@@ -189,5 +180,5 @@ turns-any by =
 -- so is what name and head are read of, where both are texts
 pub turns-text : {W O A : Type 0} {w : WriterOf W O A} {bounds : Bounds} {more : Bool} {l n : Lane W O} {pair : Option SecondAt} {spot : Spot} {start : Start} {place : ℕ} {bytes : List ℕ} {found : Found}
     → IsFurther pair bounds spot start → IsFound bounds.limits place bytes found
-    → ((texts : ℕ → Option (List ℕ)) → IsStartBy texts pair bounds spot start → IsFoundBy texts bounds.limits place bytes found → TurnBy w bounds texts more l n) → Turn w bounds more l n
+    → ((texts : ℕ → Option (List ℕ)) → IsStartBy texts pair bounds spot start → IsFoundBy texts bounds.limits place bytes found → TurnsBy w bounds texts more l n) → Turns w bounds more l n
 turns-text s f turns = turns-any (λ texts. turns texts (text-start texts s) (found-text texts f))

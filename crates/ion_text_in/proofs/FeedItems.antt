@@ -25,7 +25,7 @@ use Rattle.ion_text_in.specs.declared.feed.spot.Next.{Next}
 use Rattle.ion_text_in.specs.declared.feed.spot.Spot.{Spot}
 use Rattle.ion_text_in.specs.declared.feed.spot.Start.{Start}
 use Rattle.ion_text_in.specs.Expecting.{expected_in, is_separated, kind_in, wanted, MayExpect}
-use Rattle.ion_text_in.specs.Feeding.{begun, begun_cost, behind_head, expected_of, lane, notes, passed, place_in, state, with_begun, CanFeed, IsBehind, IsHeadAs, IsNext, IsStartAs, Lane, MovedFor, Onward, Opens, PassesComma, Turn, TurnFor}
+use Rattle.ion_text_in.specs.Feeding.{begun, begun_cost, behind_head, expected_of, lane, notes, passed, place_in, state, with_begun, CanFeed, IsBehind, IsHeadAs, IsNext, IsStartAs, Lane, MovedFor, Onward, Opens, PassesComma, Turns, TurnsFor}
 use Rattle.ion_text_in.specs.Firsts.{numbered}
 use Rattle.ion_text_in.specs.Positions.{innermost}
 use Rattle.ion_text_in.specs.Reading.{at_member, behind_member, is_same, item_of, top_of}
@@ -216,7 +216,7 @@ module _ {W O A : Type 0} {w : WriterOf W O A} {bounds : Bounds} where
 
   -- a turn there
   pub turns-member : {sees : (ℕ → Option (List ℕ)) → Type 0} {more : Bool} {kinds : List Kind} {spot now : Spot} {writer : W} {sink : Outgoing O} {m : Counts} {n : Lane W O} → PassesComma spot now
-      → CanFeed w bounds (lane kinds spot writer sink m) → TurnFor w bounds sees more (lane kinds now writer sink m) n → TurnFor w bounds sees more (lane kinds spot writer sink m) n
+      → CanFeed w bounds (lane kinds spot writer sink m) → TurnsFor w bounds sees more (lane kinds now writer sink m) n → TurnsFor w bounds sees more (lane kinds spot writer sink m) n
   turns-member passes can turns = turns-then can (moved-member passes can) turns
 
   pub turns-closed : (kinds left : List Kind) (j k : Kind) (spot new : Spot) (next : Next) (place : ℕ) (writer after : W) (sink behind : Outgoing O) (m x y : Counts)
@@ -225,7 +225,7 @@ module _ {W O A : Type 0} {w : WriterOf W O A} {bounds : Bounds} where
       → new.rest.now ≡ drop 1 next.rest.now → new.top ≡ spot.top → kind_in (reverse left) ≡ new.kind → new.separator ≡ is_separated new.kind
       → new.values ≡ spot.values + one_if_closed (reverse left)
       → Took w (end_item spot.top place) writer after sink behind m x → Charges m x (w.own writer) (w.own after) (w.most writer) → Shrinks x y 16
-      → Turn w bounds true (lane kinds spot writer sink m) (lane left new after behind y)
+      → Turns w bounds true (lane kinds spot writer sink m) (lane left new after behind y)
   turns-closed kinds left j k spot new next place writer after sink behind m x y can is told ends opened same here rest top inner separator counts took charges shrinks =
       let some = is.some told in
       let passes = is.passes some in
@@ -268,7 +268,7 @@ module _ {W O A : Type 0} {w : WriterOf W O A} {bounds : Bounds} where
       → top ≡ top_of (reverse kinds) spot.top (notes start.note) (place_in bounds start.next.rest.now) → Opens bounds.limits.depth (begun (raw_head found.head)) kinds left m x
       → Took w (item_of top (option_map placed_text start.field) (with_second (notes start.note) pair) (place_in bounds start.next.rest.now) (raw_head found.head)) writer after sink behind x y
       → Charges x y (w.own writer) (w.own after) (w.most writer)
-      → TurnFor w bounds sees true (lane kinds spot writer sink m) (lane left (passed (begun (raw_head found.head)) (reverse kinds) spot found top) after behind y)
+      → TurnsFor w bounds sees true (lane kinds spot writer sink m) (lane left (passed (begun (raw_head found.head)) (reverse kinds) spot found top) after behind y)
   turns-forward {raw_name} {raw_value} {pair} kinds left spot start found top writer after sink behind m x y name_is value_is can start_is head_is at_top opens took charges =
       let head = raw_head found.head in
       let new : Spot = passed (begun head) (reverse kinds) spot found top in
@@ -310,7 +310,7 @@ module _ {W O A : Type 0} {w : WriterOf W O A} {bounds : Bounds} where
   -- a container was opened, if one begins, and taken off again
   pub turns-undone : {sees : (ℕ → Option (List ℕ)) → Type 0} {begins : Option Kind} (kinds there left : List Kind) (spot : Spot) (writer after : W) (sink behind : Outgoing O) (m x y z : Counts)
       → after ≡ writer → behind ≡ sink → left ≡ kinds → Opens bounds.limits.depth begins kinds there m x → y ≡ x → Shrinks y z (begun_cost begins)
-      → CanFeed w bounds (lane kinds spot writer sink m) → TurnFor w bounds sees false (lane kinds spot writer sink m) (lane left spot after behind z)
+      → CanFeed w bounds (lane kinds spot writer sink m) → TurnsFor w bounds sees false (lane kinds spot writer sink m) (lane left spot after behind z)
   turns-undone {sees} {begins} kinds there left spot writer after sink behind m x y z writes sinks back opens stays shrinks can =
       let l = lane kinds spot writer sink m in
       let none : MovedFor w bounds sees l l = moved-none can in

@@ -15,7 +15,7 @@ use Rattle.ion_value.proofs.Handing.{Stands, Took, can-took, feeds-then, hands-s
 use Rattle.ion_text_in.specs.declared.expected.Expected.{Expected}
 use Rattle.ion_text_in.specs.declared.feed.spot.Bounds.{Bounds}
 use Rattle.ion_text_in.specs.Expecting.{kind_in, wanted, MayExpect}
-use Rattle.ion_text_in.specs.Feeding.{joint, lane_held, lane_share, place_in, CanFeed, IsBehind, Lane, Moved, MovedBy, MovedFor, Onward, Turn, TurnBy, TurnFor}
+use Rattle.ion_text_in.specs.Feeding.{joint, lane_held, lane_share, place_in, CanFeed, IsBehind, Lane, Moved, MovedBy, MovedFor, Onward, Turns, TurnsBy, TurnsFor}
 use Rattle.ion_text_in.proofs.FeedReading.{behind-then, none-behind}
 use Rattle.ion_text_in.proofs.Holding.{charges-then}
 
@@ -128,14 +128,14 @@ module _ {W O A : Type 0} {w : WriterOf W O A} {bounds : Bounds} where
       }
 
   -- a turn that does not go on
-  pub turns-none : {sees : (ℕ → Option (List ℕ)) → Type 0} {l : Lane W O} → CanFeed w bounds l → TurnFor w bounds sees false l l
+  pub turns-none : {sees : (ℕ → Option (List ℕ)) → Type 0} {l : Lane W O} → CanFeed w bounds l → TurnsFor w bounds sees false l l
   turns-none can = record { moved = moved-none can; less = λ goes_on. absurd (cc goes_on) }
 
-  pub turns-by : (texts : ℕ → Option (List ℕ)) {more goes_on : Bool} {l n : Lane W O} → more ≡ goes_on → Turn w bounds more l n → TurnBy w bounds texts goes_on l n
+  pub turns-by : (texts : ℕ → Option (List ℕ)) {more goes_on : Bool} {l n : Lane W O} → more ≡ goes_on → Turns w bounds more l n → TurnsBy w bounds texts goes_on l n
   turns-by texts is turns = record { moved = moved-by texts turns.moved; less = λ goes_on. turns.less (is ∙ goes_on) }
 
   -- a turn behind a move
-  pub turns-then : {sees : (ℕ → Option (List ℕ)) → Type 0} {more : Bool} {l n r : Lane W O} → CanFeed w bounds l → MovedFor w bounds sees l n → TurnFor w bounds sees more n r → TurnFor w bounds sees more l r
+  pub turns-then : {sees : (ℕ → Option (List ℕ)) → Type 0} {more : Bool} {l n r : Lane W O} → CanFeed w bounds l → MovedFor w bounds sees l n → TurnsFor w bounds sees more n r → TurnsFor w bounds sees more l r
   turns-then can moved turns = record {
     moved = moved-then can moved turns.moved;
     less = λ goes_on. let fewer = moved.fewer in let less = turns.less goes_on in omega (arith, fewer, less);
@@ -172,7 +172,7 @@ module _ {W O A : Type 0} {w : WriterOf W O A} {bounds : Bounds} where
       → length n.kinds ≤ bounds.limits.depth → kind_in (reverse n.kinds) ≡ n.kind → MayExpect n.expected (reverse n.kinds) None []
       → w.own n.writer ≤ w.most l.writer → Charges l.meter n.meter (lane_held w l) (lane_held w n) (lane_share w bounds.limits l)
       → ((more : List ℕ) → (joint bounds more l).coming ≡ More item (joint bounds more n).coming)
-      → TurnFor w bounds sees true l n
+      → TurnsFor w bounds sees true l n
   turns-item l n item seen is can stands took opens counts part less few inner may own charges gives =
       let one = one-most (reverse n.kinds) in
       let longer : length n.kinds ≡ length (open_after (reverse l.kinds) seen.head) = sym (length-reverse n.kinds) ∙ ap (λ (k : List Kind). length k) opens in

@@ -13,7 +13,7 @@ use Rattle.ion_value.specs.Feeding.{CanTake, Feeds, Joint, StaysWell}
 use Rattle.ion_value.specs.Items.{named_at, named_item, raw_head}
 use Rattle.ion_value.specs.Outcome.{one_if_closed}
 use Rattle.ion_value.specs.Parts.{Placed}
-use Rattle.ion_value.specs.PlainItems.{listed, placed_text, with_second, StandsBehind, HasKnownName, HasNoDollar, HaveNoDollar, IsKnownHead, IsOwnText, IsRightlySimple, IsTextOf}
+use Rattle.ion_value.specs.PlainItems.{listed, placed_text, with_second, StandsBehind, HasKnownName, HasNoDollar, HaveNoDollar, IsKnownHead, IsRightlySimple, IsTextOf}
 use Rattle.ion_value.specs.Reading.{More}
 use Rattle.ion_value.specs.Shares.{Charges}
 use Rattle.ion_value.specs.Standing.{open_after, in_struct, has_field, is_marker, HasPlace, HeadInRange, WritesWithin}
@@ -38,7 +38,6 @@ use Rattle.ion_text_in.specs.Blanks.{blanks}
 use Rattle.ion_text_in.specs.Expecting.{expected_in, is_separated, kind_in, wanted, MayExpect}
 use Rattle.ion_text_in.specs.Firsts.{numbered}
 use Rattle.ion_text_in.specs.Meaning.{at}
-use Rattle.ion_text_in.specs.Positions as positions
 use Rattle.ion_text_in.specs.Positions.{State, Wants, a_field, a_value, innermost}
 use Rattle.ion_text_in.specs.Quoted.{Quote, text_at}
 use Rattle.ion_text_in.specs.Reading.{behind_member, item_of, member_of, top_of}
@@ -225,6 +224,14 @@ pub record IsBehindNote (limits : Limits) (start : Start) (note : TextAt) (colon
   pub costs : 16 + length note.text.now ≤ limits.scalar
   pub behind : IsBehindColons colons noted.next
 
+-- the same behind a second annotation, where the bytes of both are counted
+pub record IsBehindSecond (limits : Limits) (start : Start) (note : TextAt) (second : SecondAt) (colons : List ℕ) (further : Further) : Type 0 where
+  pub is : further.second ≡ Some second
+  pub kept : further.start.note ≡ start.note
+  pub same : further.start.field ≡ start.field
+  pub costs : 32 + (length note.text.now + length second.text.now) ≤ limits.scalar
+  pub behind : IsBehindColons colons further.start.next
+
 -- a text and two colons right behind it stand in some bytes that begin at a place
 pub record StandsNoted (place : ℕ) (bytes : List ℕ) (note : TextAt) : Type 0 where
   pub before : List ℕ
@@ -326,15 +333,6 @@ pub record IsFoundBy (texts : ℕ → Option (List ℕ)) (limits : Limits) (plac
   pub head : IsHeadAs raw limits place bytes (raw_head found.head) found.rest.now
   pub spelled : IfSome found.spelled (λ text. IsTextOf text.now (raw_head found.head))
 
--- a symbol of a text, behind which a token is told
-pub record IsSymbolFound (text : List ℕ) (place : ℕ) (rest : List ℕ) (found : Found) : Type 0 where
-  pub next : Next
-  pub is : IsNext rest next
-  pub told : next.told ≡ 0 → ⊥
-  pub head : raw_head found.head ≡ value.whole (value.symbol (positions.at (value.Text text) place))
-  pub same : found.rest.now ≡ rest
-  pub spelled : IfSome found.spelled (λ t. IsOwnText t.now (value.Text text))
-
 -- ---- a lane
 
 -- what it moves: the reader's part of it, and what items are handed to
@@ -421,33 +419,15 @@ abbrev pub MovedBy : {W O A : Type 0} → WriterOf W O A → Bounds → (ℕ →
 MovedBy w bounds texts old new = MovedFor w bounds (λ t. t ≡ texts) old new
 
 -- one turn of it: some bytes are passed over where it goes on
-pub record TurnFor {W O A : Type 0} (w : WriterOf W O A) (bounds : Bounds) (sees : (ℕ → Option (List ℕ)) → Type 0) (goes_on : Bool) (old new : Lane W O) : Type 0 where
+pub record TurnsFor {W O A : Type 0} (w : WriterOf W O A) (bounds : Bounds) (sees : (ℕ → Option (List ℕ)) → Type 0) (goes_on : Bool) (old new : Lane W O) : Type 0 where
   pub moved : MovedFor w bounds sees old new
   pub less : goes_on ≡ true → length new.rest < length old.rest
 
-abbrev pub Turn : {W O A : Type 0} → WriterOf W O A → Bounds → Bool → Lane W O → Lane W O → Type 0
-Turn w bounds goes_on old new = TurnFor w bounds (λ _. Unit {0}) goes_on old new
+abbrev pub Turns : {W O A : Type 0} → WriterOf W O A → Bounds → Bool → Lane W O → Lane W O → Type 0
+Turns w bounds goes_on old new = TurnsFor w bounds (λ _. Unit {0}) goes_on old new
 
-abbrev pub TurnBy : {W O A : Type 0} → WriterOf W O A → Bounds → (ℕ → Option (List ℕ)) → Bool → Lane W O → Lane W O → Type 0
-TurnBy w bounds texts goes_on old new = TurnFor w bounds (λ t. t ≡ texts) goes_on old new
-
--- it may go on, and a value begins there with a token of this kind, behind its field's name and with no annotation
-pub record CanStart {W O A : Type 0} (w : WriterOf W O A) (bounds : Bounds) (kind : First) (beginning : Start) (spot : Spot) (l : Lane W O) : Type 0 where
-  pub can : CanFeed w bounds l
-  pub start : IsStart bounds spot beginning
-  pub bare : beginning.note ≡ None
-  pub begins : BeginsAs kind beginning.next.rest.now
-
--- it may go on, and an item stands there, however its name and its head are read
-pub record CanForward {W O A : Type 0} (w : WriterOf W O A) (bounds : Bounds) (spot : Spot) (further : Further) (head : Found) (l : Lane W O) : Type 0 where
-  pub can : CanFeed w bounds l
-  pub start : IsStartRead further.second bounds spot further.start
-  pub found : IsFoundRead bounds.limits (place_in bounds further.start.next.rest.now) further.start.next.rest.now head
-
--- one turn over such an item, by any texts by which both are read
-abbrev pub TurnRead : {W O A : Type 0} → WriterOf W O A → Bounds → Spot → Further → Found → Bool → Lane W O → Lane W O → Type 0
-TurnRead w bounds spot further found goes_on old new = (texts : ℕ → Option (List ℕ)) → IsStartBy texts further.second bounds spot further.start
-    → IsFoundBy texts bounds.limits (place_in bounds further.start.next.rest.now) further.start.next.rest.now found → TurnBy w bounds texts goes_on old new
+abbrev pub TurnsBy : {W O A : Type 0} → WriterOf W O A → Bounds → (ℕ → Option (List ℕ)) → Bool → Lane W O → Lane W O → Type 0
+TurnsBy w bounds texts goes_on old new = TurnsFor w bounds (λ t. t ≡ texts) goes_on old new
 
 -- ---- one item
 

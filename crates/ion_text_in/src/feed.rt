@@ -1,41 +1,46 @@
 //! A lane for items that lie whole in the window: they go to the writer as they are read.
-ghost use Rattle.std.specs.Prelude.{◌≡◌};
-ghost use Rattle.ion_text_in.specs.Feeding.{lane, CanFeed, CanStart, IsNext, IsSimpleWord, Moved, MovedBy, Turn};
+ghost use Rattle.std.specs.Prelude.{◌≡◌, None};
+ghost use Rattle.ion_text_in.specs.Feeding.{lane, BeginsAs, CanFeed, IsNext, IsSimpleWord, IsStart, Moved, MovedBy, Turns, TurnsBy};
 ghost use Rattle.ion_text_in.specs.Token.{a_begin, a_run, a_short, a_word};
 
+mod any;
+mod close;
+mod copies;
 mod forward;
 mod heads;
 mod ids;
+mod names;
+mod noted;
+mod quotes;
 pub(crate) mod spot;
 mod texts;
 
-use crate::expected::{is_same, member_kind};
 use crate::first::First;
 use crate::quick::scan_quick;
 use crate::scanned::Scanned;
 use crate::slice::{behind, front};
 use crate::word::{Word, scan_simple};
-use forward::{any_quoted, forward, forward_any, rare};
+use any::rare;
+use close::close;
+use forward::forward;
 use heads::{
-    decimal_head, found_as, int_head, keyword_head, spelled_quick, string_head, symbol_head,
+    begin_head, decimal_head, int_head, keyword_head, spelled_quick, string_head, symbol_head,
+    token,
 };
-use ids::{id_found, id_start, is_dollar_near};
+use ids::{id_turns, is_dollar_near};
 use ion_meter::device::Output;
 use ion_meter::limits::Limits;
 use ion_meter::meter::Meter;
 use ion_meter::sink::Sink;
 use ion_meter::stack::Stack;
 use ion_value::ion_type::Kind;
-use ion_value::item::Head;
 use ion_value::names::Names;
-use ion_value::plain_item::{PlainItem, TextAt};
 use ion_value::writer::ValueWriter;
-use spot::{
-    Bounds, Found, Further, Next, Spot, Start, bounds_for_call, ended_kind, innermost, pass_value,
-    place_behind, spot_for_call, start_for_call, to_member, token,
-};
+use names::to_start;
+use noted::noted;
+use quotes::{quoted_turn, quoted_value};
+use spot::{Bounds, Found, Next, Spot, Start, ended_kind, to_member};
 use std::alloc::Allocator;
-use texts::{behind_note, quoted_start, to_start};
 
 // Hands on a number: an int or a decimal is mostly read in one pass.
 #[inline(always)]
@@ -48,9 +53,12 @@ fn number<'a, W: ValueWriter<O, A>, O: Output, A: Allocator + Copy>(
     writer: &mut W,
     sink: &mut Sink<O, A>,
 ) -> bool
-    requires { CanStart W.ValueWriter bounds a_run start at.old
+    requires can { CanFeed W.ValueWriter bounds
         (lane kinds.old at.old writer.old sink.old meter.old) }
-    ensures { Turn W.ValueWriter bounds result (lane kinds.old at.old writer.old sink.old meter.old)
+    requires start { IsStart bounds at.old start }
+    requires begins { BeginsAs a_run start.next.rest.now }
+    ensures { Turns W.ValueWriter bounds result
+        (lane kinds.old at.old writer.old sink.old meter.old)
         (lane kinds.new at.new writer.new sink.new meter.new) }
 {
     let Some(quick) = scan_quick(bounds.limits.scalar, start.next.rest) else {
@@ -89,9 +97,13 @@ fn word<'a, W: ValueWriter<O, A>, O: Output, A: Allocator + Copy>(
     writer: &mut W,
     sink: &mut Sink<O, A>,
 ) -> bool
-    requires { CanStart W.ValueWriter bounds a_word start at.old
+    requires can { CanFeed W.ValueWriter bounds
         (lane kinds.old at.old writer.old sink.old meter.old) }
-    ensures { Turn W.ValueWriter bounds result (lane kinds.old at.old writer.old sink.old meter.old)
+    requires start { IsStart bounds at.old start }
+    requires bare { start.note ≡ None }
+    requires begins { BeginsAs a_word start.next.rest.now }
+    ensures { Turns W.ValueWriter bounds result
+        (lane kinds.old at.old writer.old sink.old meter.old)
         (lane kinds.new at.new writer.new sink.new meter.new) }
 {
     let bytes = start.next.rest;
@@ -125,18 +137,18 @@ fn note<'a, W: ValueWriter<O, A>, O: Output, A: Allocator + Copy>(
     writer: &mut W,
     sink: &mut Sink<O, A>,
 ) -> bool
-    requires can { CanStart W.ValueWriter bounds a_word start at.old
+    requires can { CanFeed W.ValueWriter bounds
         (lane kinds.old at.old writer.old sink.old meter.old) }
+    requires start { IsStart bounds at.old start }
+    requires bare { start.note ≡ None }
+    requires begins { BeginsAs a_word start.next.rest.now }
     requires word { IsSimpleWord bounds.limits.scalar start.next.rest.now count }
-    ensures { Turn W.ValueWriter bounds result (lane kinds.old at.old writer.old sink.old meter.old)
+    ensures { Turns W.ValueWriter bounds result
+        (lane kinds.old at.old writer.old sink.old meter.old)
         (lane kinds.new at.new writer.new sink.new meter.new) }
 {
-    let note = TextAt {
-        text: front(count, start.next.rest),
-        simple: true,
-        place: bounds.end - start.next.rest.len() as u64,
-    };
-    match behind_note(start, note, behind(count, start.next.rest), bounds.limits) {
+    let place = bounds.end - start.next.rest.len() as u64;
+    match noted(start, bounds.limits, place, count) {
         Some(start) => rare(at, start, bounds, kinds, meter, writer, sink),
         None => false,
     }
@@ -153,9 +165,12 @@ fn string<'a, W: ValueWriter<O, A>, O: Output, A: Allocator + Copy>(
     writer: &mut W,
     sink: &mut Sink<O, A>,
 ) -> bool
-    requires { CanStart W.ValueWriter bounds a_short start at.old
+    requires can { CanFeed W.ValueWriter bounds
         (lane kinds.old at.old writer.old sink.old meter.old) }
-    ensures { Turn W.ValueWriter bounds result (lane kinds.old at.old writer.old sink.old meter.old)
+    requires start { IsStart bounds at.old start }
+    requires begins { BeginsAs a_short start.next.rest.now }
+    ensures { Turns W.ValueWriter bounds result
+        (lane kinds.old at.old writer.old sink.old meter.old)
         (lane kinds.new at.new writer.new sink.new meter.new) }
 {
     let place = bounds.end - start.next.rest.len() as u64;
@@ -177,12 +192,16 @@ fn begin<'a, W: ValueWriter<O, A>, O: Output, A: Allocator + Copy>(
     writer: &mut W,
     sink: &mut Sink<O, A>,
 ) -> bool
-    requires { CanStart W.ValueWriter bounds (a_begin kind) start at.old
+    requires can { CanFeed W.ValueWriter bounds
         (lane kinds.old at.old writer.old sink.old meter.old) }
-    ensures { Turn W.ValueWriter bounds result (lane kinds.old at.old writer.old sink.old meter.old)
+    requires start { IsStart bounds at.old start }
+    requires begins { BeginsAs (a_begin kind) start.next.rest.now }
+    ensures { Turns W.ValueWriter bounds result
+        (lane kinds.old at.old writer.old sink.old meter.old)
         (lane kinds.new at.new writer.new sink.new meter.new) }
 {
-    let found = found_as(Head::Begin(kind), behind(1, start.next.rest));
+    let place = bounds.end - start.next.rest.len() as u64;
+    let found = begin_head(bounds.limits, place, kind, start.next.rest);
     forward(at, start, found, bounds, kinds, meter, writer, sink)
 }
 
@@ -203,7 +222,8 @@ fn value<'a, W: ValueWriter<O, A>, O: Output, A: Allocator + Copy>(
     requires can { CanFeed W.ValueWriter bounds
         (lane kinds.old at.old writer.old sink.old meter.old) }
     requires next { IsNext at.old.rest.now next }
-    ensures { Turn W.ValueWriter bounds result (lane kinds.old at.old writer.old sink.old meter.old)
+    ensures { Turns W.ValueWriter bounds result
+        (lane kinds.old at.old writer.old sink.old meter.old)
         (lane kinds.new at.new writer.new sink.new meter.new) }
 {
     let Some(start) = to_start(*at, next, bounds) else {
@@ -214,25 +234,12 @@ fn value<'a, W: ValueWriter<O, A>, O: Output, A: Allocator + Copy>(
         Some(First::Word) => word(at, start, bounds, kinds, meter, writer, sink),
         Some(First::String) => string(at, start, bounds, kinds, meter, writer, sink),
         Some(First::Begin(kind)) => begin(at, start, kind, bounds, kinds, meter, writer, sink),
-        Some(First::QuotedSymbol) => {
-            let turned = any_quoted(
-                spot_for_call(*at),
-                start_for_call(start),
-                bounds_for_call(bounds),
-                kinds,
-                meter,
-                writer,
-                sink,
-            );
-            *at = spot_for_call(turned.spot);
-            turned.more
-        }
+        Some(First::QuotedSymbol) => quoted_value(at, start, bounds, kinds, meter, writer, sink),
         _ => false,
     }
 }
 
-// Hands on one item, or the end of the innermost container, behind the comma that must come before it, and says
-// whether it did.
+// Hands on one item, behind the comma that must come before it, and says whether it did.
 #[inline(always)]
 fn turn<'a, W: ValueWriter<O, A>, O: Output, A: Allocator + Copy>(
     at: &mut Spot<'a>,
@@ -242,37 +249,17 @@ fn turn<'a, W: ValueWriter<O, A>, O: Output, A: Allocator + Copy>(
     writer: &mut W,
     sink: &mut Sink<O, A>,
 ) -> bool
-    requires { CanFeed W.ValueWriter bounds (lane kinds.old at.old writer.old sink.old meter.old) }
-    ensures { Turn W.ValueWriter bounds result (lane kinds.old at.old writer.old sink.old meter.old)
+    requires { CanFeed W.ValueWriter bounds
+        (lane kinds.old at.old writer.old sink.old meter.old) }
+    ensures { Turns W.ValueWriter bounds result
+        (lane kinds.old at.old writer.old sink.old meter.old)
         (lane kinds.new at.new writer.new sink.new meter.new) }
 {
     let next = to_member(at);
-    let Some(kind) = ended_kind(next.told) else {
-        return value(at, next, bounds, kinds, meter, writer, sink);
-    };
-    let Some(inner) = innermost(kinds) else {
-        return false;
-    };
-    if !is_same(inner, kind) {
-        return false;
+    match ended_kind(next.told) {
+        Some(kind) => close(at, next, kind, bounds, kinds, meter, writer, sink),
+        None => value(at, next, bounds, kinds, meter, writer, sink),
     }
-    let item = PlainItem {
-        field: None,
-        annotation: None,
-        second: None,
-        head: Head::End,
-        spelled: None,
-        place: bounds.end - next.rest.len() as u64,
-        top: at.top,
-    };
-    if !writer.take_plain(meter, sink, item) {
-        return false;
-    }
-    let _closed = kinds.pop(meter);
-    let outer = innermost(kinds);
-    at.kind = member_kind(outer);
-    pass_value(at, behind(1, next.rest), at.top, outer);
-    true
 }
 
 // Hands on the items at the front, as many as are frequent ones. The limits and the end come apart: so the end
@@ -302,67 +289,33 @@ fn feed_frequent<'a, W: ValueWriter<O, A>, O: Output, A: Allocator + Copy>(
     }
 }
 
-// Hands on one member whose name stands between quotes, behind the comma that must come before it, and says
-// whether it did.
-#[inline(never)]
-fn quoted_turn<'a, W: ValueWriter<O, A>, O: Output, A: Allocator + Copy>(
+// Hands on a member whose name stands between quotes, or else members that have ids, and says whether it
+// did.
+#[inline(always)]
+fn other_turns<'a, N: Names, W: ValueWriter<O, A>, O: Output, A: Allocator + Copy>(
     at: &mut Spot<'a>,
-    bounds: Bounds,
-    kinds: &mut Stack<Kind, A>,
-    meter: &mut Meter<A>,
-    writer: &mut W,
-    sink: &mut Sink<O, A>,
-) -> bool
-    requires { CanFeed W.ValueWriter bounds (lane kinds.old at.old writer.old sink.old meter.old) }
-    ensures { Turn W.ValueWriter bounds result (lane kinds.old at.old writer.old sink.old meter.old)
-        (lane kinds.new at.new writer.new sink.new meter.new) }
-{
-    let next = to_member(at);
-    if at.separator || next.rest.is_empty() {
-        return false;
-    }
-    let Kind::Struct = at.kind else {
-        return false;
-    };
-    match quoted_start(next, bounds.limits, place_behind(bounds, *at, next)) {
-        Some(start) => rare(at, start, bounds, kinds, meter, writer, sink),
-        None => false,
-    }
-}
-
-// Hands on members that have an id each, as many as come one after the other.
-#[inline(never)]
-fn id_turns<'a, N: Names, W: ValueWriter<O, A>, O: Output, A: Allocator + Copy>(
-    spot: Spot<'a>,
     names: &'a N,
     bounds: Bounds,
     kinds: &mut Stack<Kind, A>,
     meter: &mut Meter<A>,
     writer: &mut W,
     sink: &mut Sink<O, A>,
-) -> Spot<'a>
-    requires { CanFeed W.ValueWriter bounds (lane kinds.old spot writer.old sink.old meter.old) }
-    ensures { MovedBy W.ValueWriter bounds (N.text names.now)
-        (lane kinds.old spot.entry writer.old sink.old meter.old)
-        (lane kinds.new result writer.new sink.new meter.new) }
+) -> bool
+    requires { CanFeed W.ValueWriter bounds
+        (lane kinds.old at.old writer.old sink.old meter.old) }
+    ensures { TurnsBy W.ValueWriter bounds (N.text names.now) result
+        (lane kinds.old at.old writer.old sink.old meter.old)
+        (lane kinds.new at.new writer.new sink.new meter.new) }
 {
-    let mut at = spot;
-    'items: loop {
-        let next = to_member(&mut at);
-        let Some(start) = id_start(at, next, names, bounds) else {
-            return at;
-        };
-        let Some(found) = id_found(next.rest, start.next, names, bounds) else {
-            return at;
-        };
-        let further = Further {
-            start,
-            second: None,
-        };
-        if !forward_any(&mut at, further, found, bounds, kinds, meter, writer, sink) {
-            return at;
-        }
+    if quoted_turn(at, bounds, kinds, meter, writer, sink) {
+        return true;
     }
+    if !is_dollar_near(at.rest) {
+        return false;
+    }
+    let left = at.rest.len();
+    *at = id_turns(*at, names, bounds, kinds, meter, writer, sink);
+    at.rest.len() < left
 }
 
 /// Hands on the items at the front of the bytes of a window that ends at a place, as many as lie whole
@@ -378,7 +331,8 @@ pub(crate) fn feed_items<'a, N: Names, W: ValueWriter<O, A>, O: Output, A: Alloc
     writer: &mut W,
     sink: &mut Sink<O, A>,
 ) -> Spot<'a>
-    requires { CanFeed W.ValueWriter bounds (lane kinds.old spot writer.old sink.old meter.old) }
+    requires { CanFeed W.ValueWriter bounds
+        (lane kinds.old spot writer.old sink.old meter.old) }
     ensures { MovedBy W.ValueWriter bounds (N.text names.now)
         (lane kinds.old spot.entry writer.old sink.old meter.old)
         (lane kinds.new result writer.new sink.new meter.new) }
@@ -386,15 +340,7 @@ pub(crate) fn feed_items<'a, N: Names, W: ValueWriter<O, A>, O: Output, A: Alloc
     let mut at = spot;
     'runs: loop {
         at = feed_frequent(at, bounds.limits, bounds.end, kinds, meter, writer, sink);
-        if quoted_turn(&mut at, bounds, kinds, meter, writer, sink) {
-            continue 'runs;
-        }
-        if !is_dollar_near(at.rest) {
-            return at;
-        }
-        let left = at.rest.len();
-        at = id_turns(at, names, bounds, kinds, meter, writer, sink);
-        if at.rest.len() >= left {
+        if !other_turns(&mut at, names, bounds, kinds, meter, writer, sink) {
             return at;
         }
     }

@@ -1,18 +1,12 @@
 //! Items that go from a lane to the writer.
-ghost use Rattle.std.specs.Prelude.{◌≡◌, ◌+◌, ◌*◌, ◌^◌, ◌<◌, ◌≤◌, List, Some, true, false, length};
+ghost use Rattle.std.specs.Prelude.{◌≡◌, ◌+◌, ◌*◌, ◌-◌, ◌^◌, ◌<◌, ◌≤◌, ℕ, List, Option, None, Some, true, false, length};
 ghost use Rattle.ion_meter.specs.Counts.{Shrinks};
 ghost use Rattle.ion_value.specs.declared.ion_type.Kind as kind_of;
 ghost use Rattle.ion_value.specs.Items.{raw_head};
-ghost use Rattle.ion_text_in.specs.Feeding.{begun, begun_cost, lane, passed, place_in, with_begun, CanFeed, CanForward, CanStart, IsFound, IsStart, Opens, Turn, TurnRead};
+ghost use Rattle.ion_text_in.specs.Feeding.{begun, begun_cost, lane, passed, place_in, with_begun, CanFeed, IsFound, IsFoundBy, IsFoundRead, IsStart, IsStartBy, IsStartRead, Opens, Turns, TurnsBy};
 ghost use Rattle.ion_text_in.specs.Positions.{innermost};
-ghost use Rattle.ion_text_in.specs.Token.{a_quoted};
 
-use super::heads::{quoted_head, scan_head};
-use super::spot::{
-    Bounds, Found, Further, Spot, Start, bounds_for_call, innermost, pass_value, spot_for_call,
-    start_for_call, top_at,
-};
-use super::texts::{quoted_noted, second_start};
+use super::spot::{Bounds, Found, Further, Spot, Start, innermost, pass_value, top_at};
 use ion_meter::device::Output;
 use ion_meter::meter::Meter;
 use ion_meter::sink::Sink;
@@ -22,13 +16,6 @@ use ion_value::item::Head;
 use ion_value::plain_item::PlainItem;
 use ion_value::writer::ValueWriter;
 use std::alloc::Allocator;
-
-/// Where the lane stands behind a turn, and whether it goes on.
-#[derive(Clone, Copy)]
-pub(super) struct Turned<'a> {
-    pub(super) spot: Spot<'a>,
-    pub(super) more: bool,
-}
 
 // The kind of container that a head begins, if it does.
 #[inline(always)]
@@ -119,9 +106,16 @@ pub(super) fn forward_any<'a, W: ValueWriter<O, A>, O: Output, A: Allocator + Co
     writer: &mut W,
     sink: &mut Sink<O, A>,
 ) -> bool
-    requires { CanForward W.ValueWriter bounds at.old further found
+    requires can { CanFeed W.ValueWriter bounds
         (lane kinds.old at.old writer.old sink.old meter.old) }
-    ensures { TurnRead W.ValueWriter bounds at.old further.entry found.entry result
+    requires start { IsStartRead further.second bounds at.old further.start }
+    requires found { IsFoundRead bounds.limits (place_in bounds further.start.next.rest.now)
+        further.start.next.rest.now found }
+    ensures { (texts : ℕ → Option (List ℕ))
+        → IsStartBy texts further.entry.second bounds at.old further.entry.start
+        → IsFoundBy texts bounds.limits (place_in bounds further.entry.start.next.rest.now)
+        further.entry.start.next.rest.now found.entry
+        → TurnsBy W.ValueWriter bounds texts result
         (lane kinds.old at.old writer.old sink.old meter.old)
         (lane kinds.new at.new writer.new sink.new meter.new) }
 {
@@ -168,7 +162,8 @@ pub(super) fn forward<'a, W: ValueWriter<O, A>, O: Output, A: Allocator + Copy>(
     requires start { IsStart bounds at.old start }
     requires found { IsFound bounds.limits (place_in bounds start.next.rest.now)
         start.next.rest.now found }
-    ensures { Turn W.ValueWriter bounds result (lane kinds.old at.old writer.old sink.old meter.old)
+    ensures { Turns W.ValueWriter bounds result
+        (lane kinds.old at.old writer.old sink.old meter.old)
         (lane kinds.new at.new writer.new sink.new meter.new) }
 {
     let further = Further {
@@ -176,97 +171,4 @@ pub(super) fn forward<'a, W: ValueWriter<O, A>, O: Output, A: Allocator + Copy>(
         second: None,
     };
     forward_any(at, further, found, bounds, kinds, meter, writer, sink)
-}
-
-// Hands on the value that begins here, whatever it is, behind its field's name and its annotation.
-// A second annotation may stand here first.
-#[inline(never)]
-fn any_value<'a, W: ValueWriter<O, A>, O: Output, A: Allocator + Copy>(
-    spot: Spot<'a>,
-    start: Start<'a>,
-    bounds: Bounds,
-    kinds: &mut Stack<Kind, A>,
-    meter: &mut Meter<A>,
-    writer: &mut W,
-    sink: &mut Sink<O, A>,
-) -> Turned<'a>
-    requires can { CanFeed W.ValueWriter bounds
-        (lane kinds.old spot writer.old sink.old meter.old) }
-    requires start { IsStart bounds spot start }
-    ensures { Turn W.ValueWriter bounds result.more
-        (lane kinds.old spot.entry writer.old sink.old meter.old)
-        (lane kinds.new result.spot writer.new sink.new meter.new) }
-{
-    let single = Further {
-        start,
-        second: None,
-    };
-    let further = second_start(spot, start, bounds).unwrap_or(single);
-    let next = further.start.next;
-    let Some(found) = scan_head(bounds.limits, bounds.end - next.rest.len() as u64, next) else {
-        return Turned { spot, more: false };
-    };
-    let mut at = spot;
-    let more = forward_any(&mut at, further, found, bounds, kinds, meter, writer, sink);
-    Turned { spot: at, more }
-}
-
-/// Hands on a value of a rare kind: it is a call, over a copy of where the lane stands.
-#[inline(always)]
-pub(super) fn rare<'a, W: ValueWriter<O, A>, O: Output, A: Allocator + Copy>(
-    at: &mut Spot<'a>,
-    start: Start<'a>,
-    bounds: Bounds,
-    kinds: &mut Stack<Kind, A>,
-    meter: &mut Meter<A>,
-    writer: &mut W,
-    sink: &mut Sink<O, A>,
-) -> bool
-    requires can { CanFeed W.ValueWriter bounds
-        (lane kinds.old at.old writer.old sink.old meter.old) }
-    requires start { IsStart bounds at.old start }
-    ensures { Turn W.ValueWriter bounds result (lane kinds.old at.old writer.old sink.old meter.old)
-        (lane kinds.new at.new writer.new sink.new meter.new) }
-{
-    let turned = any_value(
-        spot_for_call(*at),
-        start_for_call(start),
-        bounds_for_call(bounds),
-        kinds,
-        meter,
-        writer,
-        sink,
-    );
-    *at = spot_for_call(turned.spot);
-    turned.more
-}
-
-/// Hands on a symbol in quotes, or the value after it where it is an annotation, from a copy of the
-/// spot.
-#[inline(never)]
-pub(super) fn any_quoted<'a, W: ValueWriter<O, A>, O: Output, A: Allocator + Copy>(
-    spot: Spot<'a>,
-    start: Start<'a>,
-    bounds: Bounds,
-    kinds: &mut Stack<Kind, A>,
-    meter: &mut Meter<A>,
-    writer: &mut W,
-    sink: &mut Sink<O, A>,
-) -> Turned<'a>
-    requires { CanStart W.ValueWriter bounds a_quoted start spot
-        (lane kinds.old spot writer.old sink.old meter.old) }
-    ensures { Turn W.ValueWriter bounds result.more
-        (lane kinds.old spot.entry writer.old sink.old meter.old)
-        (lane kinds.new result.spot writer.new sink.new meter.new) }
-{
-    let place = bounds.end - start.next.rest.len() as u64;
-    if let Some(found) = quoted_head(bounds.limits, place, start.next.rest) {
-        let mut at = spot;
-        let more = forward(&mut at, start, found, bounds, kinds, meter, writer, sink);
-        return Turned { spot: at, more };
-    }
-    match quoted_noted(start, bounds.limits, place) {
-        Some(start) => any_value(spot, start, bounds, kinds, meter, writer, sink),
-        None => Turned { spot, more: false },
-    }
 }

@@ -1,17 +1,17 @@
 //! The heads of items in a lane.
-ghost use Rattle.std.specs.Prelude.{◌≡◌, take, None, Some, IfSome};
-ghost use Rattle.ion_text_in.specs.Feeding.{Begins, BeginsAs, IsFound, IsSimpleWord, IsSymbolFound};
+ghost use Rattle.std.specs.Prelude.{◌≡◌, take, true, None, Some, IfSome};
+ghost use Rattle.ion_text_in.specs.Feeding.{Begins, BeginsAs, IsFound, IsSimpleWord};
+ghost use Rattle.ion_text_in.specs.Firsts.{first_of};
 ghost use Rattle.ion_text_in.specs.declared.scanned.Scanned.TheVariants as Scanned;
 ghost use Rattle.ion_text_in.specs.Quick.{as_quick, AreSpelled};
 ghost use Rattle.ion_text_in.specs.Scanners.{Shows};
-ghost use Rattle.ion_text_in.specs.Token.{a_quoted, a_run, a_short, a_word, token_of};
+ghost use Rattle.ion_text_in.specs.Token.{a_begin, a_quoted, a_run, a_short, a_word, token_of};
 ghost use Rattle.ion_text_in.specs.Views.{as_number, word_token_of};
 ghost use Rattle.ion_value.specs.Items.{raw_head};
-ghost use Rattle.ion_value.specs.PlainItems.{IsOwnText, IsTextOf};
-ghost use Rattle.ion_value.specs.Value as value;
+ghost use Rattle.ion_value.specs.PlainItems.{IsTextOf};
 ghost use Rattle.ion_value.specs.Value.{whole};
 
-use super::spot::{Found, Next, next_told, token};
+use super::spot::{Found, Next, next_told};
 use super::texts::text_between;
 use crate::first::First;
 use crate::number::{Number, scan_number};
@@ -35,14 +35,14 @@ pub(super) fn scan_head<'a>(limits: Limits, place: u64, next: Next<'a>) -> Optio
         Some(First::Number) => number_head(limits, place, next.rest),
         Some(First::String) => string_head(limits, place, next.rest),
         Some(First::QuotedSymbol) => quoted_head(limits, place, next.rest),
-        Some(First::Begin(kind)) => Some(found_as(Head::Begin(kind), behind(1, next.rest))),
+        Some(First::Begin(kind)) => Some(begin_head(limits, place, kind, next.rest)),
         _ => None,
     }
 }
 
-/// A head whose canonical text is not known.
+// A head whose canonical text is not known.
 #[inline(always)]
-pub(super) fn found_as<'a>(head: Head<'a>, rest: &'a [u8]) -> Found<'a>
+fn found_as<'a>(head: Head<'a>, rest: &'a [u8]) -> Found<'a>
     ensures { result ≡ record { head = head.entry; spelled = None; rest = rest.entry } }
 {
     Found {
@@ -50,6 +50,15 @@ pub(super) fn found_as<'a>(head: Head<'a>, rest: &'a [u8]) -> Found<'a>
         spelled: None,
         rest,
     }
+}
+
+/// A container's beginning.
+#[inline(always)]
+pub(super) fn begin_head<'a>(limits: Limits, place: u64, kind: Kind, bytes: &'a [u8]) -> Found<'a>
+    requires { BeginsAs (a_begin kind) bytes.now }
+    ensures { IsFound limits place bytes.now result }
+{
+    found_as(Head::Begin(kind), behind(1, bytes))
 }
 
 /// An int that was read in one pass, as a head.
@@ -136,7 +145,9 @@ pub(super) fn string_head<'a>(limits: Limits, place: u64, bytes: &'a [u8]) -> Op
     requires { BeginsAs a_short bytes.now }
     ensures { IfSome result (IsFound limits place bytes.now) }
 {
-    let string = text_between(Quote::Short, limits.scalar, bytes)?;
+    let Some(string) = text_between(Quote::Short, limits.scalar, bytes) else {
+        return None;
+    };
     Some(found_as(Head::String(string.text), string.rest))
 }
 
@@ -175,31 +186,6 @@ pub(super) fn keyword_head<'a>(
     }
 }
 
-/// A symbol of this text, where a token is told behind it that is no two colons.
-#[inline(always)]
-pub(super) fn symbol<'a>(
-    text: &'a [u8],
-    spelled: Option<&'a [u8]>,
-    place: u64,
-    rest: &'a [u8],
-) -> Option<Found<'a>>
-    requires { IfSome spelled (λ t. IsOwnText t.now (value.Text text.now)) }
-    ensures { IfSome result (IsSymbolFound text.now place rest.now) }
-{
-    if next_told(rest).told == 0 {
-        return None;
-    }
-    let name = SymAt {
-        sym: Sym::Text(text),
-        place,
-    };
-    Some(Found {
-        head: Head::Symbol(name),
-        spelled,
-        rest,
-    })
-}
-
 /// A symbol that has so many bytes, where a token is told behind it that is no two colons.
 #[inline(always)]
 pub(super) fn symbol_head<'a>(
@@ -212,8 +198,20 @@ pub(super) fn symbol_head<'a>(
     requires word { IsSimpleWord limits.scalar bytes.now count }
     ensures { IfSome result (IsFound limits place bytes.now) }
 {
+    let rest = behind(count, bytes);
+    if next_told(rest).told == 0 {
+        return None;
+    }
     let text = front(count, bytes);
-    symbol(text, Some(text), place, behind(count, bytes))
+    let name = SymAt {
+        sym: Sym::Text(text),
+        place,
+    };
+    Some(Found {
+        head: Head::Symbol(name),
+        spelled: Some(text),
+        rest,
+    })
 }
 
 /// A symbol in quotes of plain bytes alone, where a token is told behind it that is no two colons.
@@ -222,6 +220,45 @@ pub(super) fn quoted_head<'a>(limits: Limits, place: u64, bytes: &'a [u8]) -> Op
     requires { BeginsAs a_quoted bytes.now }
     ensures { IfSome result (IsFound limits place bytes.now) }
 {
-    let quoted = text_between(Quote::Symbol, limits.scalar, bytes)?;
-    symbol(quoted.text, None, place, quoted.rest)
+    let Some(symbol) = text_between(Quote::Symbol, limits.scalar, bytes) else {
+        return None;
+    };
+    if next_told(symbol.rest).told == 0 {
+        return None;
+    }
+    let name = SymAt {
+        sym: Sym::Text(symbol.text),
+        place,
+    };
+    Some(found_as(Head::Symbol(name), symbol.rest))
+}
+
+/// The kind of token that begins so, where it begins an item that may be handed on.
+#[inline(always)]
+pub(super) fn token(next: Next<'_>) -> Option<First>
+    requires { Begins next }
+    ensures { IfSome result (λ f. BeginsAs (first_of f) next.entry.rest.now) }
+{
+    match next.told {
+        1 => Some(First::Word),
+        2 => Some(First::Number),
+        3 => Some(First::String),
+        5 => Some(First::Begin(Kind::List)),
+        6 => Some(First::Begin(Kind::Sexp)),
+        10 => Some(First::Begin(Kind::Struct)),
+        _ if begins_quoted(next.rest) => Some(First::QuotedSymbol),
+        _ => None,
+    }
+}
+
+// Whether a symbol in quotes that has a byte begins at the front of these bytes.
+#[tactic(auto, unfolding(crate::specs::Token::first_at, crate::specs::Blanks::blanks_at))]
+#[inline(always)]
+fn begins_quoted(bytes: &[u8]) -> bool
+    ensures { result ≡ true → BeginsAs a_quoted bytes.now }
+{
+    match bytes {
+        [b'\'', next, ..] => *next != b'\'',
+        _ => false,
+    }
 }

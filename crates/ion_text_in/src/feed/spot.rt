@@ -1,17 +1,17 @@
 //! Where a lane stands, and what it finds there.
-ghost use Rattle.std.specs.Prelude.{◌≡◌, ◌+◌, ◌^◌, ◌<◌, ◌≤◌, List, length, reverse, Some, IfSome};
+ghost use Rattle.std.specs.Prelude.{◌≡◌, ◌+◌, ◌^◌, ◌<◌, ◌≤◌, ℕ, Bool, List, ◌++◌, length, reverse, true, None, Some, IfSome};
 ghost use Rattle.ion_value.specs.declared.ion_type.Kind as kind_of;
-ghost use Rattle.ion_value.specs.Outcome.{one_if_closed};
 ghost use Rattle.ion_text_in.specs.Expecting.{is_separated};
-ghost use Rattle.ion_text_in.specs.Feeding.{notes, place_in, Begins, BeginsAs, IsNext, PassesComma};
-ghost use Rattle.ion_text_in.specs.Firsts.{first_of, numbered};
+ghost use Rattle.ion_text_in.specs.Feeding.{notes, place_in, IsNext, PassesBlanks, PassesComma};
+ghost use Rattle.ion_text_in.specs.Firsts.{numbered};
 ghost use Rattle.ion_text_in.specs.Positions.{innermost};
+ghost use Rattle.ion_value.specs.Outcome.{one_if_closed};
 ghost use Rattle.ion_text_in.specs.Reading.{top_of};
-ghost use Rattle.ion_text_in.specs.Token.{an_end};
+ghost use Rattle.ion_text_in.specs.Token.{a_comma, an_end, first_at};
 
 use crate::comments::behind_blanks;
 use crate::expected::is_separated;
-use crate::first::{First, told_first};
+use crate::first::told_first;
 use crate::slice::behind;
 use ion_meter::limits::Limits;
 use ion_meter::stack::Stack;
@@ -119,7 +119,21 @@ pub(super) fn to_member<'a>(at: &mut Spot<'a>) -> Next<'a>
     if !at.separator {
         return Next { told: 0, rest: &[] };
     }
-    at.rest = behind(1, next.rest);
+    behind_separator(at, next.rest)
+}
+
+// Passes over the comma that stands here, and looks behind it.
+#[inline(always)]
+fn behind_separator<'a>(at: &mut Spot<'a>, rest: &'a [u8]) -> Next<'a>
+    requires separator { at.old.separator ≡ true }
+    requires passes { PassesBlanks at.old.rest.now rest.now }
+    requires some { 0 < length rest.now }
+    requires comma { (in_sexp : Bool) (more : List ℕ)
+        → first_at in_sexp (rest.now ++ more) ≡ a_comma }
+    ensures comma { PassesComma at.old at.new }
+    ensures next { IsNext at.new.rest.now result }
+{
+    at.rest = behind(1, rest);
     at.separator = false;
     next_told(at.rest)
 }
@@ -135,25 +149,22 @@ pub(super) fn place_behind(bounds: Bounds, spot: Spot<'_>, next: Next<'_>) -> u6
     place + spot.rest.len().saturating_sub(next.rest.len()) as u64
 }
 
-/// The kind of token that begins so, where it begins an item that may be handed on.
-#[tactic(auto, unfolding(crate::specs::Token::first_at, crate::specs::Blanks::blanks_at))]
+/// What a value begins with where no name must come before it.
 #[inline(always)]
-pub(super) fn token(next: Next<'_>) -> Option<First>
-    requires { Begins next }
-    ensures { IfSome result (λ f. BeginsAs (first_of f) next.entry.rest.now) }
+pub(super) fn value_start<'a>(next: Next<'a>) -> Option<Start<'a>>
+    ensures field { IfSome result (λ s. s.field ≡ None) }
+    ensures note { IfSome result (λ s. s.note ≡ None) }
+    ensures next { IfSome result (λ s. s.next ≡ next.entry) }
+    ensures some { IfSome result (λ s. 0 < length next.entry.rest.now) }
 {
-    match next.told {
-        1 => Some(First::Word),
-        2 => Some(First::Number),
-        3 => Some(First::String),
-        5 => Some(First::Begin(Kind::List)),
-        6 => Some(First::Begin(Kind::Sexp)),
-        10 => Some(First::Begin(Kind::Struct)),
-        _ => match next.rest {
-            [b'\'', other, ..] if *other != b'\'' => Some(First::QuotedSymbol),
-            _ => None,
-        },
+    if next.rest.is_empty() {
+        return None;
     }
+    Some(Start {
+        field: None,
+        note: None,
+        next,
+    })
 }
 
 /// The kind of container that a token ends, by its number.
@@ -213,66 +224,5 @@ pub(super) fn pass_value<'a>(at: &mut Spot<'a>, rest: &'a [u8], top: u64, inner:
             at.top = top;
             at.values += 1;
         }
-    }
-}
-
-/// A copy of bounds for a call, part by part: so that only these are in memory, and the rest stays in registers.
-#[inline(always)]
-pub(super) fn bounds_for_call(bounds: Bounds) -> Bounds
-    ensures { result ≡ bounds }
-{
-    Bounds {
-        limits: Limits {
-            depth: bounds.limits.depth,
-            scalar: bounds.limits.scalar,
-            symbols: bounds.limits.symbols,
-            value: bounds.limits.value,
-            input: bounds.limits.input,
-        },
-        end: bounds.end,
-    }
-}
-
-/// A copy of a place in a lane.
-#[inline(always)]
-pub(super) fn spot_for_call<'a>(spot: Spot<'a>) -> Spot<'a>
-    ensures { result ≡ spot.entry }
-{
-    Spot {
-        rest: spot.rest,
-        top: spot.top,
-        values: spot.values,
-        separator: spot.separator,
-        kind: spot.kind,
-    }
-}
-
-/// A copy of what a value begins with.
-#[inline(always)]
-pub(super) fn start_for_call<'a>(start: Start<'a>) -> Start<'a>
-    ensures { result ≡ start.entry }
-{
-    Start {
-        field: text_for_call(start.field),
-        note: text_for_call(start.note),
-        next: Next {
-            told: start.next.told,
-            rest: start.next.rest,
-        },
-    }
-}
-
-// A copy of a text, if there is one.
-#[inline(always)]
-fn text_for_call<'a>(text: Option<TextAt<'a>>) -> Option<TextAt<'a>>
-    ensures { result ≡ text.entry }
-{
-    match text {
-        Some(text) => Some(TextAt {
-            text: text.text,
-            simple: text.simple,
-            place: text.place,
-        }),
-        None => None,
     }
 }

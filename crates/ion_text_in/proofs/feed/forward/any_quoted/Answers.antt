@@ -1,9 +1,0 @@
-use Rattle.ion_text_in.proofs.FeedLanes.{turns-none}
-use Rattle.ion_text_in.proofs.FeedNoted.{start-noted}
-use Rattle.ion_text_in.proofs.feed.forward.any_quoted.Goals as goal
-
-pub any_value-requires-clause-start : goal.any_value-requires-clause-start
-any_value-requires-clause-start g c = start-noted c.requires.can.within c.requires.start c.requires.bare c.in-Some-quoted_noted.ensures
-
-pub returns-in-None : goal.returns-in-None
-returns-in-None g c = turns-none c.requires.can

@@ -12,10 +12,6 @@ use Rattle.ion_value.specs.Calls.{AnswersBy}
 use Rattle.ion_value.specs.Parts.{◌>>=◌}
 use Rattle.ion_value.specs.Value as value
 use Rattle.ion_value.proofs.Passing.{IsPassed-cursor}
-use Rattle.ion_text_in.specs.declared.quoted.Quote.{Quote as CodeQuote}
-use Rattle.ion_text_in.specs.declared.quoted.Quote.TheVariants as code
-use Rattle.ion_text_in.specs.Quotes.{quote_of}
-use Rattle.ion_text_in.specs.Tokens.{told_first, told_token, IsTold}
 use Rattle.ion_text_in.specs.Quoted.{Quote, symbol_quote, short_quote, long_quote, text_at}
 use Rattle.ion_text_in.specs.Scanning.{Spelled}
 use Rattle.ion_text_in.specs.Token as tokens
@@ -33,13 +29,6 @@ quoted-token limit c = refl
 pub short-token : (limit : Option ℕ) (c : Cursor) → made (λ l. tokens.text l) (text_at (short_quote false) limit (skip 1 c)) ≡ token_of limit tokens.a_short c
 unfolding token_of
 short-token limit c = refl
-
-pub told-token : (q : CodeQuote) (limit : Option ℕ) (c : Cursor) → IsTold q → made (told_token q) (text_at (quote_of q) limit (skip 1 c)) ≡ token_of limit (told_first q) c
-told-token code.Symbol limit c told = quoted-token limit c
-told-token code.Short limit c told = short-token limit c
-told-token code.ShortClob limit c told = absurd told
-told-token code.Long limit c told = absurd told
-told-token code.LongClob limit c told = absurd told
 
 pub long-token : (limit : Option ℕ) (c : Cursor) → made (λ l. tokens.text l) (text_at (long_quote false) limit (skip 3 c)) ≡ token_of limit tokens.a_long c
 unfolding token_of

@@ -1,13 +1,7 @@
 -- What the calls that read a lob ask for and answer.
-use Rattle.std.specs.Prelude.{◌≡◌, ◌≢◌, ℕ, ◌%◌, Bool, true, false, not, ◌==◌, nat_lt, List, length, Option, Some, None, Result, Ok, Err, IfOk, IfSome}
-use Rattle.ion_meter.specs.Counts.{Counts}
-use Rattle.ion_meter.specs.declared.device.Input.{Ghosts as InputOf}
-use Rattle.ion_meter.specs.declared.fault.Fault.{Fault}
-use Rattle.ion_meter.specs.declared.fault.Fault.TheVariants.{Refused}
+use Rattle.std.specs.Prelude.{ℕ, ◌%◌, Bool, true, false, not, ◌==◌, nat_lt, List, length, Option, Some, None, Result, Ok}
 use Rattle.ion_meter.specs.declared.fault.Reason.{Reason}
-use Rattle.ion_meter.specs.declared.limits.Limits.{Limits}
-use Rattle.ion_meter.specs.Sources.{Cursor, cursor}
-use Rattle.ion_meter.specs.Windows.{Incoming}
+use Rattle.ion_meter.specs.Sources.{Cursor}
 use Rattle.ion_meter.specs.declared.fault.Reason.TheVariants.{BadLob}
 use Rattle.ion_value.specs.Parts.{refuse, ◌>>=◌, ◌>>◌}
 use Rattle.ion_value.specs.Value.{SymbolAt, Scalar, clob, blob}
@@ -15,7 +9,6 @@ use Rattle.ion_text_in.specs.declared.lob.Lob.{Lob}
 use Rattle.ion_text_in.specs.declared.lob.Lob.TheVariants as code
 use Rattle.ion_text_in.specs.declared.lob.Opening.{Opening}
 use Rattle.ion_text_in.specs.declared.lob.Opening.TheVariants as opening
-use Rattle.ion_text_in.specs.Gathered.{Gathers}
 use Rattle.ion_text_in.specs.Lob.{closed_at, clob_at, blob_at}
 use Rattle.ion_text_in.specs.Scanning.{Spelled, groups, with_front}
 
@@ -38,14 +31,6 @@ closed_behind count c = do
   d ← closed_at c
   refuse (nat_lt 0 count) BadLob
   Ok d
-
--- what a call does that takes whole groups of the window, and answers whether the last of them was padded, or takes none
-pub record TakesGroups {I : Type 0} (device : InputOf I) (limits : Limits) (old new : Incoming I) (earlier later : Counts) (before after : List ℕ) (result : Result (Option Bool) Fault) : Type 0 where
-  pub gives : device.observable old.device
-      → IfOk result (λ found. IfSome found (λ padded. with_groups_behind limits.scalar before false (cursor device old) ≡ with_groups_behind limits.scalar after padded (cursor device new)))
-  pub none : result ≡ Ok None → (new ≡ old) × (after ≡ before) × (later ≡ earlier)
-  pub plain : (r : Reason) (p : ℕ) → result ≢ Err (Refused r p)
-  pub gathers : Gathers device limits old new earlier later before after result
 
 -- ---- lobs
 

@@ -1,5 +1,5 @@
 -- What is seen of the tokens of the code, and what the calls that read them answer and keep.
-use Rattle.std.specs.Prelude.{◌≡◌, ℕ, ◌<◌, List, length, true, Option, Some, None, Result, Ok, Err, OnOk, IfOk, ⊤}
+use Rattle.std.specs.Prelude.{◌≡◌, ℕ, ◌<◌, List, length, Option, Some, None, Result, Ok, Err, OnOk, IfOk, ⊤}
 use Rattle.ion_meter.specs.Counts.{Counts}
 use Rattle.ion_meter.specs.declared.device.Input.{Ghosts as InputOf}
 use Rattle.ion_meter.specs.declared.fault.Fault.{Fault}
@@ -14,8 +14,6 @@ use Rattle.ion_value.specs.Parts.{Placed}
 use Rattle.ion_value.specs.Standing.{InRange}
 use Rattle.ion_value.specs.Value as value
 use Rattle.ion_value.specs.Value.{Scalar, SymbolAt}
-use Rattle.ion_text_in.specs.declared.quoted.Quote.{Quote}
-use Rattle.ion_text_in.specs.declared.quoted.Quote.TheVariants as quotes
 use Rattle.ion_text_in.specs.declared.token.Symbol.{Symbol}
 use Rattle.ion_text_in.specs.declared.token.Symbol.TheVariants as symbol
 use Rattle.ion_text_in.specs.declared.token.Body.{Body}
@@ -82,32 +80,6 @@ TokenInRange (code.End kind) = ⊤
 TokenInRange code.Comma = ⊤
 TokenInRange code.Colon = ⊤
 TokenInRange code.Colons = ⊤
-
--- ---- tokens between quotes
-
--- those of a symbol and of a short string are a token's
-abbrev pub IsTold : Quote → Type 0
-IsTold quotes.Symbol = ⊤
-IsTold quotes.Short = ⊤
-IsTold quotes.ShortClob = ⊥
-IsTold quotes.Long = ⊥
-IsTold quotes.LongClob = ⊥
-
--- what begins it
-abbrev pub told_first : Quote → tokens.First
-told_first quotes.Symbol = tokens.a_quoted
-told_first quotes.Short = tokens.a_short
-told_first quotes.ShortClob = tokens.no_token
-told_first quotes.Long = tokens.no_token
-told_first quotes.LongClob = tokens.no_token
-
--- what it is, by its text
-abbrev pub told_token : Quote → List ℕ → tokens.Token
-told_token quotes.Symbol text = tokens.name true (value.Text text)
-told_token quotes.Short text = tokens.text text
-told_token quotes.ShortClob text = tokens.text text
-told_token quotes.Long text = tokens.text text
-told_token quotes.LongClob text = tokens.text text
 
 -- ---- blanks that were passed over behind a token
 

@@ -9,13 +9,14 @@ ghost use Rattle.ion_value.specs.Calls.{AnswersBy, CanRead, Reads, ReadsInto, pa
 ghost use Rattle.ion_value.specs.Shares.{GrowsWithin};
 ghost use Rattle.ion_text_in.specs.Lob.{are_cut_quotes, closed_at, group_of, lob_in};
 ghost use Rattle.ion_text_in.specs.Gathered.{CanGather, Continues, Gathers};
-ghost use Rattle.ion_text_in.specs.Lobs.{with_groups_behind, blob_from, lob_of, opened, TakesGroups};
+ghost use Rattle.ion_text_in.specs.Lobs.{with_groups_behind, blob_from, closed_behind, lob_of, opened};
 ghost use Rattle.ion_text_in.specs.Scanning.{groups};
 ghost use Rattle.ion_text_in.specs.Token.{a_lob, plain, token_of};
 
 use crate::blank::pass_white;
 use crate::quoted::Quote;
-use crate::text::{next_long_text, next_short_text, pass_quotes, put};
+use crate::segment::put;
+use crate::text::{next_long_text, next_short_text, pass_quotes};
 use base64::engine::general_purpose::STANDARD;
 use ion_meter::buf::Buf;
 use ion_meter::device::Input;
@@ -28,7 +29,9 @@ use std::alloc::Allocator;
 /// A kind of lob.
 #[derive(Clone, Copy)]
 pub(crate) enum Lob {
+    /// A clob.
     Clob,
+    /// A blob.
     Blob,
 }
 
@@ -237,7 +240,13 @@ fn take_block<I: Input, A: Allocator + Copy>(
     requires few { count ≤ BLOCK }
     requires some { 0 < count }
     requires there { count ≤ length (lent source.old) }
-    ensures { TakesGroups I.Input limits source.old source.new meter.old meter.new
+    ensures gives { I.observable source.old.device → IfOk result (λ found. IfSome found (λ padded.
+        with_groups_behind limits.scalar text.old false (cursor I.Input source.old)
+        ≡ with_groups_behind limits.scalar text.new padded (cursor I.Input source.new))) }
+    ensures none { result ≡ Ok None → (source.new ≡ source.old) × (text.new ≡ text.old)
+        × (meter.new ≡ meter.old) }
+    ensures plain { (r : Reason) (p : ℕ) → result ≢ Err (Fault.Refused r p) }
+    ensures gathers { Gathers I.Input limits source.old source.new meter.old meter.new
         text.old text.new result }
 {
     if count <= LINE {
@@ -259,7 +268,13 @@ fn take_groups<I: Input, A: Allocator + Copy>(
     requires room { decoded_estimate count ≤ length room.old }
     requires some { 0 < count }
     requires there { count ≤ length (lent source.old) }
-    ensures { TakesGroups I.Input limits source.old source.new meter.old meter.new
+    ensures gives { I.observable source.old.device → IfOk result (λ found. IfSome found (λ padded.
+        with_groups_behind limits.scalar text.old false (cursor I.Input source.old)
+        ≡ with_groups_behind limits.scalar text.new padded (cursor I.Input source.new))) }
+    ensures none { result ≡ Ok None → (source.new ≡ source.old) × (text.new ≡ text.old)
+        × (meter.new ≡ meter.old) }
+    ensures plain { (r : Reason) (p : ℕ) → result ≢ Err (Fault.Refused r p) }
+    ensures gathers { Gathers I.Input limits source.old source.new meter.old meter.new
         text.old text.new result }
 {
     let Some(n) = decode(&source.buffer()[..count], room) else {
@@ -296,10 +311,7 @@ fn take_group<I: Input, A: Allocator + Copy>(
     let mut group = [0; 4];
     let count = next_characters(source, &mut group)?;
     if count < 4 {
-        pass_braces(source, place)?;
-        if count > 0 {
-            return Err(Fault::Refused(Reason::BadLob, place));
-        }
+        end_groups(source, count, place)?;
         return Ok(None);
     }
     let mut bytes = [0; 3];
@@ -311,6 +323,24 @@ fn take_group<I: Input, A: Allocator + Copy>(
     }
     put(text, &bytes[..n], place, limits, meter)?;
     Ok(Some(n < 3))
+}
+
+// Passes over the braces behind fewer than four characters, which may be none alone.
+fn end_groups<I: Input, A: Allocator + Copy>(
+    source: &mut Source<I, A>,
+    count: usize,
+    place: u64,
+) -> Result<(), Fault>
+    requires stands { Stands source.old }
+    ensures gives { I.observable source.old.device → Continues result place
+        (closed_behind count (cursor I.Input source.old)) (λ _. Ok (cursor I.Input source.new)) }
+    ensures reads { Reads I.Input source.old source.new result }
+{
+    pass_braces(source, place)?;
+    if count > 0 {
+        return Err(Fault::Refused(Reason::BadLob, place));
+    }
+    Ok(())
 }
 
 // Passes over the braces that close a lob which begins at a place.
@@ -389,12 +419,7 @@ fn solid_run(bytes: &[u8]) -> usize
 {
     let mut at = 0;
     'skip: while bytes.len() - at >= STEP {
-        let mut solid = true;
-        // No byte ends this loop, so that it can look at many of them at once.
-        for byte in &bytes[at..at + STEP] {
-            solid &= is_solid(*byte);
-        }
-        if !solid {
+        if !are_solid(&bytes[at..at + STEP]) {
             break;
         }
         at += STEP;
@@ -405,6 +430,17 @@ fn solid_run(bytes: &[u8]) -> usize
         }
     }
     bytes.len()
+}
+
+// Whether none of these bytes is white space or a closing brace. No byte ends the loop, so that it
+// can look at many of them at once.
+#[inline]
+fn are_solid(bytes: &[u8]) -> bool {
+    let mut solid = true;
+    for byte in bytes {
+        solid &= is_solid(*byte);
+    }
+    solid
 }
 
 #[inline]

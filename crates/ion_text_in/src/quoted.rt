@@ -55,6 +55,7 @@ impl Quote {
         matches!(self, Quote::Long | Quote::LongClob)
     }
 
+    /// Whether the text is that of a clob.
     #[inline(always)]
     pub(crate) fn in_clob(self) -> bool
         ensures { result ≡ (quote_of self).in_clob }
@@ -113,6 +114,7 @@ fn ascii_text(quote: Quote, bytes: &[u8]) -> Option<usize>
     Some(plain)
 }
 
+/// Whether bytes are UTF-8.
 #[inline(always)]
 pub(crate) fn is_text(bytes: &[u8]) -> bool
     ensures { IsTrue result ↔ IsUtf8 bytes.now }
@@ -140,9 +142,7 @@ pub(crate) fn plain_length(quote: Quote, bytes: &[u8]) -> usize
             at += BLOCK;
         } else {
             let next = at + suspects.trailing_zeros() as usize;
-            let byte = bytes[next];
-            // Of those that are suspect only bytes below the space may stand for themselves.
-            if byte >= b' ' || !is_plain_alone(quote, byte) {
+            if !is_cleared(quote, bytes[next]) {
                 return next;
             }
             at = next + 1;
@@ -165,6 +165,18 @@ fn suspects(mark: u8, in_clob: bool, bytes: u8x32) -> u64
     let is_escape = bytes.simd_eq(u8x32::splat(b'\\'));
     let is_other = (bytes - u8x32::splat(b' ')).simd_ge(u8x32::splat(others));
     (is_mark | is_escape | is_other).to_bitmask()
+}
+
+// Whether a byte that is suspect stands for itself all the same, as only bytes below the space do.
+#[inline(always)]
+fn is_cleared(quote: Quote, byte: u8) -> bool
+    requires { is_sure (mark_of quote) (quote_of quote).in_clob byte ≡ false }
+    ensures { result ≡ is_plain_byte (quote_of quote) byte }
+{
+    if byte >= b' ' {
+        return false;
+    }
+    is_plain_alone(quote, byte)
 }
 
 // How many bytes at the front of these are plain, one after the other.

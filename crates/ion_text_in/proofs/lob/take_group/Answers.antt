@@ -1,12 +1,8 @@
-use Rattle.std.proofs.Common.{ℕ, Bool, Result, arith, true, false, List, Ok, Err, nat_lt, length, take, refl, ap, ◌∙◌}
+use Rattle.std.proofs.Common.{ℕ, true, false, List, Ok, Err, nat_lt, length, take, refl, ap, ◌∙◌}
 use Rattle.std.proofs.lemmas.List.{length-take-le}
-use Rattle.std.proofs.lemmas.Bool.{le-ltb, lt-ltb}
-use Rattle.ion_meter.specs.declared.fault.Reason.{Reason}
-use Rattle.ion_meter.specs.declared.fault.Reason.TheVariants.{BadLob}
-use Rattle.ion_meter.specs.Sources.{Cursor, cursor}
-use Rattle.ion_text_in.specs.Scanning.{Spelled}
+use Rattle.ion_meter.specs.Sources.{cursor}
 use Rattle.ion_text_in.specs.Lobs.{with_groups_behind}
-use Rattle.ion_value.specs.Parts.{refuse, ◌>>=◌, ◌>>◌}
+use Rattle.ion_value.specs.Parts.{◌>>=◌}
 use Rattle.ion_text_in.proofs.Gathering.{continues-puts, continues-err}
 use Rattle.ion_text_in.proofs.Holding.{handed-on}
 use Rattle.ion_text_in.proofs.LobTurns.{cut-last, cut-read, group-bad, group-late, group-given}
@@ -25,38 +21,21 @@ returns-then-padded-clause-gives g c = λ h.
     let n = c.in_ok-count.ensures in
     (rw c.if-padded.true (cut-read g.I.Input c.args.source.now c.next_characters.new.source c.args.limits.scalar c.args.text.now true c.next_characters.new.group c.in_ok-count.count _ n.reads.moves h (n.gives h) c.next_characters.array_long c.if-count-lt4.false (group-late c.next_characters.new.group)), refl)
 
--- the braces behind so many characters, of which there may be none
-ended : List ℕ → Bool → Result Cursor Reason → Spelled
-ended text some o = o >>= (λ d. refuse some BadLob >> Ok d) >>= (λ d. Ok (text, d))
-
-pub returns-in_err-pass_braces-clause-gives : goal.returns-in_err-pass_braces-clause-gives
-returns-in_err-pass_braces-clause-gives g c = λ h.
+pub returns-in_err-end_groups-clause-gives : goal.returns-in_err-end_groups-clause-gives
+returns-in_err-end_groups-clause-gives g c = λ h.
     let n = c.in_ok-count.ensures in
     let last = cut-last g.I.Input c.args.source.now c.next_characters.new.source c.args.limits.scalar c.args.text.now c.args.padded c.next_characters.new.group c.in_ok-count.count n.reads.moves h (n.gives h)
     c.next_characters.array_long c.if-count-lt4.true in
-    let f = c.in_err-pass_braces.field-0.0 in
-    rw (handed-on c.from_residual-in_err-pass_braces.result f c.from_residual-in_err-pass_braces.ensures)
-    (continues-err _ _ f c.args.place (λ e k. last ∙ ap (ended c.args.text.now (nat_lt 0 c.in_ok-count.count)) k) (c.in_err-pass_braces.ensures.gives (n.reads.moves.still_observable.1 h)))
-
-pub returns-then-count-gt0-clause-gives : goal.returns-then-count-gt0-clause-gives
-returns-then-count-gt0-clause-gives g c = λ h.
-    let n = c.in_ok-count.ensures in
-    let last = cut-last g.I.Input c.args.source.now c.next_characters.new.source c.args.limits.scalar c.args.text.now c.args.padded c.next_characters.new.group c.in_ok-count.count n.reads.moves h (n.gives h)
-    c.next_characters.array_long c.if-count-lt4.true in
-    let u = cursor g.I.Input c.pass_braces.new.source in (
-      last ∙ ap (ended c.args.text.now (nat_lt 0 c.in_ok-count.count)) (c.in_ok-pass_braces.ensures.gives (n.reads.moves.still_observable.1 h))
-          ∙ ap (λ (b : Bool). ended c.args.text.now b (Ok u)) (lt-ltb 0 c.in_ok-count.count c.if-count-gt0.true),
-      refl,
-    )
+    let f = c.in_err-end_groups.field-0.0 in
+    rw (handed-on c.from_residual-in_err-end_groups.result f c.from_residual-in_err-end_groups.ensures) (continues-err _ _ f c.args.place (λ e k. last ∙ ap (λ o. o >>= (λ d. Ok (c.args.text.now, d))) k)
+    (c.in_err-end_groups.ensures.gives (n.reads.moves.still_observable.1 h)))
 
 pub returns-then-count-lt4-clause-gives : goal.returns-then-count-lt4-clause-gives
 returns-then-count-lt4-clause-gives g c = λ h.
     let n = c.in_ok-count.ensures in
-    let last = cut-last g.I.Input c.args.source.now c.next_characters.new.source c.args.limits.scalar c.args.text.now c.args.padded c.next_characters.new.group c.in_ok-count.count n.reads.moves h (n.gives h)
-    c.next_characters.array_long c.if-count-lt4.true in
-    let u = cursor g.I.Input c.pass_braces.new.source in
-    last ∙ ap (ended c.args.text.now (nat_lt 0 c.in_ok-count.count)) (c.in_ok-pass_braces.ensures.gives (n.reads.moves.still_observable.1 h))
-    ∙ ap (λ (b : Bool). ended c.args.text.now b (Ok u)) (le-ltb 0 c.in_ok-count.count (omega (arith, c.if-count-gt0.false)))
+    cut-last g.I.Input c.args.source.now c.next_characters.new.source c.args.limits.scalar c.args.text.now c.args.padded c.next_characters.new.group c.in_ok-count.count n.reads.moves h (n.gives h)
+    c.next_characters.array_long c.if-count-lt4.true
+    ∙ ap (λ o. o >>= (λ d. Ok (c.args.text.now, d))) (c.in_ok-end_groups.ensures.gives (n.reads.moves.still_observable.1 h))
 
 pub returns-in_err-put-clause-gives : goal.returns-in_err-put-clause-gives
 returns-in_err-put-clause-gives g c = λ h.

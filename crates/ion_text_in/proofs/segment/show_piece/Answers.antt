@@ -6,7 +6,7 @@ use Rattle.ion_text_in.specs.Pieces.{piece_of, ShowsPiece}
 use Rattle.ion_text_in.specs.Scanning.{PieceTakes}
 use Rattle.ion_text_in.proofs.Looking.{piece-left, lent-all}
 use Rattle.ion_text_in.proofs.Taking.{piece-fits}
-use Rattle.ion_text_in.proofs.text.show_piece.Goals as goal
+use Rattle.ion_text_in.proofs.segment.show_piece.Goals as goal
 
 pub returns-in_default-scan_piece-clause-gives : goal.returns-in_default-scan_piece-clause-gives
 returns-in_default-scan_piece-clause-gives g c = λ h.

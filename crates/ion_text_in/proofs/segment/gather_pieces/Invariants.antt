@@ -2,7 +2,7 @@ use Rattle.std.proofs.Common.{◌≡◌, ◌-◌, ◌≤◌, length, Ok}
 use Rattle.ion_meter.specs.Sources.{cursor}
 use Rattle.ion_text_in.specs.Quotes.{quote_of}
 use Rattle.ion_text_in.specs.Gathered.{Gathers, onward}
-use Rattle.ion_text_in.proofs.text.gather_pieces.Given as goal
+use Rattle.ion_text_in.proofs.segment.gather_pieces.Given as goal
 
 abbrev pub invariant-pieces : goal.invariant-pieces
 invariant-pieces g l = record {

@@ -5,9 +5,9 @@ use Rattle.ion_text_in.specs.Quotes.{quote_of}
 use Rattle.ion_text_in.proofs.Segments.{segment-err, segment-bad, segment-good}
 use Rattle.ion_text_in.proofs.Utf8.{is_utf8-behind}
 use Rattle.ion_text_in.proofs.Gathering.{continues-err}
-use Rattle.ion_text_in.proofs.text.next_segment.Goals.{else-not-in_clob-via-then-not-in_clob+else-not-is_text, else-not-in_clob-via-else-not-in_clob}
+use Rattle.ion_text_in.proofs.segment.next_segment.Goals.{else-not-in_clob-via-then-not-in_clob+else-not-is_text, else-not-in_clob-via-else-not-in_clob}
 use Rattle.ion_text_in.proofs.Holding.{handed-on}
-use Rattle.ion_text_in.proofs.text.next_segment.Goals as goal
+use Rattle.ion_text_in.proofs.segment.next_segment.Goals as goal
 
 either : (a b : Bool) → b ≡ true → (a || b) ≡ true
 either true b e = refl

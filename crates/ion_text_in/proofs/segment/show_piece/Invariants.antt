@@ -1,6 +1,6 @@
 use Rattle.std.proofs.Common.{◌≡◌, ◌-◌, length, None}
 use Rattle.ion_meter.specs.Windows.{Extends, lent}
-use Rattle.ion_text_in.proofs.text.show_piece.Given as goal
+use Rattle.ion_text_in.proofs.segment.show_piece.Given as goal
 
 abbrev pub invariant-more : goal.invariant-more
 invariant-more g l = record {

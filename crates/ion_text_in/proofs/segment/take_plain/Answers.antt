@@ -6,7 +6,7 @@ use Rattle.ion_text_in.specs.Quotes.{quote_of}
 use Rattle.ion_text_in.specs.Gathered.{onward}
 use Rattle.ion_text_in.proofs.Gathering.{continues-err, continues-puts, plain-lent}
 use Rattle.ion_text_in.proofs.Holding.{handed-on}
-use Rattle.ion_text_in.proofs.text.take_plain.Goals as goal
+use Rattle.ion_text_in.proofs.segment.take_plain.Goals as goal
 
 pub returns-in_err-put-clause-gives : goal.returns-in_err-put-clause-gives
 returns-in_err-put-clause-gives g c = λ h.

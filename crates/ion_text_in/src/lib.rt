@@ -11,7 +11,6 @@ mod gather;
 pub mod laws;
 mod lob;
 mod number;
-mod operator;
 mod piece;
 mod quick;
 mod quoted;

@@ -180,3 +180,17 @@ pointed-is negative bytes text k j so some within digits few is =
           (omega (arith, behind, some)) (omega (arith, behind, few))
           ∙ ap (λ (m : ℕ). decimal_text (scaled negative (number_after (number_after 0 (take k bytes)) (take j (drop (k + 1) bytes))) (signed true m))) behind;
     }
+
+-- ---- behind a sign
+
+pub signed-front : (digits : List ℕ) (n : ℕ) → take (n + 1) (45 ∷ digits) ≡ 45 ∷ take n digits
+signed-front digits n = let same : n + 1 ≡ suc n = omega arith in ap (λ (k : ℕ). take k (45 ∷ digits)) same
+
+pub spelled-signed : (negative : Bool) (text digits : List ℕ) (x : Quick) (n : ℕ) → x.negative ≡ negative → text ≡ signed_text negative (take x.count digits) → AreSpelled (signed_text negative (take x.count digits)) x
+    → AreSpelled text (record { negative = negative; number = x.number; exponent = x.exponent; count = n; canonical = x.canonical })
+spelled-signed negative text digits x n sign is so = record {
+  int = so.int;
+  text = λ e.
+      subst (λ (l : List ℕ). IsTextOf l (whole (as_number (number_by negative x.number x.exponent)))) (sym is)
+      (subst (λ (b : Bool). IsTextOf (signed_text negative (take x.count digits)) (whole (as_number (number_by b x.number x.exponent)))) sign (so.text e));
+}

@@ -11,6 +11,7 @@ mod gather;
 pub mod laws;
 mod lob;
 mod number;
+mod operator;
 mod piece;
 mod quick;
 mod quoted;

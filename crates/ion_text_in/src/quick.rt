@@ -45,13 +45,40 @@ pub(crate) fn scan_quick(limit: u64, bytes: &[u8]) -> Option<Quick>
     ensures some { IfSome result (λ x. 0 < x.count) }
     ensures spelled { IfSome result (λ x. AreSpelled (take x.count bytes.now) x) }
 {
-    let (negative, digits) = sign(bytes);
-    let quick = quick_digits(negative, digits)?;
-    let count = quick.count + usize::from(negative);
-    if limit < count as u64 {
+    let Some(quick) = quick_number(bytes) else {
+        return None;
+    };
+    if limit < quick.count as u64 {
         return None;
     }
-    Some(Quick { count, ..quick })
+    Some(quick)
+}
+
+// The int or decimal at the front of these bytes, whatever the limit.
+#[inline(always)]
+fn quick_number(bytes: &[u8]) -> Option<Quick>
+    ensures shown { IfSome result (λ x. AreShown (bytes_of in_run) bytes.now x.count) }
+    ensures gives { IfSome result (λ x. run_token (take x.count bytes.now)
+        ≡ Ok (number_token (as_quick x))) }
+    ensures range { IfSome result (λ x. InRange (as_number (as_quick x))) }
+    ensures some { IfSome result (λ x. 0 < x.count) }
+    ensures spelled { IfSome result (λ x. AreSpelled (take x.count bytes.now) x) }
+{
+    let (negative, digits) = sign(bytes);
+    let Some(quick) = quick_digits(negative, digits) else {
+        return None;
+    };
+    Some(Quick {
+        negative,
+        number: quick.number,
+        exponent: quick.exponent,
+        count: if negative {
+            quick.count + 1
+        } else {
+            quick.count
+        },
+        canonical: quick.canonical,
+    })
 }
 
 // Whether there is a minus in front, and what stands behind it.
@@ -247,8 +274,20 @@ fn number_by(digits: &[u8]) -> u128
     ensures { result ≡ number_after 0 digits.now }
 {
     if digits.len() <= NARROW {
-        return number_after(0, digits) as u128;
+        number_after(0, digits) as u128
+    } else {
+        wide_number(digits)
     }
+}
+
+// The number that digits spell which 64 bits may not hold.
+#[inline(always)]
+fn wide_number(digits: &[u8]) -> u128
+    requires digits { all_are is_digit digits.now ≡ true }
+    requires few { length digits.now ≤ 38 }
+    requires many { 19 ≤ length digits.now }
+    ensures { result ≡ number_after 0 digits.now }
+{
     let front = number_after(0, &digits[..NARROW]);
     let rest = &digits[NARROW..];
     front as u128 * 10_u128.pow(rest.len() as u32) + number_after(0, rest) as u128
@@ -324,6 +363,14 @@ fn digit_run(bytes: &[u8]) -> usize
             return others.trailing_zeros() as usize;
         }
     }
+    many_digits(bytes)
+}
+
+// How many digits stand at the front of these bytes, block by block.
+#[inline(always)]
+fn many_digits(bytes: &[u8]) -> usize
+    ensures { IsRun is_digit bytes.now result }
+{
     let mut at = 0;
     'skip: while bytes.len() - at >= BLOCK {
         let others = no_digits(u8x16::from_slice(&bytes[at..]));

@@ -49,18 +49,17 @@ pub(crate) fn run_extent(run: Run, bytes: &[u8]) -> Extent
 fn run_by_byte(run: Run, bytes: &[u8]) -> Extent
     ensures { IsExtent run bytes.now result }
 {
-    'bytes: for (len, byte) in bytes.iter().enumerate() {
+    'bytes: for (i, byte) in bytes.iter().enumerate() {
         if stays(run, *byte) {
             continue;
         }
-        match ends(run, &bytes[len..]) {
+        match ends(run, &bytes[i..]) {
             Some(false) => {}
-            Some(true) => return Extent { len, ended: true },
-            None => return Extent { len, ended: false },
+            Some(true) => return so_far(i, true),
+            None => return so_far(i, false),
         }
     }
-    let len = bytes.len();
-    Extent { len, ended: false }
+    so_far(bytes.len(), false)
 }
 
 /// How far a word goes on in a slice that begins behind its first byte. Most words are so short
@@ -72,8 +71,7 @@ pub(crate) fn word_run(bytes: &[u8]) -> Extent
     if bytes.len() >= 16 {
         let others = others(u8x16::from_slice(bytes));
         if others != 0 {
-            let len = others.trailing_zeros() as usize;
-            return Extent { len, ended: true };
+            return so_far(others.trailing_zeros() as usize, true);
         }
     }
     run_by_byte(Run::Word, bytes)
@@ -101,9 +99,9 @@ fn number_run(bytes: &[u8]) -> Extent
     if bytes.len() >= 32 {
         let stops = number_stops(u8x32::from_slice(bytes));
         if stops != 0 {
-            let len = stops.trailing_zeros() as usize;
-            if stops_number(bytes[len]) {
-                return Extent { len, ended: true };
+            let at = stops.trailing_zeros() as usize;
+            if stops_number(bytes[at]) {
+                return so_far(at, true);
             }
         }
     }
@@ -122,6 +120,17 @@ fn number_stops(bytes: u8x32) -> u64
     (brackets | marks | bytes.simd_lt(u8x32::splat(b'+'))).to_bitmask()
 }
 
+// So many bytes go on, and no more, where that is known.
+#[inline(always)]
+fn so_far(len: usize, ended: bool) -> Extent
+    ensures { result ≡ record {
+      len = len;
+      ended = ended;
+    } }
+{
+    Extent { len, ended }
+}
+
 /// How many bytes the token has that begins at the front of a slice, where the slice shows it.
 #[inline(always)]
 pub(crate) fn token_extent(run: Run, bytes: &[u8]) -> Option<usize>
@@ -137,13 +146,24 @@ pub(crate) fn token_extent(run: Run, bytes: &[u8]) -> Option<usize>
     Some(1 + extent.len)
 }
 
-// Classes of bytes: 1 for those that end a number or a timestamp, whatever follows them, 2 for those of
-// operators, 3 for those that begin an identifier, but for `$`, and 4 where they begin a keyword too.
-pub(crate) static CLASSES: [u8; 256] = [
+// Which bytes end a number or a timestamp, whatever follows them.
+static NUMBER_ENDS: [u8; 256] = [
     0, 0, 0, 0, 0, 0, 0, 0, 0, 1, 1, 1, 1, 1, 0, 0, 0, 0, 0, 0, 0, 0, 0, 0, 0, 0, 0, 0, 0, 0, 0, 0,
-    1, 2, 1, 2, 0, 2, 2, 1, 1, 1, 2, 2, 1, 2, 2, 2, 0, 0, 0, 0, 0, 0, 0, 0, 0, 0, 0, 2, 2, 2, 2, 2,
-    2, 3, 3, 3, 3, 3, 3, 3, 3, 3, 3, 3, 3, 3, 3, 3, 3, 3, 3, 3, 3, 3, 3, 3, 3, 3, 3, 1, 0, 1, 2, 3,
-    2, 3, 3, 3, 3, 3, 4, 3, 3, 3, 3, 3, 3, 3, 4, 3, 3, 3, 3, 3, 4, 3, 3, 3, 3, 3, 3, 1, 2, 1, 2, 0,
+    1, 0, 1, 0, 0, 0, 0, 1, 1, 1, 0, 0, 1, 0, 0, 0, 0, 0, 0, 0, 0, 0, 0, 0, 0, 0, 0, 0, 0, 0, 0, 0,
+    0, 0, 0, 0, 0, 0, 0, 0, 0, 0, 0, 0, 0, 0, 0, 0, 0, 0, 0, 0, 0, 0, 0, 0, 0, 0, 0, 1, 0, 1, 0, 0,
+    0, 0, 0, 0, 0, 0, 0, 0, 0, 0, 0, 0, 0, 0, 0, 0, 0, 0, 0, 0, 0, 0, 0, 0, 0, 0, 0, 1, 0, 1, 0, 0,
+    0, 0, 0, 0, 0, 0, 0, 0, 0, 0, 0, 0, 0, 0, 0, 0, 0, 0, 0, 0, 0, 0, 0, 0, 0, 0, 0, 0, 0, 0, 0, 0,
+    0, 0, 0, 0, 0, 0, 0, 0, 0, 0, 0, 0, 0, 0, 0, 0, 0, 0, 0, 0, 0, 0, 0, 0, 0, 0, 0, 0, 0, 0, 0, 0,
+    0, 0, 0, 0, 0, 0, 0, 0, 0, 0, 0, 0, 0, 0, 0, 0, 0, 0, 0, 0, 0, 0, 0, 0, 0, 0, 0, 0, 0, 0, 0, 0,
+    0, 0, 0, 0, 0, 0, 0, 0, 0, 0, 0, 0, 0, 0, 0, 0, 0, 0, 0, 0, 0, 0, 0, 0, 0, 0, 0, 0, 0, 0, 0, 0,
+];
+
+// Which bytes can stand in an operator.
+static OPERATOR_BYTES: [u8; 256] = [
+    0, 0, 0, 0, 0, 0, 0, 0, 0, 0, 0, 0, 0, 0, 0, 0, 0, 0, 0, 0, 0, 0, 0, 0, 0, 0, 0, 0, 0, 0, 0, 0,
+    0, 1, 0, 1, 0, 1, 1, 0, 0, 0, 1, 1, 0, 1, 1, 1, 0, 0, 0, 0, 0, 0, 0, 0, 0, 0, 0, 1, 1, 1, 1, 1,
+    1, 0, 0, 0, 0, 0, 0, 0, 0, 0, 0, 0, 0, 0, 0, 0, 0, 0, 0, 0, 0, 0, 0, 0, 0, 0, 0, 0, 0, 0, 1, 0,
+    1, 0, 0, 0, 0, 0, 0, 0, 0, 0, 0, 0, 0, 0, 0, 0, 0, 0, 0, 0, 0, 0, 0, 0, 0, 0, 0, 0, 1, 0, 1, 0,
     0, 0, 0, 0, 0, 0, 0, 0, 0, 0, 0, 0, 0, 0, 0, 0, 0, 0, 0, 0, 0, 0, 0, 0, 0, 0, 0, 0, 0, 0, 0, 0,
     0, 0, 0, 0, 0, 0, 0, 0, 0, 0, 0, 0, 0, 0, 0, 0, 0, 0, 0, 0, 0, 0, 0, 0, 0, 0, 0, 0, 0, 0, 0, 0,
     0, 0, 0, 0, 0, 0, 0, 0, 0, 0, 0, 0, 0, 0, 0, 0, 0, 0, 0, 0, 0, 0, 0, 0, 0, 0, 0, 0, 0, 0, 0, 0,
@@ -167,7 +187,7 @@ fn stays(run: Run, byte: u8) -> bool
 pub(crate) fn stops_number(byte: u8) -> bool
     ensures { result ≡ (is_one_of (codes "{}[](),\"'") byte || is_white byte) }
 {
-    CLASSES[byte as usize] == 1
+    NUMBER_ENDS[byte as usize] > 0
 }
 
 /// Whether this byte can stand in an operator.
@@ -175,7 +195,15 @@ pub(crate) fn stops_number(byte: u8) -> bool
 pub(crate) fn is_operator_byte(byte: u8) -> bool
     ensures { result ≡ is_operator_byte byte }
 {
-    CLASSES[byte as usize] == 2
+    OPERATOR_BYTES[byte as usize] > 0
+}
+
+// Whether a slash goes on with a token unless it begins a comment.
+#[inline(always)]
+fn has_slashes(run: Run) -> bool
+    ensures { result ≡ has_slashes run }
+{
+    !matches!(run, Run::Word)
 }
 
 // Whether a token ends before these bytes, of which the first does not go on whatever follows it.
@@ -187,7 +215,7 @@ fn ends(run: Run, rest: &[u8]) -> Option<bool>
 {
     match rest {
         [] => None,
-        [b'/', others @ ..] if !matches!(run, Run::Word) => match others {
+        [b'/', others @ ..] if has_slashes(run) => match others {
             [] => None,
             [next, ..] => Some(*next == b'/' || *next == b'*'),
         },

@@ -15,7 +15,8 @@ ghost use Rattle.ion_text_in.specs.Views.{as_number, number_token, word_token_of
 
 use crate::first::First;
 use crate::lob::{Lob, next_lob};
-use crate::number::{Number, next_infinity, next_number, next_operator};
+use crate::number::{Number, next_number};
+use crate::operator::{next_infinity, next_operator};
 use crate::text::{next_long_string, next_quoted_symbol, next_short_string};
 use crate::word::{Word, next_word};
 use ion_meter::buf::Buf;

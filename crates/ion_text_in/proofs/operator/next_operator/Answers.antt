@@ -12,7 +12,7 @@ use Rattle.ion_text_in.proofs.Shown.{shown-whole, shown-fault}
 use Rattle.ion_text_in.proofs.ShownTokens.{operator-spelled, operator-refused}
 use Rattle.ion_text_in.proofs.Gathered.{answers-then, answers-copied}
 use Rattle.ion_text_in.proofs.ShownFurther.{on-ok-map, shown-further}
-use Rattle.ion_text_in.proofs.number.next_operator.Goals as goal
+use Rattle.ion_text_in.proofs.operator.next_operator.Goals as goal
 
 abbrev operator_with : Cursor → List ℕ → Result (Token × Cursor) Reason
 operator_with d l = Ok (tokens.operator l, d)

@@ -1,7 +1,7 @@
 use Rattle.std.proofs.Common.{take, refl}
 use Rattle.ion_text_in.specs.Token as tokens
 use Rattle.ion_text_in.proofs.ShownTokens.{operator-shown, operator-over}
-use Rattle.ion_text_in.proofs.number.scan_operator.Goals as goal
+use Rattle.ion_text_in.proofs.operator.scan_operator.Goals as goal
 
 pub returns-then-limit-count-clause-shows : goal.returns-then-limit-count-clause-shows
 returns-then-limit-count-clause-shows c =

@@ -1,6 +1,6 @@
 use Rattle.std.proofs.Common.{◌≡◌, ◌-◌, ◌≤◌, true, length, take}
 use Rattle.ion_value.specs.Digits.{all_are, is_digit}
-use Rattle.ion_text_in.proofs.quick.digit_run.Given as goal
+use Rattle.ion_text_in.proofs.quick.many_digits.Given as goal
 
 abbrev pub invariant-skip : goal.invariant-skip
 invariant-skip l = record {

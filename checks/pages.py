@@ -5,8 +5,8 @@ In a page a block that begins with ```console is one session of a shell: a line 
 continue it, and what it prints, standard error among it, up to the next command. `$ echo $?` behind a command shows its
 status, which is 0 where nothing shows it. Each command runs in a shell of its own, which begins in the folder where the
 one before it ended, so that a `cd` holds to the end of the page; the first begins in the root, where no command may
-leave anything. In a table whose header is `| Input | Answer | Why |` a row has an
-input for `ion show` (a text, or octets in hexadecimal behind `hex` or behind the version marker `M`), options
+leave anything. In a table that has a column `Input` and next to it a column `Answer`, a row has an
+input for `ion show` (a text, or bytes in hexadecimal after `hex` or after the version marker `M`), options
 or another command in a second code span, and the lines that are printed, a code span each.
 """
 import glob
@@ -20,6 +20,8 @@ import tempfile
 from counts import files_of
 
 MARKER = "E00100EA"
+# Beside README and the examples, the pages whose commands and rows are run.
+RUN = {"docs/" + name for name in ("BINARY.md", "DIFFERENCES.md", "REFUSALS.md", "SYMBOLS.md", "TEXT.md", "TEXT_INPUT.md")}
 # Programs that every system has; each other one is looked for.
 EVERYWHERE = {"echo", "printf", "cat", "head", "tail", "wc", "cmp", "rm", "ls", "sh", "find", "sort", "mkdir", "cp", "test",
               "tr", "cd", "exit", "if", "then", "else", "fi", "for", "in", "do", "done", "while", "case", "esac", "sleep",
@@ -144,7 +146,7 @@ def run_row(page, cells, program):
         words = ["show"] + words
     done = subprocess.run([program] + words, input=octets_of(given[0]), capture_output=True, timeout=60)
     out = done.stdout
-    refusal = [wanted[-1]] if wanted and wanted[-1].startswith("refused ") else []
+    refusal = [wanted[-1]] if wanted and wanted[-1].startswith(("refused ", "catalog refused ")) else []
     shown = wanted[:len(wanted) - len(refusal)]
     if words[0] == "convert" and shown and octets_of(given[0])[:1] != b"\xe0":
         right = out == octets_of(shown[0])
@@ -166,15 +168,15 @@ def check_links(page, text):
 
 
 def rows_of(text):
-    """The cells of each row of the tables of inputs and answers."""
-    inside = False
+    """The cells of input and answer of each row of the tables that have both."""
+    first = None
     for line in text.split("\n"):
-        if line.startswith("| Input | Answer |"):
-            inside = True
-        elif not line.startswith("|"):
-            inside = False
-        elif inside and not re.fullmatch(r"[|\s:-]+", line):
-            yield [cell.strip() for cell in re.split(r"(?<!\\)\|", line)[1:-1]]
+        if not line.startswith("|"):
+            first = None
+        elif "| Input | Answer |" in line:
+            first = line.split("| Input |")[0].count("|")
+        elif first is not None and not re.fullmatch(r"[|\s:-]+", line):
+            yield [cell.strip() for cell in re.split(r"(?<!\\)\|", line)[1:-1]][first:first + 2]
 
 
 def main():
@@ -188,7 +190,7 @@ def main():
         page = Page(name)
         pages.append(page)
         check_links(page, text)
-        if name not in ("README.md", "docs/DIFFERENCES.md") and not name.startswith("examples/"):
+        if name != "README.md" and name not in RUN and not name.startswith("examples/"):
             continue
         run_blocks(page, text, program)
         for cells in rows_of(text):

@@ -56,8 +56,7 @@ A file whose name is not UTF-8 is read by standard input alone. What is said of 
 
   head -c PLACE FILE | wc -l
 
-counts the line ends before the fault. Where both streams are one terminal, the line of a refusal stands right after the
-output, which may have no end of line. Controls from U+0080 to U+009F and marks of direction in a text are shown as they are."""
+counts the line ends before the fault. Controls from U+0080 to U+009F and marks of direction in a text are shown as they are."""
 SEE_ALSO = """\
 share/doc/cozgelt below /usr, or below the prefix of a tarball: REFUSALS.md has an input for each reason, DIFFERENCES.md what other
 readers of Ion do, LIBRARY.md the same calls from C, Rust and Python."""

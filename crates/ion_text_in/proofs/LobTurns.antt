@@ -14,16 +14,14 @@ use Rattle.ion_meter.specs.declared.fault.Reason.{Reason}
 use Rattle.ion_meter.specs.declared.fault.Reason.TheVariants.{BadLob, ScalarLimit}
 use Rattle.ion_meter.specs.Sources.{Cursor, cursor, skip, Moves}
 use Rattle.ion_meter.specs.Windows.{Incoming, left}
-use Rattle.ion_value.specs.Value.{SymbolAt, Scalar}
 use Rattle.ion_value.specs.Digits.{first_is, all_are}
 use Rattle.ion_value.specs.Parts.{refuse, ◌>>=◌, ◌>>◌}
 use Rattle.ion_text_in.specs.Blanks.{is_white}
 use Rattle.ion_text_in.specs.Limit.{passes}
 use Rattle.ion_text_in.specs.Lob.{closed_at, group_of, behind_to, last_group, group_bytes, lob_in, lob_at}
-use Rattle.ion_text_in.specs.Lobs.{opened, with_groups_behind, is_padded, closed_behind}
+use Rattle.ion_text_in.specs.Lobs.{with_groups_behind, is_padded, closed_behind}
 use Rattle.ion_text_in.specs.Meaning.{at}
 use Rattle.ion_text_in.specs.Token.{plain, a_lob, token_of}
-use Rattle.ion_text_in.specs.declared.lob.Opening.{Opening}
 use Rattle.ion_text_in.specs.Scanning.{Spelled, groups, with_front}
 use Rattle.ion_text_in.proofs.Blobs.{Octets, octets-prefix, octets-behind, by_decoded, by-decoded, encode-nil, group-white, group-brace, group-char, group-decoded, length-encode_of, is_char, base64-chars}
 use Rattle.ion_text_in.proofs.BlankTurns.{behind_white, white-first, white-none}
@@ -276,10 +274,8 @@ block-of limit text p chars bytes rest is octets free =
 
 -- ---- lobs
 
--- from behind its braces, white space and opening quotes
-pub lob-token : (limit : Option ℕ) (c t w q : Cursor) (o : Opening) → t ≡ skip 2 c → w ≡ behind_white t → lob_in limit w ≡ opened o limit q
-    → token_of limit a_lob c ≡ (opened o limit q >>= (λ l. Ok (plain l.0, l.1)))
+-- from behind its braces and white space
+pub lob-token : (limit : Option ℕ) (c t w : Cursor) → t ≡ skip 2 c → w ≡ behind_white t → token_of limit a_lob c ≡ (lob_in limit w >>= (λ l. Ok (plain l.0, l.1)))
 unfolding token_of lob_at
-lob-token limit c t w q o first white opens =
-    let cursors : w ≡ behind_white (skip 2 c) = white ∙ ap behind_white first in
-    ap (λ (o : Result (Scalar SymbolAt × Cursor) Reason). o >>= (λ l. Ok (plain l.0, l.1))) (ap (λ (d : Cursor). lob_in limit d) (sym cursors) ∙ opens)
+lob-token limit c t w first white =
+    ap (λ (d : Cursor). lob_in limit d >>= (λ l. Ok (plain l.0, l.1))) (sym (white ∙ ap behind_white first))

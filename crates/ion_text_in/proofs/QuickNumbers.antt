@@ -1,4 +1,5 @@
 -- Ints and decimals that are read in one pass.
+use mir.Val.{bool_byte}
 use Rattle.std.proofs.Common.{◌≡◌, IsTrue, ℕ, zero, suc, ◌+◌, ◌*◌, ◌-◌, ◌^◌, ◌<◌, ◌≤◌, pos, ◌-ℤ◌, inl, inr, Bool, true, false, not, ◌&&◌, ◌||◌, ◌==◌, nat_lt, Some, Ok, List, [], ◌∷◌, ◌++◌, length, take, drop, get_or, refl, sym, ap, subst, ◌∙◌, arith, None, if◌then◌else◌, ℤ}
 use Rattle.std.proofs.lemmas.Bool.{and_parts, and_right, lt-ltb}
 use Rattle.std.proofs.lemmas.Bool.Decides.{nat_tests}
@@ -17,6 +18,7 @@ use Rattle.ion_value.proofs.TextDecimals.{sign-read, decimal-text, exponent_digi
 use Rattle.ion_text_in.specs.declared.number.Number.TheVariants as numbers
 use Rattle.ion_text_in.specs.declared.run.Run.TheVariants as run
 use Rattle.ion_text_in.specs.Blanks.{begins_comment}
+use Rattle.ion_text_in.specs.declared.quick.Quick.{Quick}
 use Rattle.ion_text_in.specs.Quick.{number_after, scaled, signed_int, signed_text, stops, AreSpelled, AreWhole, IsMantissa, IsQuick}
 use Rattle.ion_text_in.specs.Runs.{EndBehind, stays}
 use Rattle.ion_text_in.specs.Token.{bytes_of, in_run, run_token}
@@ -396,3 +398,21 @@ quick-power negative below bytes ys n places k m j mantissa mark behind power so
       range = valid;
       spelled = record { int = λ none. absurd (cc none); text = λ e. absurd (cc e) };
     }
+
+-- ---- behind a sign
+
+signed-front : (digits : List ℕ) (n : ℕ) → take (n + 1) (45 ∷ digits) ≡ 45 ∷ take n digits
+signed-front digits n = let same : n + 1 ≡ suc n = omega arith in ap (λ (k : ℕ). take k (45 ∷ digits)) same
+
+-- so many bytes of a text are a sign and the digits behind it
+pub signed-parts : (negative : Bool) (digits bytes : List ℕ) (x : Quick) (n : ℕ) → signed_text negative digits ≡ bytes → IsQuick negative digits x → n ≡ x.count + bool_byte negative
+    → AreShown (bytes_of in_run) bytes n × (take n bytes ≡ signed_text negative (take x.count digits))
+signed-parts true digits bytes x n same quick is = (
+  subst (λ (k : ℕ). AreShown (bytes_of in_run) bytes k) (sym is) (subst (λ (l : List ℕ). AreShown (bytes_of in_run) l (x.count + 1)) same (signed-shown digits x.count quick.within quick.goes quick.ends)),
+  ap (λ (k : ℕ). take k bytes) is ∙ ap (take (x.count + 1)) (sym same) ∙ signed-front digits x.count,
+)
+signed-parts false digits bytes x n same quick is =
+    let all : n ≡ x.count = omega (arith, is) in (
+      subst (λ (k : ℕ). AreShown (bytes_of in_run) bytes k) (sym all) (subst (λ (l : List ℕ). AreShown (bytes_of in_run) l x.count) same (plain-shown digits x.count quick.some quick.within quick.goes quick.ends)),
+      ap (λ (k : ℕ). take k bytes) all ∙ ap (take x.count) (sym same),
+    )

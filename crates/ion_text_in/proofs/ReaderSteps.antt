@@ -27,7 +27,7 @@ use Rattle.ion_text_in.specs.declared.token.Body.TheVariants as body
 use Rattle.ion_text_in.specs.declared.token.Symbol.{Symbol as CodeSymbol}
 use Rattle.ion_text_in.specs.declared.reader.ItemKind.{ItemKind}
 use Rattle.ion_text_in.specs.declared.reader.ItemKind.TheVariants as kind
-use Rattle.ion_text_in.specs.declared.symbol.FieldName.{FieldName}
+use Rattle.ion_text_in.specs.declared.token.FieldName.{FieldName}
 use Rattle.ion_text_in.specs.declared.expected.Expected.{Expected}
 use Rattle.ion_text_in.specs.declared.expected.Expected.TheVariants as expected
 use Rattle.ion_text_in.specs.declared.reader.StepResult.TheVariants as step_result

@@ -14,7 +14,7 @@ use Rattle.ion_value.specs.Value.{SymbolAt}
 use Rattle.ion_value.proofs.Passing.{IsPassed-cursor, Passed-lent}
 use Rattle.ion_text_in.specs.declared.token.Symbol.{Symbol}
 use Rattle.ion_text_in.specs.declared.token.Symbol.TheVariants as symbol
-use Rattle.ion_text_in.specs.declared.symbol.FieldName.{FieldName}
+use Rattle.ion_text_in.specs.declared.token.FieldName.{FieldName}
 use Rattle.ion_text_in.specs.declared.expected.Expected.{Expected}
 use Rattle.ion_text_in.specs.declared.expected.Expected.TheVariants as expected
 use Rattle.ion_text_in.specs.declared.reader.StepResult.TheVariants as step_result

@@ -17,7 +17,7 @@ use Rattle.ion_text_in.specs.declared.piece.Piece.TheVariants as code_piece
 use Rattle.ion_text_in.specs.Meaning.{at}
 use Rattle.ion_text_in.specs.Quoted.{piece_at, text_at}
 use Rattle.ion_text_in.specs.Scanning.{is_plain_byte}
-use Rattle.ion_text_in.specs.Quotes.{quote_of, mark_of, IsAsciiText}
+use Rattle.ion_text_in.specs.Quotes.{quote_of, mark_of}
 use Rattle.ion_text_in.specs.Pieces.{piece_of}
 use Rattle.ion_text_in.specs.Gathered.{onward}
 use Rattle.ion_text_in.proofs.Quotes.{quote_of-is}
@@ -78,11 +78,12 @@ ascii-all (b ∷ bytes) e =
     IsAscii-cons b bytes (low b parts.0) (ascii-all bytes parts.1)
 
 -- a text of ASCII
-pub ascii-shown : (q : CodeQuote) (limit place n : ℕ) (bytes more : List ℕ) → IsAsciiText q bytes n → n ≤ limit
+pub ascii-shown : (q : CodeQuote) (limit place n : ℕ) (bytes more : List ℕ) → (quote_of q).is_long ≡ false
+    → (n < length bytes) × (all_are (is_plain_byte (quote_of q)) (take n bytes) ≡ true) × (all_are (λ b. nat_lt b 128) (take n bytes) ≡ true) → slice_index bytes n ≡ mark_of q → n ≤ limit
     → text_at (quote_of q) (Some limit) (at place (bytes ++ more)) ≡ Ok (take n bytes, at (place + (n + 1)) (drop (n + 1) bytes ++ more))
-ascii-shown q limit place n bytes more so within =
-    let good : is_utf8 (take n bytes) ≡ true = is_utf8-from_IsUtf8 (take n bytes) (IsUtf8-from_ascii (take n bytes) (ascii-all (take n bytes) so.ascii)) in
-    text-shown q limit place n bytes more so.short so.plain so.within so.closed within (or_right (quote_of q).in_clob (is_utf8 (take n bytes)) good)
+ascii-shown q limit place n bytes more short run mark within =
+    let good : is_utf8 (take n bytes) ≡ true = is_utf8-from_IsUtf8 (take n bytes) (IsUtf8-from_ascii (take n bytes) (ascii-all (take n bytes) run.2)) in
+    text-shown q limit place n bytes more short run.1 run.0 mark within (or_right (quote_of q).in_clob (is_utf8 (take n bytes)) good)
 
 pub text-bad : (q : CodeQuote) (limit place n : ℕ) (bytes more : List ℕ) → (quote_of q).is_long ≡ false → all_are (is_plain_byte (quote_of q)) (take n bytes) ≡ true → n < length bytes
     → slice_index bytes n ≡ mark_of q → n ≤ limit → ((quote_of q).in_clob || is_utf8 (take n bytes)) ≡ false

@@ -1,5 +1,5 @@
 -- Numbers of which the bytes that were read are the canonical text.
-use Rattle.std.proofs.Common.{◌≡◌, inl, inr, ℕ, zero, suc, ◌+◌, ◌*◌, ◌-◌, ◌^◌, ◌<◌, ◌≤◌, Bool, true, false, ◌&&◌, ◌||◌, ◌==◌, nat_lt, Some, None, List, [], ◌∷◌, ◌++◌, length, take, drop, get_or, map, refl, sym, ap, subst, ◌∙◌, arith}
+use Rattle.std.proofs.Common.{◌≡◌, inl, inr, ℕ, zero, suc, ◌+◌, ◌*◌, ◌-◌, ◌^◌, ◌<◌, ◌≤◌, Bool, true, false, ◌&&◌, ◌||◌, ◌==◌, nat_lt, Some, None, List, [], ◌∷◌, ◌++◌, length, take, drop, get_or, map, refl, sym, ap, ◌∙◌, arith}
 use Rattle.std.proofs.lemmas.Bool.{cases_Bool, and_parts, lt-ltb, or_parts}
 use Rattle.std.proofs.lemmas.Bool.Decides.{nat_tests}
 use Rattle.std.proofs.lemmas.List.{length-map, length-take-le}
@@ -8,12 +8,8 @@ use Rattle.std.specs.Fmt.{decimal}
 use Rattle.ion_value.specs.Decimal.{decimal_text, magnitude_text, pointed_text}
 use Rattle.ion_value.specs.Digits.{all_are, digit_value, first_is, is_digit}
 use Rattle.ion_value.specs.Number.{signed}
-use Rattle.ion_value.specs.PlainItems.{IsTextOf}
-use Rattle.ion_value.specs.Value.{whole}
 use Rattle.ion_value.proofs.SpelledDigits.{decimal-spelled, pointed-spelled, spelled_by, NoZeros}
-use Rattle.ion_text_in.specs.declared.quick.Quick.{Quick}
-use Rattle.ion_text_in.specs.Quick.{number_after, number_by, scaled, signed_text, stops, AreSpelled, AreWhole}
-use Rattle.ion_text_in.specs.Views.{as_number}
+use Rattle.ion_text_in.specs.Quick.{number_after, scaled, signed_text, stops, AreSpelled, AreWhole}
 use Rattle.ion_text_in.proofs.DigitNumbers.{after-front, after-joined, cut-digits}
 
 -- ---- the number that digits spell
@@ -180,17 +176,3 @@ pointed-is negative bytes text k j so some within digits few is =
           (omega (arith, behind, some)) (omega (arith, behind, few))
           ∙ ap (λ (m : ℕ). decimal_text (scaled negative (number_after (number_after 0 (take k bytes)) (take j (drop (k + 1) bytes))) (signed true m))) behind;
     }
-
--- ---- behind a sign
-
-pub signed-front : (digits : List ℕ) (n : ℕ) → take (n + 1) (45 ∷ digits) ≡ 45 ∷ take n digits
-signed-front digits n = let same : n + 1 ≡ suc n = omega arith in ap (λ (k : ℕ). take k (45 ∷ digits)) same
-
-pub spelled-signed : (negative : Bool) (text digits : List ℕ) (x : Quick) (n : ℕ) → x.negative ≡ negative → text ≡ signed_text negative (take x.count digits) → AreSpelled (signed_text negative (take x.count digits)) x
-    → AreSpelled text (record { negative = negative; number = x.number; exponent = x.exponent; count = n; canonical = x.canonical })
-spelled-signed negative text digits x n sign is so = record {
-  int = so.int;
-  text = λ e.
-      subst (λ (l : List ℕ). IsTextOf l (whole (as_number (number_by negative x.number x.exponent)))) (sym is)
-      (subst (λ (b : Bool). IsTextOf (signed_text negative (take x.count digits)) (whole (as_number (number_by b x.number x.exponent)))) sign (so.text e));
-}

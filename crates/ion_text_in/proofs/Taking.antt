@@ -1,12 +1,12 @@
 -- How many bytes a piece takes of a slice, and how many bytes show it.
-use Rattle.std.proofs.Common.{◌≡◌, ℕ, ◌<◌, ◌≤◌, true, List, [], ◌∷◌, length, sym, ap, subst, ◌∙◌, arith}
+use Rattle.std.proofs.Common.{◌≡◌, ℕ, ◌<◌, ◌≤◌, List, length, sym, ap, subst, ◌∙◌, arith}
 use Rattle.ion_text_in.specs.declared.quoted.Quote.{Quote as CodeQuote}
 use Rattle.ion_text_in.specs.declared.piece.Piece.{Piece as CodePiece}
 use Rattle.ion_text_in.specs.declared.piece.Piece.TheVariants as code
-use Rattle.ion_text_in.specs.Quoted.{Quote, piece_at}
+use Rattle.ion_text_in.specs.Quoted.{piece_at}
 use Rattle.ion_text_in.specs.Scanning.{PieceTakes}
 use Rattle.ion_text_in.specs.Quotes.{quote_of}
-use Rattle.ion_text_in.specs.Pieces.{piece_of, taken_of, may_go_on}
+use Rattle.ion_text_in.specs.Pieces.{piece_of, taken_of}
 use Rattle.ion_text_in.proofs.Quotes.{quote_of-is}
 use Rattle.ion_text_in.proofs.ShownPieces.{IsWhole, piece-whole}
 use Rattle.ion_text_in.proofs.Fuel.{piece-takes}
@@ -25,9 +25,3 @@ cut-short q bytes piece e cut = grind (arith, few)
   where
     few : 12 ≤ length bytes → ⊥
     few le = subst IsWhole (sym e ∙ ap piece_of cut) (piece-whole (quote_of q) bytes le)
-
-pub few-still : (q : Quote) (bytes : List ℕ) → may_go_on q bytes ≡ true → length bytes < 12
-few-still q [] e = omega arith
-few-still q (a ∷ []) e = omega arith
-few-still q (a ∷ b ∷ []) e = omega arith
-few-still q (a ∷ b ∷ c ∷ bytes) e = absurd (cc e)

@@ -7,7 +7,7 @@ use Rattle.ion_value.specs.Standing.{in_struct}
 use Rattle.ion_value.specs.Value.{SymbolAt}
 use Rattle.ion_text_in.specs.declared.expected.Expected.{Expected}
 use Rattle.ion_text_in.specs.declared.expected.Expected.TheVariants as expected
-use Rattle.ion_text_in.specs.declared.symbol.FieldName.{FieldName}
+use Rattle.ion_text_in.specs.declared.token.FieldName.{FieldName}
 use Rattle.ion_text_in.specs.Positions.{Wants, a_value, a_field, a_separator}
 
 -- what must come, behind what is read of an item

@@ -1,15 +1,17 @@
 -- What the calls that read a lob ask for and answer.
-use Rattle.std.specs.Prelude.{ℕ, ◌%◌, Bool, true, false, not, ◌==◌, nat_lt, List, length, Option, Some, None, Result, Ok}
+use Rattle.std.specs.Prelude.{◌≡◌, ◌≢◌, ℕ, ◌%◌, Bool, false, not, ◌==◌, nat_lt, List, length, Option, Some, None, Result, Ok, Err, IfOk, IfSome}
+use Rattle.ion_meter.specs.Counts.{Counts}
+use Rattle.ion_meter.specs.declared.device.Input.{Ghosts as InputOf}
+use Rattle.ion_meter.specs.declared.fault.Fault.{Fault}
+use Rattle.ion_meter.specs.declared.fault.Fault.TheVariants.{Refused}
 use Rattle.ion_meter.specs.declared.fault.Reason.{Reason}
-use Rattle.ion_meter.specs.Sources.{Cursor}
+use Rattle.ion_meter.specs.declared.limits.Limits.{Limits}
+use Rattle.ion_meter.specs.Sources.{Cursor, cursor}
+use Rattle.ion_meter.specs.Windows.{Incoming}
 use Rattle.ion_meter.specs.declared.fault.Reason.TheVariants.{BadLob}
 use Rattle.ion_value.specs.Parts.{refuse, ◌>>=◌, ◌>>◌}
-use Rattle.ion_value.specs.Value.{SymbolAt, Scalar, clob, blob}
-use Rattle.ion_text_in.specs.declared.lob.Lob.{Lob}
-use Rattle.ion_text_in.specs.declared.lob.Lob.TheVariants as code
-use Rattle.ion_text_in.specs.declared.lob.Opening.{Opening}
-use Rattle.ion_text_in.specs.declared.lob.Opening.TheVariants as opening
-use Rattle.ion_text_in.specs.Lob.{closed_at, clob_at, blob_at}
+use Rattle.ion_text_in.specs.Gathered.{Gathers}
+use Rattle.ion_text_in.specs.Lob.{closed_at}
 use Rattle.ion_text_in.specs.Scanning.{Spelled, groups, with_front}
 
 -- bytes of a blob that were read, and the groups behind them
@@ -32,15 +34,10 @@ closed_behind count c = do
   refuse (nat_lt 0 count) BadLob
   Ok d
 
--- ---- lobs
-
--- the clob or blob of these bytes
-abbrev pub lob_of : Lob → List ℕ → Scalar SymbolAt
-lob_of code.Clob bytes = clob bytes
-lob_of code.Blob bytes = blob bytes
-
--- a lob from behind what opens its text, or from where none does
-abbrev pub opened : Opening → Option ℕ → Cursor → Result (Scalar SymbolAt × Cursor) Reason
-opened opening.Short limit c = clob_at limit false c
-opened opening.Long limit c = clob_at limit true c
-opened opening.None limit c = blob_at limit c
+-- what a call does that takes whole groups of the window, and answers whether the last of them was padded, or takes none
+pub record TakesGroups {I : Type 0} (device : InputOf I) (limits : Limits) (old new : Incoming I) (earlier later : Counts) (before after : List ℕ) (result : Result (Option Bool) Fault) : Type 0 where
+  pub gives : device.observable old.device
+      → IfOk result (λ found. IfSome found (λ padded. with_groups_behind limits.scalar before false (cursor device old) ≡ with_groups_behind limits.scalar after padded (cursor device new)))
+  pub none : result ≡ Ok None → (new ≡ old) × (after ≡ before) × (later ≡ earlier)
+  pub plain : (r : Reason) (p : ℕ) → result ≢ Err (Refused r p)
+  pub gathers : Gathers device limits old new earlier later before after result

@@ -1,5 +1,5 @@
 -- Quotes and pieces as the code has them.
-use Rattle.std.specs.Prelude.{◌≡◌, ℕ, ◌<◌, ◌≤◌, Bool, true, false, not, ◌&&◌, ◌||◌, ◌==◌, nat_le, nat_lt, List, length, take, drop, get_or}
+use Rattle.std.specs.Prelude.{◌≡◌, ℕ, ◌<◌, ◌≤◌, Bool, true, false, not, ◌&&◌, ◌||◌, ◌==◌, nat_le, nat_lt, List, take, drop}
 use Rattle.ion_value.specs.Digits.{first_is, all_are}
 use Rattle.ion_text_in.specs.declared.quoted.Quote.{Quote as CodeQuote}
 use Rattle.ion_text_in.specs.declared.quoted.Quote.TheVariants as code
@@ -35,14 +35,6 @@ abbrev pub IsWithin : ℕ → Scanned ℕ → Type 0
 IsWithin limit (Whole plain taken) = (plain ≤ limit) × (plain < taken)
 IsWithin limit (Fault reason) = Unit {0}
 IsWithin limit Cut = Unit {0}
-
--- so many bytes of a text are ASCII and plain, and the quote stands behind them
-pub record IsAsciiText (quote : CodeQuote) (bytes : List ℕ) (n : ℕ) : Type 0 where
-  pub within : n < length bytes
-  pub plain : all_are (is_plain_byte (quote_of quote)) (take n bytes) ≡ true
-  pub ascii : all_are (λ b. nat_lt b 128) (take n bytes) ≡ true
-  pub closed : get_or bytes n 0 ≡ mark_of quote
-  pub short : (quote_of quote).is_long ≡ false
 
 -- plain bytes end in a slice, or at a byte in it, before the quote stands there
 pub record StopsBefore (quote : CodeQuote) (bytes : List ℕ) : Type 0 where

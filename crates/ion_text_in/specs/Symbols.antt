@@ -5,7 +5,7 @@ use Rattle.ion_value.specs.declared.item.Annotation.{Annotation}
 use Rattle.ion_value.specs.declared.item.Annotation.TheVariants as annotation
 use Rattle.ion_value.specs.Items.{raw_annotation}
 use Rattle.ion_value.specs.Value.{SymbolAt}
-use Rattle.ion_text_in.specs.declared.symbol.FieldName.{FieldName}
+use Rattle.ion_text_in.specs.declared.token.FieldName.{FieldName}
 use Rattle.ion_text_in.specs.declared.token.Symbol.{Symbol}
 use Rattle.ion_text_in.specs.declared.token.Symbol.TheVariants as symbol
 use Rattle.ion_text_in.specs.declared.token.Token.{Token}

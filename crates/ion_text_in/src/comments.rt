@@ -1,6 +1,6 @@
 //! White space and comments that end within a slice.
-ghost use Rattle.std.specs.Prelude.{◌≡◌, ◌<◌, ℕ, length};
-ghost use Rattle.ion_text_in.specs.Blanks.{blanks_at, in_block, in_line};
+ghost use Rattle.std.specs.Prelude.{◌<◌, ℕ, length};
+ghost use Rattle.ion_text_in.specs.Blanks.{blanks_at, in_block};
 ghost use Rattle.ion_text_in.specs.Feeding.{LeadsTo, PassesBlanks};
 
 use crate::blank::{run_without, white_run};
@@ -55,24 +55,17 @@ fn behind_comment(bytes: &[u8]) -> &[u8]
         return &[];
     }
     if bytes[1] == b'/' {
-        return behind_line(behind(2, bytes));
+        let line = behind(2, bytes);
+        let end = run_without(b'\n', b'\r', line);
+        if end == line.len() {
+            return &[];
+        }
+        return behind(end + 1, line);
     }
     if bytes[1] == b'*' {
         return behind_block(behind(2, bytes));
     }
     &[]
-}
-
-// Behind the end of the line; nothing where the bytes show none.
-#[inline(always)]
-fn behind_line(bytes: &[u8]) -> &[u8]
-    ensures { 0 < length result.now → LeadsTo in_line blanks_at bytes.now result.now }
-{
-    let end = run_without(b'\n', b'\r', bytes);
-    if end == bytes.len() {
-        return &[];
-    }
-    behind(end + 1, bytes)
 }
 
 // Behind the star and the slash that end a block; nothing where the bytes show none.

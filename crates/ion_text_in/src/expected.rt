@@ -21,7 +21,6 @@ pub(crate) enum Expected {
     Separator,
 }
 
-// Whether two kinds are one.
 #[inline]
 pub(crate) fn is_same(one: Kind, other: Kind) -> bool
     ensures { result ≡ reading.is_same one other }
@@ -70,10 +69,7 @@ pub(crate) fn expected_in(separator: bool, kind: Kind) -> Expected
 pub(crate) fn is_separated(kind: Kind) -> bool
     ensures { result ≡ is_separated kind }
 {
-    match kind {
-        Kind::List | Kind::Struct => true,
-        Kind::Sexp => false,
-    }
+    !matches!(kind, Kind::Sexp)
 }
 
 // The kind of container in which members stand so.
@@ -81,10 +77,7 @@ pub(crate) fn is_separated(kind: Kind) -> bool
 pub(crate) fn member_kind(inner: Option<Kind>) -> Kind
     ensures { (opened : List kinds.Kind) → innermost opened ≡ inner → kind_in opened ≡ result }
 {
-    match inner {
-        Some(kind) => kind,
-        None => Kind::Sexp,
-    }
+    inner.unwrap_or(Kind::Sexp)
 }
 
 // Where a member of the innermost container, if any, may begin.
@@ -120,43 +113,25 @@ pub(crate) fn may_come(expected: Expected, first: First) -> bool
     ensures { (field : Option SymbolAt) (annotations : List SymbolAt)
         → result ≡ reading.may_come (wanted expected field annotations) (first_of first) }
 {
-    match expected {
-        Expected::Value => true,
-        Expected::Field => is_punctuation(first) || names_field(first),
-        Expected::Separator => is_punctuation(first),
-    }
-}
-
-// Whether a token that so begins is punctuation, or none.
-#[inline]
-fn is_punctuation(first: First) -> bool
-    ensures { result ≡ reading.is_punctuation (first_of first) }
-{
-    match first {
-        First::Number
-        | First::Word
-        | First::QuotedSymbol
-        | First::String
-        | First::LongString
-        | First::Lob
-        | First::Operator
-        | First::Infinity => false,
+    match (expected, first) {
+        (Expected::Value, _) => true,
+        (Expected::Field, First::Word | First::QuotedSymbol | First::String | First::LongString) =>
+            true,
+        (
+            _,
+            First::Number
+            | First::Word
+            | First::QuotedSymbol
+            | First::String
+            | First::LongString
+            | First::Lob
+            | First::Operator
+            | First::Infinity,
+        ) => false,
         _ => true,
     }
 }
 
-// Whether a token that so begins may name a field.
-#[inline]
-fn names_field(first: First) -> bool
-    ensures { result ≡ reading.names_field (first_of first) }
-{
-    match first {
-        First::Word | First::QuotedSymbol | First::String | First::LongString => true,
-        _ => false,
-    }
-}
-
-// Whether two colons come.
 #[inline]
 pub(crate) fn is_colons(found: Option<First>) -> bool
     ensures some { result ≡ true → found ≡ Some First.Colons }

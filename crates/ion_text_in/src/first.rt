@@ -1,9 +1,8 @@
 //! Which kind of token begins at a place (Ion specification, "Text Encoding").
-ghost use Rattle.std.specs.Prelude.{◌≡◌, ◌≢◌, ℕ, List, [], ◌+◌, ◌++◌, ◌∷◌, ◌<◌, ◌≤◌, length, slice_index, Bool, true, false, Ok, Err, ◌⊎◌, if◌then◌else◌, IfOk, IfSome, IsSome, MatchOption};
+ghost use Rattle.std.specs.Prelude.{◌≡◌, ◌≢◌, ℕ, List, [], ◌+◌, ◌++◌, ◌∷◌, ◌<◌, ◌≤◌, length, slice_index, Bool, true, false, Ok, Err, ◌⊎◌, IfOk, IfSome, IsSome, MatchOption};
 ghost use Rattle.ion_meter.specs.Sources.{cursor, Stands};
 ghost use Rattle.ion_meter.specs.Windows.{lent};
 ghost use Rattle.ion_value.specs.Calls.{Reads};
-ghost use Rattle.ion_value.specs.Digits.{first_is, is_digit};
 ghost use Rattle.ion_text_in.specs.Firsts.{first_of, is_inf, is_told_alone, numbered, width, IsAhead};
 ghost use Rattle.ion_text_in.specs.Blanks.{blanks};
 ghost use Rattle.ion_text_in.specs.Meaning.{at};
@@ -99,6 +98,7 @@ pub(crate) fn scan_first(in_sexp: bool, bytes: &[u8]) -> Option<First>
 
 /// The number of the kind of token that begins at the front of these bytes, where the first of them
 /// tells it, or the first two; or 0.
+#[tactic(auto, unfolding(crate::specs::Token::first_at, crate::specs::Blanks::blanks_at))]
 #[inline(always)]
 pub(crate) fn told_first(bytes: &[u8]) -> u64
     ensures some { 0 < result → 1 ≤ length bytes.now }
@@ -107,35 +107,15 @@ pub(crate) fn told_first(bytes: &[u8]) -> u64
     ensures tells { 0 < result → (in_sexp : Bool) (more : List ℕ)
         → first_at in_sexp (bytes.now ++ more) ≡ numbered result }
 {
-    match bytes {
-        [] => 0,
-        [byte, ..] => {
-            let told = FIRST_BYTES[*byte as usize] as u64;
-            if told > 0 {
-                return told;
-            }
-            told_by_two(bytes)
-        }
+    let [byte, ..] = bytes else {
+        return 0;
+    };
+    let told = FIRST_BYTES[*byte as usize] as u64;
+    if told > 0 {
+        return told;
     }
-}
-
-// The number of a struct's beginning, or of a negative number, where two bytes tell it.
-#[tactic(auto, unfolding(crate::specs::Token::first_at, crate::specs::Blanks::blanks_at))]
-#[inline(always)]
-fn told_by_two(bytes: &[u8]) -> u64
-    ensures some { 0 < result → 1 ≤ length bytes.now }
-    ensures bare { 0 < result → (place : ℕ) (more : List ℕ)
-        → blanks (at place (bytes.now ++ more)) ≡ Ok (at place (bytes.now ++ more)) }
-    ensures tells { 0 < result → (in_sexp : Bool) (more : List ℕ)
-        → first_at in_sexp (bytes.now ++ more) ≡ numbered result }
-{
     match bytes {
-        [b'{', next, ..] => {
-            if *next == b'{' {
-                return 0;
-            }
-            10
-        }
+        [b'{', next, ..] if *next != b'{' => 10,
         [b'-', b'0'..=b'9', ..] => 2,
         _ => 0,
     }
@@ -242,22 +222,14 @@ fn sign(in_sexp: bool, sign: u8, others: &[u8]) -> Option<First>
     ensures wide { IfSome result (λ f. width (first_of f) ≤ 1 + length others.now) }
     ensures known { 4 ≤ length others.now → IsSome result }
 {
-    if sign == b'-' && begins_digit(others) {
+    if sign == b'-' && matches!(others, [b'0'..=b'9', ..]) {
         return Some(First::Number);
     }
-    match is_infinity(others) {
-        None => None,
-        Some(true) => Some(First::Infinity),
-        Some(false) => Some(operator(in_sexp)),
+    match is_infinity(others)? {
+        true => Some(First::Infinity),
+        false if in_sexp => Some(First::Operator),
+        false => Some(First::Nothing),
     }
-}
-
-// Whether these bytes begin with a digit.
-#[inline(always)]
-fn begins_digit(bytes: &[u8]) -> bool
-    ensures { result ≡ first_is is_digit bytes.now }
-{
-    matches!(bytes, [b'0'..=b'9', ..])
 }
 
 // Whether `inf` stands behind a sign, and no identifier goes on behind it.
@@ -272,18 +244,6 @@ fn is_infinity(others: &[u8]) -> Option<bool>
         [] | [b'i'] | [b'i', b'n'] | [b'i', b'n', b'f'] => None,
         [b'i', b'n', b'f', next, ..] => Some(!is_identifier_byte(*next)),
         _ => Some(false),
-    }
-}
-
-// An operator where it may stand.
-#[inline(always)]
-fn operator(in_sexp: bool) -> First
-    ensures { result ≡ (if in_sexp then First.Operator else First.Nothing) }
-{
-    if in_sexp {
-        First::Operator
-    } else {
-        First::Nothing
     }
 }
 

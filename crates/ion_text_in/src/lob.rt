@@ -9,14 +9,15 @@ ghost use Rattle.ion_value.specs.Calls.{AnswersBy, CanRead, Reads, ReadsInto, pa
 ghost use Rattle.ion_value.specs.Shares.{GrowsWithin};
 ghost use Rattle.ion_text_in.specs.Lob.{are_cut_quotes, closed_at, group_of, lob_in};
 ghost use Rattle.ion_text_in.specs.Gathered.{CanGather, Continues, Gathers};
-ghost use Rattle.ion_text_in.specs.Lobs.{with_groups_behind, blob_from, closed_behind, lob_of, opened};
+ghost use Rattle.ion_text_in.specs.Lobs.{with_groups_behind, blob_from, closed_behind, TakesGroups};
 ghost use Rattle.ion_text_in.specs.Scanning.{groups};
 ghost use Rattle.ion_text_in.specs.Token.{a_lob, plain, token_of};
+ghost use Rattle.ion_text_in.specs.Tokens.{as_scalar, BodyInRange};
 
 use crate::blank::pass_white;
 use crate::quoted::Quote;
-use crate::segment::put;
-use crate::text::{next_long_text, next_short_text, pass_quotes};
+use crate::text::{next_long_text, next_short_text, pass_quotes, put};
+use crate::token::Body;
 use base64::engine::general_purpose::STANDARD;
 use ion_meter::buf::Buf;
 use ion_meter::device::Input;
@@ -25,26 +26,6 @@ use ion_meter::limits::Limits;
 use ion_meter::meter::Meter;
 use ion_meter::source::Source;
 use std::alloc::Allocator;
-
-/// A kind of lob.
-#[derive(Clone, Copy)]
-pub(crate) enum Lob {
-    /// A clob.
-    Clob,
-    /// A blob.
-    Blob,
-}
-
-// What opens the text of a clob.
-#[derive(Clone, Copy)]
-pub(crate) enum Opening {
-    // A double quote.
-    Short,
-    // Three single quotes.
-    Long,
-    // Nothing: it is a blob.
-    None,
-}
 
 /// Reads a lob, at whose two opening braces the source stands, and puts its bytes into `text`.
 ///
@@ -56,11 +37,12 @@ pub(crate) fn next_lob<I: Input, A: Allocator + Copy>(
     text: &mut Buf<A>,
     limits: Limits,
     meter: &mut Meter<A>,
-) -> Result<Lob, Fault>
+) -> Result<Body, Fault>
     requires can_read { CanRead limits limits.scalar source.old text.old meter.old }
     requires braces { IsGiven source.old 1 }
-    ensures gives { AnswersBy I.Input (λ lob. plain (lob_of lob text.new)) source.old source.new
-        source.old.place result (token_of (Some limits.scalar) a_lob) }
+    ensures gives { AnswersBy I.Input (λ lob. plain (as_scalar text.new source.old.place lob))
+        source.old source.new source.old.place result (token_of (Some limits.scalar) a_lob) }
+    ensures range { IfOk result BodyInRange }
     ensures further { 1 ≤ length (lent source.old)
         → OnOk result (source.old.place < source.new.place) }
     ensures reads { ReadsInto I.Input source.old source.new meter.old meter.new
@@ -71,69 +53,43 @@ pub(crate) fn next_lob<I: Input, A: Allocator + Copy>(
     let place = source.place();
     source.consume(2);
     pass_white(source)?;
-    let opening = pass_opening(source)?;
-    next_opened(source, text, opening, place, limits, meter)
+    next_opened(source, text, place, limits, meter)
 }
 
-// Passes over the quotes that open the text of a clob.
-fn pass_opening<I: Input, A: Allocator + Copy>(source: &mut Source<I, A>) -> Result<Opening, Fault>
-    requires stands { Stands source.old }
-    ensures gives { I.observable source.old.device → (limit : Option ℕ)
-        → IfOk result (λ opening. lob_in limit (cursor I.Input source.old)
-        ≡ opened opening limit (cursor I.Input source.new)) }
-    ensures plain { (r : Reason) (p : ℕ) → result ≢ Err (Fault.Refused r p) }
-    ensures reads { Reads I.Input source.old source.new result }
-{
-    match source.peek(0)? {
-        None => return Ok(Opening::None),
-        Some(b'"') => {
-            source.advance();
-            return Ok(Opening::Short);
-        }
-        Some(_) => {}
-    }
-    if pass_quotes(source)? {
-        return Ok(Opening::Long);
-    }
-    Ok(Opening::None)
-}
-
-// The text of a lob that begins at a place, behind what opens it, and what closes the lob.
+// The text of a lob that begins at a place, from behind its opening braces and white space, and what
+// closes the lob.
 fn next_opened<I: Input, A: Allocator + Copy>(
     source: &mut Source<I, A>,
     text: &mut Buf<A>,
-    opening: Opening,
     place: u64,
     limits: Limits,
     meter: &mut Meter<A>,
-) -> Result<Lob, Fault>
+) -> Result<Body, Fault>
     requires can_read { CanRead limits limits.scalar source.old text.old meter.old }
     ensures gives { I.observable source.old.device → Continues result place
-        (opened opening (Some limits.scalar) (cursor I.Input source.old))
-        (λ lob. Ok (lob_of lob text.new, cursor I.Input source.new)) }
+        (lob_in (Some limits.scalar) (cursor I.Input source.old))
+        (λ lob. Ok (as_scalar text.new place lob, cursor I.Input source.new)) }
+    ensures range { IfOk result BodyInRange }
     ensures gathers { Gathers I.Input limits source.old source.new meter.old meter.new
         text.old text.new result }
 {
-    match opening {
-        Opening::Short => {
-            next_short_text(source, text, Quote::ShortClob, place, limits, meter)?;
-            pass_white(source)?;
-            pass_braces(source, place)?;
-            Ok(Lob::Clob)
-        }
-        Opening::Long => {
-            next_long_text(source, text, Quote::LongClob, place, limits, meter)?;
-            if are_cut_quotes(source)? {
-                return Err(Fault::Refused(Reason::Truncated, place));
-            }
-            pass_braces(source, place)?;
-            Ok(Lob::Clob)
-        }
-        Opening::None => {
-            next_blob(source, text, place, limits, meter)?;
-            Ok(Lob::Blob)
-        }
+    if source.peek(0)? == Some(b'"') {
+        source.advance();
+        next_short_text(source, text, Quote::ShortClob, place, limits, meter)?;
+        pass_white(source)?;
+        pass_braces(source, place)?;
+        return Ok(Body::Clob);
     }
+    if pass_quotes(source)? {
+        next_long_text(source, text, Quote::LongClob, place, limits, meter)?;
+        if are_cut_quotes(source)? {
+            return Err(Fault::Refused(Reason::Truncated, place));
+        }
+        pass_braces(source, place)?;
+        return Ok(Body::Clob);
+    }
+    next_blob(source, text, place, limits, meter)?;
+    Ok(Body::Blob)
 }
 
 // Whether one quote or two are all that is left of the input: a further segment may begin there.
@@ -240,13 +196,7 @@ fn take_block<I: Input, A: Allocator + Copy>(
     requires few { count ≤ BLOCK }
     requires some { 0 < count }
     requires there { count ≤ length (lent source.old) }
-    ensures gives { I.observable source.old.device → IfOk result (λ found. IfSome found (λ padded.
-        with_groups_behind limits.scalar text.old false (cursor I.Input source.old)
-        ≡ with_groups_behind limits.scalar text.new padded (cursor I.Input source.new))) }
-    ensures none { result ≡ Ok None → (source.new ≡ source.old) × (text.new ≡ text.old)
-        × (meter.new ≡ meter.old) }
-    ensures plain { (r : Reason) (p : ℕ) → result ≢ Err (Fault.Refused r p) }
-    ensures gathers { Gathers I.Input limits source.old source.new meter.old meter.new
+    ensures { TakesGroups I.Input limits source.old source.new meter.old meter.new
         text.old text.new result }
 {
     if count <= LINE {
@@ -268,13 +218,7 @@ fn take_groups<I: Input, A: Allocator + Copy>(
     requires room { decoded_estimate count ≤ length room.old }
     requires some { 0 < count }
     requires there { count ≤ length (lent source.old) }
-    ensures gives { I.observable source.old.device → IfOk result (λ found. IfSome found (λ padded.
-        with_groups_behind limits.scalar text.old false (cursor I.Input source.old)
-        ≡ with_groups_behind limits.scalar text.new padded (cursor I.Input source.new))) }
-    ensures none { result ≡ Ok None → (source.new ≡ source.old) × (text.new ≡ text.old)
-        × (meter.new ≡ meter.old) }
-    ensures plain { (r : Reason) (p : ℕ) → result ≢ Err (Fault.Refused r p) }
-    ensures gathers { Gathers I.Input limits source.old source.new meter.old meter.new
+    ensures { TakesGroups I.Input limits source.old source.new meter.old meter.new
         text.old text.new result }
 {
     let Some(n) = decode(&source.buffer()[..count], room) else {
@@ -419,7 +363,12 @@ fn solid_run(bytes: &[u8]) -> usize
 {
     let mut at = 0;
     'skip: while bytes.len() - at >= STEP {
-        if !are_solid(&bytes[at..at + STEP]) {
+        let mut solid = true;
+        // No byte ends this loop, so that it can look at many of them at once.
+        for byte in &bytes[at..at + STEP] {
+            solid &= is_solid(*byte);
+        }
+        if !solid {
             break;
         }
         at += STEP;
@@ -430,17 +379,6 @@ fn solid_run(bytes: &[u8]) -> usize
         }
     }
     bytes.len()
-}
-
-// Whether none of these bytes is white space or a closing brace. No byte ends the loop, so that it
-// can look at many of them at once.
-#[inline]
-fn are_solid(bytes: &[u8]) -> bool {
-    let mut solid = true;
-    for byte in bytes {
-        solid &= is_solid(*byte);
-    }
-    solid
 }
 
 #[inline]

@@ -4,7 +4,7 @@ ghost use Rattle.std.specs.Prelude.{◌≡◌, ◌<◌, ◌≤◌, ◌||◌, ◌
 ghost use Rattle.ion_value.specs.Digits.{is_hex_digit, digit_value};
 ghost use Rattle.ion_value.specs.Name.{begins_with};
 ghost use Rattle.ion_text_in.specs.Quoted as quoted;
-ghost use Rattle.ion_text_in.specs.Quoted.{hex_behind, piece_at};
+ghost use Rattle.ion_text_in.specs.Quoted.{piece_at};
 ghost use Rattle.ion_text_in.specs.Quotes.{quote_of};
 ghost use Rattle.ion_text_in.specs.Pieces.{piece_of, HexIs, ShowsPiece, may_go_on};
 ghost use Rattle.ion_text_in.specs.Scanning.{PieceTakes};
@@ -14,9 +14,7 @@ use crate::quoted::Quote;
 /// What a piece of a text means.
 #[derive(Clone, Copy)]
 pub(crate) enum Meant {
-    /// A character, by its code.
     Char(char),
-    /// A byte.
     Byte(u8),
     /// Nothing, as an end of a line behind a backslash does.
     Nothing,
@@ -25,9 +23,7 @@ pub(crate) enum Meant {
 /// What stands at a place between quotes, with how many bytes it has.
 #[derive(Clone, Copy)]
 pub(crate) enum Piece {
-    /// A piece of the text.
     Text(Meant, usize),
-    /// The closing quotes.
     Close(usize),
     /// Nothing that may stand in a text.
     Illegal,
@@ -68,22 +64,10 @@ pub(crate) fn scan_piece(quote: Quote, bytes: &[u8]) -> Piece
     ensures takes { PieceTakes bytes.now (piece_of result) }
     ensures few { result ≡ Piece.Cut → length bytes.now < 12 }
 {
-    if may_go_on(quote, bytes) {
-        return Piece::Cut;
-    }
-    last_piece(quote, bytes)
-}
-
-// Whether bytes that follow may make another piece of the whole one that these are: a quote, two of
-// them or a CR in a long text, or a CR behind a backslash.
-#[inline]
-fn may_go_on(quote: Quote, bytes: &[u8]) -> bool
-    ensures { result ≡ may_go_on (quote_of quote) bytes.now }
-{
     match bytes {
-        [b'\'', b'\''] | [b'\''] | [13] => quote.is_long(),
-        [b'\\', 13] => true,
-        _ => false,
+        [b'\'', b'\''] | [b'\''] | [13] if quote.is_long() => Piece::Cut,
+        [b'\\', 13] => Piece::Cut,
+        _ => last_piece(quote, bytes),
     }
 }
 
@@ -94,7 +78,7 @@ pub(crate) fn last_piece(quote: Quote, bytes: &[u8]) -> Piece
     ensures { piece_of result ≡ piece_at (quote_of quote) bytes.now }
 {
     if closes(quote, bytes) {
-        return Piece::Close(quote.closer_length());
+        return Piece::Close(if quote.is_long() { 3 } else { 1 });
     }
     match bytes {
         [] => Piece::Cut,
@@ -123,19 +107,12 @@ fn raw(quote: Quote, byte: u8, behind: &[u8]) -> Piece
     if quote.is_long() && (byte == 10 || byte == 13) {
         return Piece::Text(Meant::Byte(10), line_end_length(byte, behind));
     }
-    if is_raw(quote.in_clob(), byte) {
+    let is_plain = byte >= b' ' || byte == 9 || byte == 11 || byte == 12;
+    if is_plain && (!quote.in_clob() || byte < 128) {
         Piece::Text(Meant::Byte(byte), 1)
     } else {
         Piece::Illegal
     }
-}
-
-// Whether a byte may stand for itself.
-#[inline]
-fn is_raw(in_clob: bool, byte: u8) -> bool
-    ensures { (quote : quoted.Quote) → quote.in_clob ≡ in_clob → result ≡ quoted.is_raw quote byte }
-{
-    (byte >= b' ' || byte == 9 || byte == 11 || byte == 12) && (!in_clob || byte < 128)
 }
 
 // How many bytes an end of a line has: CR and LF are one.
@@ -162,103 +139,49 @@ fn escape(in_clob: bool, bytes: &[u8]) -> Piece
             if *byte == 10 || *byte == 13 {
                 return Piece::Text(Meant::Nothing, 1 + line_end_length(*byte, behind));
             }
-            match letter(*byte) {
-                Some(meant) => Piece::Text(Meant::Byte(meant), 2),
-                None => coded(in_clob, *byte, behind),
+            let meant = LETTERS[*byte as usize];
+            if meant == NO_LETTER {
+                return coded(in_clob, *byte, behind);
             }
+            Piece::Text(Meant::Byte(meant), 2)
         }
     }
 }
 
 // Which byte each letter behind a backslash means, where it means one.
 static LETTERS: [u8; 256] = [
-    255, 255, 255, 255, 255, 255, 255, 255, 255, 255, 255, 255, 255, 255, 255, 255, 255, 255, 255,
-    255, 255, 255, 255, 255, 255, 255, 255, 255, 255, 255, 255, 255, 255, 255, 34, 255, 255, 255,
-    255, 39, 255, 255, 255, 255, 255, 255, 255, 47, 0, 255, 255, 255, 255, 255, 255, 255, 255, 255,
-    255, 255, 255, 255, 255, 63, 255, 255, 255, 255, 255, 255, 255, 255, 255, 255, 255, 255, 255,
-    255, 255, 255, 255, 255, 255, 255, 255, 255, 255, 255, 255, 255, 255, 255, 92, 255, 255, 255,
-    255, 7, 8, 255, 255, 255, 12, 255, 255, 255, 255, 255, 255, 255, 10, 255, 255, 255, 13, 255, 9,
-    255, 11, 255, 255, 255, 255, 255, 255, 255, 255, 255, 255, 255, 255, 255, 255, 255, 255, 255,
-    255, 255, 255, 255, 255, 255, 255, 255, 255, 255, 255, 255, 255, 255, 255, 255, 255, 255, 255,
-    255, 255, 255, 255, 255, 255, 255, 255, 255, 255, 255, 255, 255, 255, 255, 255, 255, 255, 255,
-    255, 255, 255, 255, 255, 255, 255, 255, 255, 255, 255, 255, 255, 255, 255, 255, 255, 255, 255,
-    255, 255, 255, 255, 255, 255, 255, 255, 255, 255, 255, 255, 255, 255, 255, 255, 255, 255, 255,
-    255, 255, 255, 255, 255, 255, 255, 255, 255, 255, 255, 255, 255, 255, 255, 255, 255, 255, 255,
-    255, 255, 255, 255, 255, 255, 255, 255, 255, 255, 255, 255, 255, 255, 255, 255, 255, 255, 255,
-    255, 255, 255, 255, 255, 255,
+    1, 1, 1, 1, 1, 1, 1, 1, 1, 1, 1, 1, 1, 1, 1, 1, 1, 1, 1, 1, 1, 1, 1, 1, 1, 1, 1, 1, 1, 1, 1, 1,
+    1, 1, 34, 1, 1, 1, 1, 39, 1, 1, 1, 1, 1, 1, 1, 47, 0, 1, 1, 1, 1, 1, 1, 1, 1, 1, 1, 1, 1, 1, 1,
+    63, 1, 1, 1, 1, 1, 1, 1, 1, 1, 1, 1, 1, 1, 1, 1, 1, 1, 1, 1, 1, 1, 1, 1, 1, 1, 1, 1, 1, 92, 1,
+    1, 1, 1, 7, 8, 1, 1, 1, 12, 1, 1, 1, 1, 1, 1, 1, 10, 1, 1, 1, 13, 1, 9, 1, 11, 1, 1, 1, 1, 1,
+    1, 1, 1, 1, 1, 1, 1, 1, 1, 1, 1, 1, 1, 1, 1, 1, 1, 1, 1, 1, 1, 1, 1, 1, 1, 1, 1, 1, 1, 1, 1, 1,
+    1, 1, 1, 1, 1, 1, 1, 1, 1, 1, 1, 1, 1, 1, 1, 1, 1, 1, 1, 1, 1, 1, 1, 1, 1, 1, 1, 1, 1, 1, 1, 1,
+    1, 1, 1, 1, 1, 1, 1, 1, 1, 1, 1, 1, 1, 1, 1, 1, 1, 1, 1, 1, 1, 1, 1, 1, 1, 1, 1, 1, 1, 1, 1, 1,
+    1, 1, 1, 1, 1, 1, 1, 1, 1, 1, 1, 1, 1, 1, 1, 1, 1, 1, 1, 1, 1, 1, 1, 1, 1, 1, 1, 1, 1, 1, 1, 1,
+    1, 1, 1, 1,
 ];
 
-// What stands there for the others.
-const NO_LETTER: u8 = 255;
+// What stands there for the others, since no letter means it.
+const NO_LETTER: u8 = 1;
 
-// The byte that a letter behind a backslash means.
-#[inline(always)]
-fn letter(byte: u8) -> Option<u8>
-    ensures { result ≡ quoted.letter byte }
-{
-    let meant = LETTERS[byte as usize];
-    if meant == NO_LETTER {
-        return None;
-    }
-    Some(meant)
-}
-
-// A character by its code, behind the letter that says how many digits this has.
+// A character by its code, behind the letter that says how many digits this has: two of a byte in a
+// clob, and else of a character, four of this or of one of a pair of surrogates, or eight.
 #[inline]
 fn coded(in_clob: bool, letter: u8, digits: &[u8]) -> Piece
     ensures { piece_of result ≡ quoted.coded in_clob letter digits.now }
 {
-    if letter == b'x' {
-        return byte_code(in_clob, digits);
-    }
-    if in_clob {
-        return Piece::Illegal;
-    }
-    match letter {
-        b'u' => short_code(digits),
-        b'U' => long_code(digits),
-        _ => Piece::Illegal,
-    }
-}
-
-// A code of two digits: of a byte in a clob, and else of a character.
-fn byte_code(in_clob: bool, digits: &[u8]) -> Piece
-    ensures { piece_of result ≡ quoted.byte_code in_clob (hex_behind 2 0 digits.now) }
-{
-    match hex_digits(2, digits) {
-        HexDigits::Number(number) => {
-            if in_clob {
-                return Piece::Text(Meant::Byte(number as u8), 4);
-            }
-            by_code(number, 4)
+    let count = match letter {
+        b'x' => 2,
+        b'u' if !in_clob => 4,
+        b'U' if !in_clob => 8,
+        _ => return Piece::Illegal,
+    };
+    match hex_digits(count, digits) {
+        HexDigits::Number(number) if in_clob => Piece::Text(Meant::Byte(number as u8), 4),
+        HexDigits::Number(number) if count == 4 && 0xd800 <= number && number <= 0xdbff => {
+            low_behind(number, &digits[4..])
         }
-        HexDigits::NoDigit => Piece::Illegal,
-        HexDigits::Cut => Piece::Cut,
-    }
-}
-
-// A code of four digits, or a pair of surrogates.
-fn short_code(digits: &[u8]) -> Piece
-    ensures { piece_of result ≡ quoted.short_code (hex_behind 4 0 digits.now) }
-{
-    match hex_digits(4, digits) {
-        HexDigits::Number(number) => {
-            if 0xd800 <= number && number <= 0xdbff {
-                return low_behind(number, &digits[4..]);
-            }
-            by_code(number, 6)
-        }
-        HexDigits::NoDigit => Piece::Illegal,
-        HexDigits::Cut => Piece::Cut,
-    }
-}
-
-// A code of eight digits.
-fn long_code(digits: &[u8]) -> Piece
-    ensures { piece_of result ≡ quoted.long_code (hex_behind 8 0 digits.now) }
-{
-    match hex_digits(8, digits) {
-        HexDigits::Number(number) => by_code(number, 10),
+        HexDigits::Number(number) => by_code(number, count + 2),
         HexDigits::NoDigit => Piece::Illegal,
         HexDigits::Cut => Piece::Cut,
     }
@@ -270,27 +193,15 @@ fn low_behind(high: u32, bytes: &[u8]) -> Piece
     ensures { piece_of result ≡ quoted.low_behind high bytes.now }
 {
     match bytes {
-        [] => Piece::Cut,
-        [b'\\'] => Piece::Cut,
-        [b'\\', b'u', digits @ ..] => low_half(high, digits),
-        _ => Piece::Illegal,
-    }
-}
-
-// The character of two surrogates, of which these are the digits of the second.
-fn low_half(high: u32, digits: &[u8]) -> Piece
-    requires { (0xD800 ≤ high) × (high ≤ 0xDBFF) }
-    ensures { piece_of result ≡ quoted.low_half high (hex_behind 4 0 digits.now) }
-{
-    match hex_digits(4, digits) {
-        HexDigits::Number(low) => {
-            if low < 0xdc00 || 0xdfff < low {
-                return Piece::Illegal;
+        [] | [b'\\'] => Piece::Cut,
+        [b'\\', b'u', digits @ ..] => match hex_digits(4, digits) {
+            HexDigits::Number(low) if 0xdc00 <= low && low <= 0xdfff => {
+                by_code(0x10000 + (high - 0xd800) * 1024 + (low - 0xdc00), 12)
             }
-            by_code(0x10000 + (high - 0xd800) * 1024 + (low - 0xdc00), 12)
-        }
-        HexDigits::NoDigit => Piece::Illegal,
-        HexDigits::Cut => Piece::Cut,
+            HexDigits::Cut => Piece::Cut,
+            _ => Piece::Illegal,
+        },
+        _ => Piece::Illegal,
     }
 }
 

@@ -1,6 +1,6 @@
 //! Ints and decimals of few digits, without underscores and bases, read in one pass
 //! (Ion specification, "Integers" and "Real Numbers").
-ghost use Rattle.std.specs.Prelude.{◌≡◌, pos, ◌-ℤ◌, ◌+◌, ◌*◌, ◌-◌, ◌^◌, ◌<◌, ◌≤◌, ◌&&◌, ◌||◌, ◌==◌, true, not, Ok, map, length, drop, take, get_or, IfSome};
+ghost use Rattle.std.specs.Prelude.{◌≡◌, pos, ◌-ℤ◌, ◌+◌, ◌*◌, ◌-◌, ◌^◌, ◌<◌, ◌≤◌, ◌&&◌, ◌||◌, ◌==◌, true, not, map, length, drop, take, get_or, IfSome};
 ghost use Rattle.std.specs.Simd.Lanes.{mask_l};
 ghost use Rattle.ion_value.specs.Digits.{all_are, first_is, is_digit};
 ghost use Rattle.ion_value.specs.Number.{signed};
@@ -9,8 +9,8 @@ ghost use Rattle.ion_text_in.specs.Overrun.{IsRun};
 ghost use Rattle.ion_text_in.specs.Quick.{as_quick, number_after, scaled, signed_int, signed_text, stops, AreSpelled, AreWhole, IsMantissa, IsQuick};
 ghost use Rattle.ion_text_in.specs.declared.scanned.Scanned.TheVariants.{Whole};
 ghost use Rattle.ion_text_in.specs.Scanners.{Shows};
-ghost use Rattle.ion_text_in.specs.Token.{a_run, bytes_of, in_run, run_token, token_of};
-ghost use Rattle.ion_text_in.specs.Views.{AreShown, as_number, number_token};
+ghost use Rattle.ion_text_in.specs.Token.{a_run, token_of};
+ghost use Rattle.ion_text_in.specs.Views.{as_number, number_token};
 
 use crate::run::stops_number;
 use ion_value::decimal::Decimal;
@@ -45,40 +45,13 @@ pub(crate) fn scan_quick(limit: u64, bytes: &[u8]) -> Option<Quick>
     ensures some { IfSome result (λ x. 0 < x.count) }
     ensures spelled { IfSome result (λ x. AreSpelled (take x.count bytes.now) x) }
 {
-    let Some(quick) = quick_number(bytes) else {
-        return None;
-    };
-    if limit < quick.count as u64 {
+    let (negative, digits) = sign(bytes);
+    let quick = quick_digits(negative, digits)?;
+    let count = quick.count + usize::from(negative);
+    if limit < count as u64 {
         return None;
     }
-    Some(quick)
-}
-
-// The int or decimal at the front of these bytes, whatever the limit.
-#[inline(always)]
-fn quick_number(bytes: &[u8]) -> Option<Quick>
-    ensures shown { IfSome result (λ x. AreShown (bytes_of in_run) bytes.now x.count) }
-    ensures gives { IfSome result (λ x. run_token (take x.count bytes.now)
-        ≡ Ok (number_token (as_quick x))) }
-    ensures range { IfSome result (λ x. InRange (as_number (as_quick x))) }
-    ensures some { IfSome result (λ x. 0 < x.count) }
-    ensures spelled { IfSome result (λ x. AreSpelled (take x.count bytes.now) x) }
-{
-    let (negative, digits) = sign(bytes);
-    let Some(quick) = quick_digits(negative, digits) else {
-        return None;
-    };
-    Some(Quick {
-        negative,
-        number: quick.number,
-        exponent: quick.exponent,
-        count: if negative {
-            quick.count + 1
-        } else {
-            quick.count
-        },
-        canonical: quick.canonical,
-    })
+    Some(Quick { count, ..quick })
 }
 
 // Whether there is a minus in front, and what stands behind it.
@@ -274,20 +247,8 @@ fn number_by(digits: &[u8]) -> u128
     ensures { result ≡ number_after 0 digits.now }
 {
     if digits.len() <= NARROW {
-        number_after(0, digits) as u128
-    } else {
-        wide_number(digits)
+        return number_after(0, digits) as u128;
     }
-}
-
-// The number that digits spell which 64 bits may not hold.
-#[inline(always)]
-fn wide_number(digits: &[u8]) -> u128
-    requires digits { all_are is_digit digits.now ≡ true }
-    requires few { length digits.now ≤ 38 }
-    requires many { 19 ≤ length digits.now }
-    ensures { result ≡ number_after 0 digits.now }
-{
     let front = number_after(0, &digits[..NARROW]);
     let rest = &digits[NARROW..];
     front as u128 * 10_u128.pow(rest.len() as u32) + number_after(0, rest) as u128
@@ -363,14 +324,6 @@ fn digit_run(bytes: &[u8]) -> usize
             return others.trailing_zeros() as usize;
         }
     }
-    many_digits(bytes)
-}
-
-// How many digits stand at the front of these bytes, block by block.
-#[inline(always)]
-fn many_digits(bytes: &[u8]) -> usize
-    ensures { IsRun is_digit bytes.now result }
-{
     let mut at = 0;
     'skip: while bytes.len() - at >= BLOCK {
         let others = no_digits(u8x16::from_slice(&bytes[at..]));

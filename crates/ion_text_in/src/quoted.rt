@@ -1,9 +1,9 @@
 //! Quotes, and the plain bytes between them (Ion specification, "Strings", "Symbols" and "Clobs").
-ghost use Rattle.std.specs.Prelude.{◌≡◌, ◌<◌, ◌≤◌, ◌↔◌, ◌&&◌, ◌||◌, ◌==◌, nat_le, not, [], ◌∷◌, true, false, Some, map, length, take, drop, IfSome, IsTrue, IsUtf8};
+ghost use Rattle.std.specs.Prelude.{◌≡◌, ◌<◌, ◌≤◌, ◌↔◌, ◌&&◌, ◌||◌, ◌==◌, nat_le, not, [], ◌∷◌, true, false, Some, map, length, take, drop, IsTrue, IsUtf8};
 ghost use Rattle.std.specs.Simd.Lanes.{mask_l};
 ghost use Rattle.ion_value.specs.Name.{is_one_of};
 ghost use Rattle.ion_value.specs.Digits.{first_is, all_are};
-ghost use Rattle.ion_text_in.specs.Quotes.{quote_of, mark_of, is_sure, IsAsciiText, IsWithin, StopsBefore};
+ghost use Rattle.ion_text_in.specs.Quotes.{quote_of, mark_of, is_sure, IsWithin, StopsBefore};
 ghost use Rattle.ion_text_in.specs.Quoted.{text_at};
 ghost use Rattle.ion_text_in.specs.Scanners.{Shows};
 ghost use Rattle.ion_text_in.specs.Scanning.{is_plain_byte};
@@ -39,14 +39,6 @@ impl Quote {
         }
     }
 
-    /// How many bytes the closing quotes have.
-    #[inline(always)]
-    pub(crate) fn closer_length(self) -> usize
-        ensures { result ≡ length (quote_of self).closer }
-    {
-        if self.is_long() { 3 } else { 1 }
-    }
-
     /// Whether there are three of it, so that lines may end in the text and segments follow.
     #[inline(always)]
     pub(crate) fn is_long(self) -> bool
@@ -55,7 +47,6 @@ impl Quote {
         matches!(self, Quote::Long | Quote::LongClob)
     }
 
-    /// Whether the text is that of a clob.
     #[inline(always)]
     pub(crate) fn in_clob(self) -> bool
         ensures { result ≡ (quote_of self).in_clob }
@@ -77,9 +68,13 @@ pub(crate) fn scan_text(quote: Quote, limit: u64, bytes: &[u8]) -> Scanned<usize
     ensures known { result ≡ Scanned.Cut → (quote_of quote).is_long ≡ false
         → StopsBefore quote bytes.now }
 {
-    match ascii_text(quote, bytes) {
-        Some(plain) if plain as u64 <= limit => return Scanned::Whole(plain, plain + 1),
-        _ => {}
+    if !quote.is_long() && bytes.len() >= BLOCK {
+        // Bytes that are plain in a clob are ASCII, so they need no test for UTF-8.
+        let suspects = suspects(quote.mark(), true, u8x32::from_slice(bytes));
+        let near = suspects.trailing_zeros() as usize;
+        if suspects != 0 && bytes[near] == quote.mark() && near as u64 <= limit {
+            return Scanned::Whole(near, near + 1);
+        }
     }
     let plain = plain_length(quote, bytes);
     if quote.is_long() || plain == bytes.len() || bytes[plain] != quote.mark() {
@@ -94,27 +89,6 @@ pub(crate) fn scan_text(quote: Quote, limit: u64, bytes: &[u8]) -> Scanned<usize
     Scanned::Whole(plain, plain + 1)
 }
 
-// How many bytes the text has, where the first block of these bytes shows its closing quote, and that
-// each byte before it is ASCII and stands for itself.
-#[inline(always)]
-fn ascii_text(quote: Quote, bytes: &[u8]) -> Option<usize>
-    ensures { IfSome result (IsAsciiText quote bytes.now) }
-{
-    if quote.is_long() || bytes.len() < BLOCK {
-        return None;
-    }
-    let suspects = suspects(quote.mark(), true, u8x32::from_slice(bytes));
-    if suspects == 0 {
-        return None;
-    }
-    let plain = suspects.trailing_zeros() as usize;
-    if bytes[plain] != quote.mark() {
-        return None;
-    }
-    Some(plain)
-}
-
-/// Whether bytes are UTF-8.
 #[inline(always)]
 pub(crate) fn is_text(bytes: &[u8]) -> bool
     ensures { IsTrue result ↔ IsUtf8 bytes.now }
@@ -142,13 +116,18 @@ pub(crate) fn plain_length(quote: Quote, bytes: &[u8]) -> usize
             at += BLOCK;
         } else {
             let next = at + suspects.trailing_zeros() as usize;
-            if !is_cleared(quote, bytes[next]) {
+            let byte = bytes[next];
+            // Of those that are suspect only bytes below the space may stand for themselves.
+            if byte >= b' ' || !is_plain_alone(quote, byte) {
                 return next;
             }
             at = next + 1;
         }
     }
-    at + few_plain(quote, &bytes[at..])
+    'few: while at < bytes.len() && is_plain_alone(quote, bytes[at]) {
+        at += 1;
+    }
+    at
 }
 
 // Which of these bytes may stand for something else than themselves: a bit for each, the lowest for
@@ -165,33 +144,6 @@ fn suspects(mark: u8, in_clob: bool, bytes: u8x32) -> u64
     let is_escape = bytes.simd_eq(u8x32::splat(b'\\'));
     let is_other = (bytes - u8x32::splat(b' ')).simd_ge(u8x32::splat(others));
     (is_mark | is_escape | is_other).to_bitmask()
-}
-
-// Whether a byte that is suspect stands for itself all the same, as only bytes below the space do.
-#[inline(always)]
-fn is_cleared(quote: Quote, byte: u8) -> bool
-    requires { is_sure (mark_of quote) (quote_of quote).in_clob byte ≡ false }
-    ensures { result ≡ is_plain_byte (quote_of quote) byte }
-{
-    if byte >= b' ' {
-        return false;
-    }
-    is_plain_alone(quote, byte)
-}
-
-// How many bytes at the front of these are plain, one after the other.
-#[inline(always)]
-fn few_plain(quote: Quote, bytes: &[u8]) -> usize
-    ensures within { result ≤ length bytes.now }
-    ensures plain { all_are (is_plain_byte (quote_of quote)) (take result bytes.now) ≡ true }
-    ensures ends { first_is (is_plain_byte (quote_of quote)) (drop result bytes.now) ≡ false }
-{
-    for (i, byte) in bytes.iter().enumerate() {
-        if !is_plain_alone(quote, *byte) {
-            return i;
-        }
-    }
-    bytes.len()
 }
 
 // Whether a byte stands for itself between such quotes, whatever follows it.

@@ -1,26 +1,30 @@
 //! The reader of texts.
-ghost use Rattle.std.specs.Prelude.{◌≡◌, ◌≢◌, ◌+◌, ◌*◌, ◌<◌, ◌≤◌, [], length, is_some, Option, None, Ok, true};
+ghost use Rattle.std.specs.Prelude.{◌≡◌, ◌≢◌, ◌+◌, ◌*◌, ◌<◌, ◌≤◌, [], length, OnOk, Option, None, Ok, true};
 ghost use Rattle.ion_meter.specs.Counts.{Counts, Shrinks};
 ghost use Rattle.ion_meter.specs.Limits.{AreChecked};
 ghost use Rattle.ion_meter.specs.Sources.{BytesAreLeft, cursor, skip, Exceeds, Stands};
 ghost use Rattle.ion_meter.specs.Windows.{left, lent};
+ghost use Rattle.ion_value.specs.Items.{raw_head};
 ghost use Rattle.ion_value.specs.Reading.{Finished};
+ghost use Rattle.ion_text_in.specs.Firsts.{first_of, width};
 ghost use Rattle.ion_text_in.specs.Positions.{innermost, in_sexp};
 ghost use Rattle.ion_text_in.specs.Reading as reading;
 ghost use Rattle.ion_text_in.specs.Reading.{reading, reading_from};
+ghost use Rattle.ion_text_in.specs.Token as tokens;
 ghost use Rattle.ion_text_in.specs.Token.{name};
-ghost use Rattle.ion_text_in.specs.Tokens.{as_symbol};
-ghost use Rattle.ion_text_in.specs.Symbols.{is_annotated, kept_text};
-ghost use Rattle.ion_text_in.specs.Steps.{annotations_in, ending, failed_of, giving, held_by, left_to, lent_by, limits_of, naming, opened_in, share_of, sound-within, source_of, taking, to_come_by, to_come_in, with_colons, without_colons, Advances, CanAdvance, CanStep, HasEnded, IsGoing, IsSized, IsSound, MayGive, StepsTo};
+ghost use Rattle.ion_text_in.specs.Tokens.{as_symbol, overrun_of, token_view, TokenInRange};
+ghost use Rattle.ion_text_in.specs.Symbols.{is_annotated, kept_text, prepaid};
+ghost use Rattle.ion_text_in.specs.Steps.{annotations_in, as_head, ending, failed_of, giving, held_by, left_to, lent_by, limits_of, naming, opened_in, part_by, share_of, sound-within, source_of, taking, to_come_by, to_come_in, with_colons, Advances, CanAdvance, CanStep, HasEnded, IsGoing, IsSized, IsSound, MayGive, StepsTo};
 
-mod lent;
-mod taking;
 mod window;
 
-use crate::expected::{Expected, behind_member, is_colons};
+use crate::expected::{
+    Expected, at_member, behind_comma, behind_member, is_colons, is_same, may_come,
+};
 use crate::first::{First, next_ahead};
-use crate::symbol::{FieldName, annotation_place, keep_text, lent_field};
-use crate::token::{Body, Symbol};
+use crate::token::{
+    Body, FieldName, Symbol, Token, keep_text, lent_field, lent_symbol, next_token,
+};
 use crate::waiting::shows_item;
 use ion_meter::buf::Buf;
 use ion_meter::device::{Input, Output};
@@ -31,7 +35,7 @@ use ion_meter::sink::Sink;
 use ion_meter::source::Source;
 use ion_meter::stack::Stack;
 use ion_value::ion_type::Kind;
-use ion_value::item::{Annotation, Annotations, Item};
+use ion_value::item::{Annotation, Annotations, Head, Item};
 use ion_value::name::{is_version, is_version_word};
 use ion_value::names::{Names, NoNames};
 use ion_value::reader::{Fed, RawReader};
@@ -42,13 +46,9 @@ use std::mem;
 /// What the item is that is lent. The bytes of a text stand beside it.
 #[derive(Clone, Copy)]
 pub(crate) enum ItemKind {
-    /// A scalar.
     Scalar(Body),
-    /// A container's beginning.
     Begin(Kind),
-    /// A container's end.
     End,
-    /// A version marker.
     Marker,
 }
 
@@ -135,19 +135,11 @@ impl<I: Input, A: Allocator + Copy> TextReader<I, A> {
         let TextReader {
             source,
             kinds,
-            expected: _,
-            field: _,
             name,
             annotations,
             texts,
             text,
-            what: _,
-            place: _,
-            top: _,
-            unfinished: _,
-            limits: _,
-            done: _,
-            failed: _,
+            ..
         } = self;
         kinds.release(meter);
         name.release(meter);
@@ -157,7 +149,6 @@ impl<I: Input, A: Allocator + Copy> TextReader<I, A> {
         source.release(meter)
     }
 
-    // The kind of the innermost open container.
     #[inline]
     fn innermost(&self) -> Option<Kind>
         ensures { result ≡ innermost (opened_in self.now) }
@@ -165,26 +156,13 @@ impl<I: Input, A: Allocator + Copy> TextReader<I, A> {
         self.kinds.as_slice().last().copied()
     }
 
-    // Whether a container is open.
-    #[inline]
-    fn is_inside(&self) -> bool
-        ensures { result ≡ is_some (innermost (opened_in self.now)) }
-    {
-        self.innermost().is_some()
-    }
-
-    // Whether annotations were read.
     #[inline]
     fn is_annotated(&self) -> bool
         ensures { result ≡ is_annotated (annotations_in self.now) }
     {
-        match self.annotations.as_slice() {
-            [] => false,
-            _ => true,
-        }
+        !self.annotations.as_slice().is_empty()
     }
 
-    // Whether the innermost open container is a sexp.
     #[inline]
     fn in_sexp(&self) -> bool
         ensures { result ≡ in_sexp (innermost (opened_in self.now)) }
@@ -198,12 +176,12 @@ impl<I: Input, A: Allocator + Copy> TextReader<I, A> {
         ensures { result ≡ reading.top_of (opened_in self.now) self.now.top
             (annotations_in self.now) place }
     {
-        if self.is_inside() {
+        if self.innermost().is_some() {
             return self.top;
         }
         match self.annotations.as_slice().first() {
             None => place,
-            Some(annotation) => annotation_place(*annotation),
+            Some(Annotation::Text { place, .. } | Annotation::Id { place, .. }) => *place,
         }
     }
 
@@ -222,27 +200,6 @@ impl<I: Input, A: Allocator + Copy> TextReader<I, A> {
         StepResult::Item
     }
 
-    // Takes a version marker, or the symbol that was read as a value.
-    fn symbol_value(
-        &mut self,
-        symbol: Symbol,
-        quoted: bool,
-        place: u64,
-        unfinished: Option<u64>,
-    ) -> Result<StepResult, Fault>
-        ensures { (m : Counts) → CanStep self.old m → self.old.expected ≡ Expected.Value
-            → StepsTo I.Input unfinished (without_colons self.old symbol quoted place) 0
-            self.old self.new m m result }
-    {
-        if !self.tells_version(symbol, quoted) {
-            return Ok(self.give(ItemKind::Scalar(Body::Symbol(symbol)), place, unfinished));
-        }
-        if !is_version_word(self.text.as_slice()) {
-            return Err(Fault::Refused(Reason::BadVersion, place));
-        }
-        Ok(self.give(ItemKind::Marker, place, unfinished))
-    }
-
     // Whether a symbol is a version's word without quotes and annotations at top level.
     #[tactic(auto, unfolding(crate::specs::Reading::tells_version))]
     #[inline]
@@ -250,7 +207,7 @@ impl<I: Input, A: Allocator + Copy> TextReader<I, A> {
         ensures { result ≡ reading.tells_version (innermost (opened_in self.now))
             (annotations_in self.now) quoted (as_symbol self.now.text symbol) }
     {
-        if quoted || self.is_inside() || self.is_annotated() {
+        if quoted || self.innermost().is_some() || self.is_annotated() {
             return false;
         }
         match symbol {
@@ -274,7 +231,13 @@ impl<I: Input, A: Allocator + Copy> TextReader<I, A> {
             (length (kept_text self.old.text symbol))
             self.old self.new meter.old meter.new result }
     {
-        if self.limits.scalar < self.annotations_cost(symbol) {
+        let before = 16 * self.annotations.as_slice().len() as u64
+            + self.texts.as_slice().len() as u64;
+        let text = match symbol {
+            Symbol::Id(_) => 0,
+            Symbol::Text => self.text.as_slice().len() as u64,
+        };
+        if self.limits.scalar < before + 16 + text {
             return Err(Fault::Refused(Reason::AnnotationLimit, place));
         }
         self.source.consume(2);
@@ -283,21 +246,6 @@ impl<I: Input, A: Allocator + Copy> TextReader<I, A> {
             return Err(fault);
         }
         Ok(StepResult::Passed)
-    }
-
-    // What the annotations cost with the symbol that was read as one more.
-    #[inline]
-    fn annotations_cost(&self, symbol: Symbol) -> u64
-        requires { IsSized self.now }
-        ensures { result ≡ 16 * length self.now.annotations + length self.now.texts
-            + (16 + length (kept_text self.now.text symbol)) }
-    {
-        let before = 16 * self.annotations.as_slice().len() as u64
-            + self.texts.as_slice().len() as u64;
-        match symbol {
-            Symbol::Id(_) => before + 16,
-            Symbol::Text => before + 16 + self.text.as_slice().len() as u64,
-        }
     }
 
     // Takes the symbol that was read where a value may stand: an annotation, a version marker or a
@@ -321,7 +269,14 @@ impl<I: Input, A: Allocator + Copy> TextReader<I, A> {
         if is_colons(ahead.first) {
             return self.annotate(symbol, place, meter);
         }
-        self.symbol_value(symbol, quoted, place, ahead.unfinished)
+        if !self.tells_version(symbol, quoted) {
+            let scalar = ItemKind::Scalar(Body::Symbol(symbol));
+            return Ok(self.give(scalar, place, ahead.unfinished));
+        }
+        if !is_version_word(self.text.as_slice()) {
+            return Err(Fault::Refused(Reason::BadVersion, place));
+        }
+        Ok(self.give(ItemKind::Marker, place, ahead.unfinished))
     }
 
     // Takes the symbol that was read as the name of a field: a colon has to follow.
@@ -357,7 +312,7 @@ impl<I: Input, A: Allocator + Copy> TextReader<I, A> {
             self.now self.now m m result }
     {
         match (self.expected, unfinished) {
-            (Expected::Value, None) if !self.is_inside() && !self.is_annotated() => {
+            (Expected::Value, None) if !self.innermost().is_some() && !self.is_annotated() => {
                 Ok(StepResult::Ended)
             }
             _ => {
@@ -380,6 +335,126 @@ impl<I: Input, A: Allocator + Copy> TextReader<I, A> {
         match ahead.first {
             Some(first) => self.part(first, meter),
             None => self.end(ahead.unfinished),
+        }
+    }
+
+    // Reads the token that so begins, and takes it.
+    #[inline(never)]
+    fn part(&mut self, first: First, meter: &mut Meter<A>) -> Result<StepResult, Fault>
+        requires can_step { CanStep self.old meter.old }
+        requires there { width (first_of first) ≤ length (lent self.old.source) }
+        ensures steps { StepsTo I.Input None (λ _. part_by I.Input self.old (first_of first)) 0
+            self.old self.new meter.old meter.new result }
+        ensures further { OnOk result (left_to self.new < left_to self.old) }
+    {
+        let place = self.source.place();
+        if !may_come(self.expected, first) {
+            return Err(Fault::Refused(Reason::BadToken, place));
+        }
+        let token = next_token(&mut self.source, &mut self.text, first, self.limits, meter)?;
+        self.take(token, place, meter)
+    }
+
+    #[tactic(auto, unfolding(crate::specs::Reading::take))]
+    #[inline(always)]
+    fn take(&mut self, token: Token, place: u64, meter: &mut Meter<A>) -> Result<StepResult, Fault>
+        requires can_step { CanStep self.old meter.old }
+        requires range { TokenInRange token }
+        ensures { StepsTo I.Input (overrun_of token)
+            (taking self.old place (token_view self.old.text place token))
+            (prepaid self.old.text token) self.old self.new meter.old meter.new result }
+    {
+        match (self.expected, token) {
+            (_, Token::End(kind)) => self.close(kind, place, meter),
+            (Expected::Separator, Token::Comma) => {
+                self.expected = behind_comma(self.innermost());
+                Ok(StepResult::Passed)
+            }
+            (Expected::Field, Token::Symbol(symbol, _)) => self.named(symbol, place),
+            (Expected::Field, Token::String(unfinished)) => match unfinished {
+                None => self.named(Symbol::Text, place),
+                Some(start) => Err(Fault::Refused(Reason::Truncated, start)),
+            },
+            (Expected::Value, Token::Plain(body)) => {
+                Ok(self.give(ItemKind::Scalar(body), place, None))
+            }
+            (Expected::Value, Token::String(start)) => {
+                Ok(self.give(ItemKind::Scalar(Body::String), place, start))
+            }
+            (Expected::Value, Token::Operator) => {
+                let operator = Body::Symbol(Symbol::Text);
+                Ok(self.give(ItemKind::Scalar(operator), place, None))
+            }
+            (Expected::Value, Token::Symbol(symbol, quoted)) => {
+                self.symbol(symbol, quoted, place, meter)
+            }
+            (Expected::Value, Token::Begin(kind)) => self.open(kind, place, meter),
+            (Expected::Value, Token::NoNumber) => Err(Fault::Refused(Reason::Float, place)),
+            _ => Err(Fault::Refused(Reason::BadToken, place)),
+        }
+    }
+
+    // Closes the innermost open container, where it is of this kind: behind a field's name and
+    // behind annotations a value has to come.
+    fn close(&mut self, kind: Kind, place: u64, meter: &mut Meter<A>) -> Result<StepResult, Fault>
+        requires { CanStep self.old meter.old }
+        ensures { StepsTo I.Input None (taking self.old place (tokens.end kind)) 0
+            self.old self.new meter.old meter.new result }
+    {
+        let Some(innermost) = self.innermost() else {
+            return Err(Fault::Refused(Reason::BadToken, place));
+        };
+        if self.field.is_some() || self.is_annotated() || !is_same(innermost, kind) {
+            return Err(Fault::Refused(Reason::BadToken, place));
+        }
+        let _closed = self.kinds.pop(meter);
+        self.what = ItemKind::End;
+        self.place = place;
+        self.expected = behind_member(self.innermost());
+        Ok(StepResult::Item)
+    }
+
+    fn open(&mut self, kind: Kind, place: u64, meter: &mut Meter<A>) -> Result<StepResult, Fault>
+        requires can_step { CanStep self.old meter.old }
+        requires value { self.old.expected ≡ Expected.Value }
+        ensures { StepsTo I.Input None (taking self.old place (tokens.begin kind)) 16
+            self.old self.new meter.old meter.new result }
+    {
+        if u64::from(self.limits.depth) <= self.kinds.as_slice().len() as u64 {
+            return Err(Fault::Refused(Reason::DepthLimit, place));
+        }
+        let top = self.top_at(place);
+        if let Err((_, fault)) = self.kinds.push(meter, kind) {
+            return Err(fault);
+        }
+        self.top = top;
+        self.what = ItemKind::Begin(kind);
+        self.place = place;
+        self.expected = at_member(kind);
+        Ok(StepResult::Item)
+    }
+
+    #[inline]
+    fn head(&self) -> Head<'_>
+        ensures { raw_head result ≡ as_head self.now.text self.now.place self.now.what }
+    {
+        match self.what {
+            ItemKind::Begin(kind) => Head::Begin(kind),
+            ItemKind::End => Head::End,
+            ItemKind::Marker => Head::Marker,
+            ItemKind::Scalar(body) => match body {
+                Body::Null(ion_type) => Head::Null(ion_type),
+                Body::Bool(truth) => Head::Bool(truth),
+                Body::Int(int) => Head::Int(int),
+                Body::Decimal(decimal) => Head::Decimal(decimal),
+                Body::Timestamp(timestamp) => Head::Timestamp(timestamp),
+                Body::Symbol(symbol) => {
+                    Head::Symbol(lent_symbol(self.text.as_slice(), symbol, self.place))
+                }
+                Body::String => Head::String(self.text.as_slice()),
+                Body::Clob => Head::Clob(self.text.as_slice()),
+                Body::Blob => Head::Blob(self.text.as_slice()),
+            },
         }
     }
 

@@ -6,7 +6,7 @@ ghost use Rattle.ion_value.specs.Name.{is_identifier_byte, is_one_of, is_operato
 ghost use Rattle.ion_text_in.specs.Blanks.{is_white};
 ghost use Rattle.ion_text_in.specs.Token.{bytes_of};
 ghost use Rattle.ion_text_in.specs.Views.{AreShown};
-ghost use Rattle.ion_text_in.specs.Runs.{goes_on, stays, is_sure_in_number, has_slashes, IsExtent, IsOpen};
+ghost use Rattle.ion_text_in.specs.Runs.{goes_on, stays, is_sure_in_number, IsExtent, IsOpen};
 
 use ion_value::name::is_identifier_byte;
 use std::simd::prelude::*;
@@ -49,17 +49,18 @@ pub(crate) fn run_extent(run: Run, bytes: &[u8]) -> Extent
 fn run_by_byte(run: Run, bytes: &[u8]) -> Extent
     ensures { IsExtent run bytes.now result }
 {
-    'bytes: for (i, byte) in bytes.iter().enumerate() {
+    'bytes: for (len, byte) in bytes.iter().enumerate() {
         if stays(run, *byte) {
             continue;
         }
-        match ends(run, &bytes[i..]) {
+        match ends(run, &bytes[len..]) {
             Some(false) => {}
-            Some(true) => return so_far(i, true),
-            None => return so_far(i, false),
+            Some(true) => return Extent { len, ended: true },
+            None => return Extent { len, ended: false },
         }
     }
-    so_far(bytes.len(), false)
+    let len = bytes.len();
+    Extent { len, ended: false }
 }
 
 /// How far a word goes on in a slice that begins behind its first byte. Most words are so short
@@ -71,7 +72,8 @@ pub(crate) fn word_run(bytes: &[u8]) -> Extent
     if bytes.len() >= 16 {
         let others = others(u8x16::from_slice(bytes));
         if others != 0 {
-            return so_far(others.trailing_zeros() as usize, true);
+            let len = others.trailing_zeros() as usize;
+            return Extent { len, ended: true };
         }
     }
     run_by_byte(Run::Word, bytes)
@@ -99,9 +101,9 @@ fn number_run(bytes: &[u8]) -> Extent
     if bytes.len() >= 32 {
         let stops = number_stops(u8x32::from_slice(bytes));
         if stops != 0 {
-            let at = stops.trailing_zeros() as usize;
-            if stops_number(bytes[at]) {
-                return so_far(at, true);
+            let len = stops.trailing_zeros() as usize;
+            if stops_number(bytes[len]) {
+                return Extent { len, ended: true };
             }
         }
     }
@@ -120,17 +122,6 @@ fn number_stops(bytes: u8x32) -> u64
     (brackets | marks | bytes.simd_lt(u8x32::splat(b'+'))).to_bitmask()
 }
 
-// So many bytes go on, and no more, where that is known.
-#[inline(always)]
-fn so_far(len: usize, ended: bool) -> Extent
-    ensures { result ≡ record {
-      len = len;
-      ended = ended;
-    } }
-{
-    Extent { len, ended }
-}
-
 /// How many bytes the token has that begins at the front of a slice, where the slice shows it.
 #[inline(always)]
 pub(crate) fn token_extent(run: Run, bytes: &[u8]) -> Option<usize>
@@ -146,24 +137,13 @@ pub(crate) fn token_extent(run: Run, bytes: &[u8]) -> Option<usize>
     Some(1 + extent.len)
 }
 
-// Which bytes end a number or a timestamp, whatever follows them.
-static NUMBER_ENDS: [u8; 256] = [
+// Classes of bytes: 1 for those that end a number or a timestamp, whatever follows them, 2 for those of
+// operators, 3 for those that begin an identifier, but for `$`, and 4 where they begin a keyword too.
+pub(crate) static CLASSES: [u8; 256] = [
     0, 0, 0, 0, 0, 0, 0, 0, 0, 1, 1, 1, 1, 1, 0, 0, 0, 0, 0, 0, 0, 0, 0, 0, 0, 0, 0, 0, 0, 0, 0, 0,
-    1, 0, 1, 0, 0, 0, 0, 1, 1, 1, 0, 0, 1, 0, 0, 0, 0, 0, 0, 0, 0, 0, 0, 0, 0, 0, 0, 0, 0, 0, 0, 0,
-    0, 0, 0, 0, 0, 0, 0, 0, 0, 0, 0, 0, 0, 0, 0, 0, 0, 0, 0, 0, 0, 0, 0, 0, 0, 0, 0, 1, 0, 1, 0, 0,
-    0, 0, 0, 0, 0, 0, 0, 0, 0, 0, 0, 0, 0, 0, 0, 0, 0, 0, 0, 0, 0, 0, 0, 0, 0, 0, 0, 1, 0, 1, 0, 0,
-    0, 0, 0, 0, 0, 0, 0, 0, 0, 0, 0, 0, 0, 0, 0, 0, 0, 0, 0, 0, 0, 0, 0, 0, 0, 0, 0, 0, 0, 0, 0, 0,
-    0, 0, 0, 0, 0, 0, 0, 0, 0, 0, 0, 0, 0, 0, 0, 0, 0, 0, 0, 0, 0, 0, 0, 0, 0, 0, 0, 0, 0, 0, 0, 0,
-    0, 0, 0, 0, 0, 0, 0, 0, 0, 0, 0, 0, 0, 0, 0, 0, 0, 0, 0, 0, 0, 0, 0, 0, 0, 0, 0, 0, 0, 0, 0, 0,
-    0, 0, 0, 0, 0, 0, 0, 0, 0, 0, 0, 0, 0, 0, 0, 0, 0, 0, 0, 0, 0, 0, 0, 0, 0, 0, 0, 0, 0, 0, 0, 0,
-];
-
-// Which bytes can stand in an operator.
-static OPERATOR_BYTES: [u8; 256] = [
-    0, 0, 0, 0, 0, 0, 0, 0, 0, 0, 0, 0, 0, 0, 0, 0, 0, 0, 0, 0, 0, 0, 0, 0, 0, 0, 0, 0, 0, 0, 0, 0,
-    0, 1, 0, 1, 0, 1, 1, 0, 0, 0, 1, 1, 0, 1, 1, 1, 0, 0, 0, 0, 0, 0, 0, 0, 0, 0, 0, 1, 1, 1, 1, 1,
-    1, 0, 0, 0, 0, 0, 0, 0, 0, 0, 0, 0, 0, 0, 0, 0, 0, 0, 0, 0, 0, 0, 0, 0, 0, 0, 0, 0, 0, 0, 1, 0,
-    1, 0, 0, 0, 0, 0, 0, 0, 0, 0, 0, 0, 0, 0, 0, 0, 0, 0, 0, 0, 0, 0, 0, 0, 0, 0, 0, 0, 1, 0, 1, 0,
+    1, 2, 1, 2, 0, 2, 2, 1, 1, 1, 2, 2, 1, 2, 2, 2, 0, 0, 0, 0, 0, 0, 0, 0, 0, 0, 0, 2, 2, 2, 2, 2,
+    2, 3, 3, 3, 3, 3, 3, 3, 3, 3, 3, 3, 3, 3, 3, 3, 3, 3, 3, 3, 3, 3, 3, 3, 3, 3, 3, 1, 0, 1, 2, 3,
+    2, 3, 3, 3, 3, 3, 4, 3, 3, 3, 3, 3, 3, 3, 4, 3, 3, 3, 3, 3, 4, 3, 3, 3, 3, 3, 3, 1, 2, 1, 2, 0,
     0, 0, 0, 0, 0, 0, 0, 0, 0, 0, 0, 0, 0, 0, 0, 0, 0, 0, 0, 0, 0, 0, 0, 0, 0, 0, 0, 0, 0, 0, 0, 0,
     0, 0, 0, 0, 0, 0, 0, 0, 0, 0, 0, 0, 0, 0, 0, 0, 0, 0, 0, 0, 0, 0, 0, 0, 0, 0, 0, 0, 0, 0, 0, 0,
     0, 0, 0, 0, 0, 0, 0, 0, 0, 0, 0, 0, 0, 0, 0, 0, 0, 0, 0, 0, 0, 0, 0, 0, 0, 0, 0, 0, 0, 0, 0, 0,
@@ -187,7 +167,7 @@ fn stays(run: Run, byte: u8) -> bool
 pub(crate) fn stops_number(byte: u8) -> bool
     ensures { result ≡ (is_one_of (codes "{}[](),\"'") byte || is_white byte) }
 {
-    NUMBER_ENDS[byte as usize] > 0
+    CLASSES[byte as usize] == 1
 }
 
 /// Whether this byte can stand in an operator.
@@ -195,15 +175,7 @@ pub(crate) fn stops_number(byte: u8) -> bool
 pub(crate) fn is_operator_byte(byte: u8) -> bool
     ensures { result ≡ is_operator_byte byte }
 {
-    OPERATOR_BYTES[byte as usize] > 0
-}
-
-// Whether a slash goes on with a token unless it begins a comment.
-#[inline(always)]
-fn has_slashes(run: Run) -> bool
-    ensures { result ≡ has_slashes run }
-{
-    !matches!(run, Run::Word)
+    CLASSES[byte as usize] == 2
 }
 
 // Whether a token ends before these bytes, of which the first does not go on whatever follows it.
@@ -215,7 +187,7 @@ fn ends(run: Run, rest: &[u8]) -> Option<bool>
 {
     match rest {
         [] => None,
-        [b'/', others @ ..] if has_slashes(run) => match others {
+        [b'/', others @ ..] if !matches!(run, Run::Word) => match others {
             [] => None,
             [next, ..] => Some(*next == b'/' || *next == b'*'),
         },

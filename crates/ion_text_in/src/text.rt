@@ -1,23 +1,22 @@
 //! Texts between quotes: strings, long strings, symbols in quotes, and the texts of clobs (Ion
 //! specification, "Strings", "Symbols" and "Clobs").
-ghost use Rattle.std.specs.Prelude.{◌≡◌, ◌≢◌, ◌+◌, ◌<◌, ◌≤◌, [], ◌∷◌, ◌*◌, ℕ, true, false, Some, Ok, Err, length, OnOk, IfOk};
-ghost use Rattle.ion_meter.specs.Windows.{left, lent, IsGiven};
+ghost use Rattle.std.specs.Prelude.{◌≡◌, ◌≢◌, ◌+◌, ◌<◌, ◌≤◌, List, [], ◌∷◌, ◌*◌, ℕ, true, false, Some, Ok, Err, length, OnOk, IfOk};
+ghost use Rattle.ion_meter.specs.Windows.{left, lent};
 ghost use Rattle.ion_meter.specs.Sources.{skip, cursor, Stands};
-ghost use Rattle.ion_value.specs.Calls.{AnswersBy, CanRead, Reads, ReadsInto, passed_over};
+ghost use Rattle.ion_meter.specs.Sources.{Reads as Looks};
+ghost use Rattle.ion_value.specs.Calls.{CanRead, Reads, passed_over};
 ghost use Rattle.ion_value.specs.Name.{begins_with};
-ghost use Rattle.ion_value.specs.Value as value;
-ghost use Rattle.ion_value.specs.Shares.{GrowsWithin};
 ghost use Rattle.ion_text_in.specs.Overrun.{overrun};
-ghost use Rattle.ion_text_in.specs.Token as tokens;
-ghost use Rattle.ion_text_in.specs.Token.{token_of};
-ghost use Rattle.ion_text_in.specs.Quoted.{text_at};
+ghost use Rattle.ion_text_in.specs.Quoted.{piece_at, text_at};
 ghost use Rattle.ion_text_in.specs.Quotes.{quote_of};
-ghost use Rattle.ion_text_in.specs.Gathered.{Continues, Gathers, passed, Overruns};
+ghost use Rattle.ion_text_in.specs.Pieces.{piece_of, bytes_of, behind_piece, Advances};
+ghost use Rattle.ion_text_in.specs.Scanning.{PieceTakes};
+ghost use Rattle.ion_text_in.specs.Gathered.{CanGather, CanGrow, Continues, Gathers, Puts, onward, passed, with_segment, Overruns};
 
 use crate::blank::{pass_blanks, pass_white};
-use crate::quoted::{Quote, scan_text};
+use crate::piece::{Meant, Piece, last_piece, quick_piece, scan_piece};
+use crate::quoted::{Quote, is_text, plain_length, scan_text};
 use crate::scanned::Scanned;
-use crate::segment::next_segment;
 use ion_meter::buf::Buf;
 use ion_meter::device::Input;
 use ion_meter::fault::{Fault, Reason};
@@ -25,89 +24,6 @@ use ion_meter::limits::Limits;
 use ion_meter::meter::Meter;
 use ion_meter::source::Source;
 use std::alloc::Allocator;
-
-/// Reads a symbol in quotes, at whose opening quote the source stands, into `text`.
-///
-/// Faults stand at the quote: `Truncated`, `ScalarLimit` and `BadText`.
-#[inline(always)]
-pub(crate) fn next_quoted_symbol<I: Input, A: Allocator + Copy>(
-    source: &mut Source<I, A>,
-    text: &mut Buf<A>,
-    limits: Limits,
-    meter: &mut Meter<A>,
-) -> Result<(), Fault>
-    requires can_read { CanRead limits limits.scalar source.old text.old meter.old }
-    requires given { IsGiven source.old 0 }
-    ensures gives { AnswersBy I.Input (λ _. tokens.name true (value.Text text.new))
-        source.old source.new source.old.place result
-        (token_of (Some limits.scalar) tokens.a_quoted) }
-    ensures further { 1 ≤ length (lent source.old)
-        → OnOk result (source.old.place < source.new.place) }
-    ensures reads { ReadsInto I.Input source.old source.new meter.old meter.new
-        (length text.old) (length text.new) limits.scalar result }
-    ensures goes { GrowsWithin meter.old meter.new (length text.old) (length text.new)
-        (8 * passed_over source.old source.new) }
-    ensures fresh { OnOk result (length text.new ≤ 8 * passed_over source.old source.new) }
-{
-    let place = source.place();
-    source.advance();
-    next_short_text(source, text, Quote::Symbol, place, limits, meter)
-}
-
-/// Reads a short string, at whose opening quote the source stands, into `text`.
-///
-/// Faults stand at the quote: `Truncated`, `ScalarLimit` and `BadText`.
-#[inline(always)]
-pub(crate) fn next_short_string<I: Input, A: Allocator + Copy>(
-    source: &mut Source<I, A>,
-    text: &mut Buf<A>,
-    limits: Limits,
-    meter: &mut Meter<A>,
-) -> Result<(), Fault>
-    requires can_read { CanRead limits limits.scalar source.old text.old meter.old }
-    requires given { IsGiven source.old 0 }
-    ensures gives { AnswersBy I.Input (λ _. tokens.text text.new)
-        source.old source.new source.old.place result
-        (token_of (Some limits.scalar) tokens.a_short) }
-    ensures further { 1 ≤ length (lent source.old)
-        → OnOk result (source.old.place < source.new.place) }
-    ensures reads { ReadsInto I.Input source.old source.new meter.old meter.new
-        (length text.old) (length text.new) limits.scalar result }
-    ensures goes { GrowsWithin meter.old meter.new (length text.old) (length text.new)
-        (8 * passed_over source.old source.new) }
-{
-    let place = source.place();
-    source.advance();
-    next_short_text(source, text, Quote::Short, place, limits, meter)
-}
-
-/// Reads a long string, at whose three opening quotes the source stands, into `text`, and passes
-/// over the blanks behind it, to see whether a segment follows.
-///
-/// `Some` is the place where a comment behind the string begins that does not end. Faults stand at
-/// the first quote: `Truncated`, `ScalarLimit` and `BadText`.
-pub(crate) fn next_long_string<I: Input, A: Allocator + Copy>(
-    source: &mut Source<I, A>,
-    text: &mut Buf<A>,
-    limits: Limits,
-    meter: &mut Meter<A>,
-) -> Result<Option<u64>, Fault>
-    requires can_read { CanRead limits limits.scalar source.old text.old meter.old }
-    requires given { IsGiven source.old 2 }
-    ensures gives { I.observable source.old.device → Overruns false (tokens.text text.new) result
-        (cursor I.Input source.new) source.old.place
-        (token_of (Some limits.scalar) tokens.a_long (cursor I.Input source.old)) }
-    ensures further { 1 ≤ length (lent source.old)
-        → OnOk result (source.old.place < source.new.place) }
-    ensures reads { ReadsInto I.Input source.old source.new meter.old meter.new
-        (length text.old) (length text.new) limits.scalar result }
-    ensures goes { GrowsWithin meter.old meter.new (length text.old) (length text.new)
-        (8 * passed_over source.old source.new) }
-{
-    let place = source.place();
-    source.consume(3);
-    next_long_text(source, text, Quote::Long, place, limits, meter)
-}
 
 /// Reads a text that is not long from behind its opening quote into `text`.
 ///
@@ -209,15 +125,199 @@ pub(crate) fn pass_quotes<I: Input, A: Allocator + Copy>(
     ensures plain { (r : Reason) (p : ℕ) → result ≢ Err (Fault.Refused r p) }
     ensures reads { Reads I.Input source.old source.new result }
 {
-    if source.peek(0)? != Some(b'\'') {
-        return Ok(false);
-    }
-    if source.peek(1)? != Some(b'\'') {
-        return Ok(false);
-    }
-    if source.peek(2)? != Some(b'\'') {
+    if source.peek(0)? != Some(b'\'')
+        || source.peek(1)? != Some(b'\'')
+        || source.peek(2)? != Some(b'\'')
+    {
         return Ok(false);
     }
     source.consume(3);
     Ok(true)
+}
+
+/// Reads a segment from behind its opening quotes to behind the closing ones, and puts the bytes
+/// that it spells behind those that stand in `text`.
+///
+/// Answers faults at `place`: `Truncated` where the input ends before the segment does,
+/// `ScalarLimit` before `text` grows above `Limits::scalar`, `BadText`, or `BadLob` in a clob, for
+/// what may not stand in a text, and `BadText` for a segment that is no UTF-8, but in a clob.
+#[inline(never)]
+pub(crate) fn next_segment<I: Input, A: Allocator + Copy>(
+    source: &mut Source<I, A>,
+    text: &mut Buf<A>,
+    quote: Quote,
+    place: u64,
+    limits: Limits,
+    meter: &mut Meter<A>,
+) -> Result<(), Fault>
+    requires can_gather { CanGather limits source.old text.old meter.old }
+    ensures gives { I.observable source.old.device → Continues result place
+        (with_segment (quote_of quote) limits.scalar text.old (cursor I.Input source.old))
+        (λ _. Ok (text.new, cursor I.Input source.new)) }
+    ensures further { OnOk result (source.old.place < source.new.place) }
+    ensures gathers { Gathers I.Input limits source.old source.new meter.old meter.new
+        text.old text.new result }
+{
+    let start = text.as_slice().len();
+    gather_pieces(source, text, quote, place, limits, meter)?;
+    if !quote.in_clob() && !is_text(&text.as_slice()[start..]) {
+        return Err(Fault::Refused(Reason::BadText, place));
+    }
+    Ok(())
+}
+
+// Reads the pieces of a segment up to and with its closing quotes.
+fn gather_pieces<I: Input, A: Allocator + Copy>(
+    source: &mut Source<I, A>,
+    text: &mut Buf<A>,
+    quote: Quote,
+    place: u64,
+    limits: Limits,
+    meter: &mut Meter<A>,
+) -> Result<(), Fault>
+    requires can_gather { CanGather limits source.old text.old meter.old }
+    ensures gives { I.observable source.old.device → Continues result place
+        (onward (quote_of quote) limits.scalar text.old (cursor I.Input source.old))
+        (λ _. Ok (text.new, cursor I.Input source.new)) }
+    ensures further { OnOk result (source.old.place < source.new.place) }
+    ensures longer { OnOk result (length text.old ≤ length text.new) }
+    ensures gathers { Gathers I.Input limits source.old source.new meter.old meter.new
+        text.old text.new result }
+{
+    'pieces: loop {
+        take_plain(source, text, quote, place, limits, meter)?;
+        match next_piece(source, quote)? {
+            Piece::Text(meant, _) => put_meant(text, meant, place, limits, meter)?,
+            Piece::Close(_) => return Ok(()),
+            Piece::Illegal if quote.in_clob() => {
+                return Err(Fault::Refused(Reason::BadLob, place));
+            }
+            Piece::Illegal => return Err(Fault::Refused(Reason::BadText, place)),
+            Piece::Cut => return Err(Fault::Refused(Reason::Truncated, place)),
+        }
+    }
+}
+
+// Takes the plain bytes that stand in the window.
+#[inline]
+fn take_plain<I: Input, A: Allocator + Copy>(
+    source: &mut Source<I, A>,
+    text: &mut Buf<A>,
+    quote: Quote,
+    place: u64,
+    limits: Limits,
+    meter: &mut Meter<A>,
+) -> Result<(), Fault>
+    requires can_gather { CanGather limits source.old text.old meter.old }
+    ensures gives { I.observable source.old.device → Continues result place
+        (onward (quote_of quote) limits.scalar text.old (cursor I.Input source.old))
+        (λ _. onward (quote_of quote) limits.scalar text.new (cursor I.Input source.new)) }
+    ensures longer { OnOk result (length text.old ≤ length text.new) }
+    ensures gathers { Gathers I.Input limits source.old source.new meter.old meter.new
+        text.old text.new result }
+{
+    let bytes = source.buffer();
+    let plain = plain_length(quote, bytes);
+    put(text, &bytes[..plain], place, limits, meter)?;
+    source.consume(plain);
+    Ok(())
+}
+
+#[inline]
+pub(crate) fn put<A: Allocator + Copy>(
+    text: &mut Buf<A>,
+    bytes: &[u8],
+    place: u64,
+    limits: Limits,
+    meter: &mut Meter<A>,
+) -> Result<(), Fault>
+    requires can_grow { CanGrow limits text.old meter.old }
+    ensures { Puts limits meter.old meter.new text.old text.new bytes.now place result }
+{
+    if limits.scalar - (text.as_slice().len() as u64) < bytes.len() as u64 {
+        return Err(Fault::Refused(Reason::ScalarLimit, place));
+    }
+    text.extend(meter, bytes)
+}
+
+// Puts what a piece means behind a text.
+#[inline]
+fn put_meant<A: Allocator + Copy>(
+    text: &mut Buf<A>,
+    meant: Meant,
+    place: u64,
+    limits: Limits,
+    meter: &mut Meter<A>,
+) -> Result<(), Fault>
+    requires can_grow { CanGrow limits text.old meter.old }
+    ensures { Puts limits meter.old meter.new text.old text.new (bytes_of meant) place result }
+{
+    match meant {
+        Meant::Char(character) => {
+            let mut room = [0; 4];
+            let bytes = character.encode_utf8(&mut room).as_bytes();
+            put(text, bytes, place, limits, meter)
+        }
+        Meant::Byte(byte) => {
+            if limits.scalar <= text.as_slice().len() as u64 {
+                return Err(Fault::Refused(Reason::ScalarLimit, place));
+            }
+            text.push(meter, byte)
+        }
+        Meant::Nothing => Ok(()),
+    }
+}
+
+// Passes over the piece at the present place, unless it is `Illegal` or `Cut`.
+#[inline]
+fn next_piece<I: Input, A: Allocator + Copy>(
+    source: &mut Source<I, A>,
+    quote: Quote,
+) -> Result<Piece, Fault>
+    requires stands { Stands source.old }
+    ensures gives { I.observable source.old.device → (limit : ℕ) (text : List ℕ)
+        → IfOk result (λ piece. onward (quote_of quote) limit text (cursor I.Input source.old)
+        ≡ behind_piece (quote_of quote) limit text (cursor I.Input source.new) piece) }
+    ensures further { IfOk result (Advances source.old.place source.new.place) }
+    ensures plain { (r : Reason) (p : ℕ) → result ≢ Err (Fault.Refused r p) }
+    ensures reads { Reads I.Input source.old source.new result }
+{
+    let piece = show_piece(source, quote)?;
+    let taken = match piece {
+        Piece::Text(_, taken) | Piece::Close(taken) => taken,
+        Piece::Illegal | Piece::Cut => 0,
+    };
+    source.consume(taken);
+    Ok(piece)
+}
+
+// The piece at the present place, for which no more of the device is read than it needs.
+#[inline]
+fn show_piece<I: Input, A: Allocator + Copy>(
+    source: &mut Source<I, A>,
+    quote: Quote,
+) -> Result<Piece, Fault>
+    requires stands { Stands source.old }
+    ensures gives { I.observable source.old.device → IfOk result (λ piece.
+        piece_of piece ≡ piece_at (quote_of quote) (left I.rest source.old)) }
+    ensures takes { IfOk result (λ piece. PieceTakes (lent source.new) (piece_of piece)) }
+    ensures looks { Looks I.Input source.old source.new result }
+    ensures limit { result ≡ Err Fault.InputLimit → I.observable source.old.device
+        → source.old.limit < source.old.place + length (left I.rest source.old) }
+{
+    match quick_piece(quote, source.buffer()) {
+        Piece::Cut => {}
+        piece => return Ok(piece),
+    }
+    'more: loop {
+        let bytes = source.buffer();
+        let shown = bytes.len();
+        match scan_piece(quote, bytes) {
+            Piece::Cut => {}
+            piece => return Ok(piece),
+        }
+        let Some(_) = source.peek(shown)? else {
+            return Ok(last_piece(quote, source.buffer()));
+        };
+    }
 }

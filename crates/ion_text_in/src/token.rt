@@ -1,23 +1,24 @@
 //! Tokens, each read by the kind that its first bytes tell (Ion specification, "Text Encoding").
-ghost use Rattle.std.specs.Prelude.{◌≡◌, ◌≤◌, ◌+◌, ◌*◌, ℕ, List, None, Some, length, IfOk};
+ghost use Rattle.std.specs.Prelude.{◌≡◌, ◌<◌, ◌≤◌, ◌+◌, ◌-◌, ◌*◌, ◌^◌, ℕ, List, None, Some, length, OnErr, OnOk, IfErr, IfOk};
+ghost use Rattle.ion_meter.specs.Counts.{IsRefused};
 ghost use Rattle.ion_meter.specs.Sources.{cursor, skip, Stands};
 ghost use Rattle.ion_meter.specs.Windows.{lent, IsPassed};
 ghost use Rattle.ion_value.specs.Calls.{CanRead, passed_over};
 ghost use Rattle.ion_value.specs.Standing.{InRange};
 ghost use Rattle.ion_value.specs.Shares.{GrowsWithin};
-ghost use Rattle.ion_text_in.specs.Symbols.{prepaid, prepaid_word};
+ghost use Rattle.ion_value.specs.Items.{raw_field, symbol_at};
+ghost use Rattle.ion_text_in.specs.Positions.{at};
+ghost use Rattle.ion_text_in.specs.Symbols.{as_field, prepaid, prepaid_word, GrowsBy, IsKept};
 ghost use Rattle.ion_text_in.specs.Firsts.{first_of, width};
-ghost use Rattle.ion_text_in.specs.Token as tokens;
 ghost use Rattle.ion_text_in.specs.Token.{token_of};
-ghost use Rattle.ion_text_in.specs.Lobs.{lob_of};
-ghost use Rattle.ion_text_in.specs.Tokens.{overrun_of, token_view, ReadsToken, TokenGives, TokenInRange};
+ghost use Rattle.ion_text_in.specs.Tokens.{as_symbol, overrun_of, token_view, ReadsToken, TokenGives, TokenInRange};
 ghost use Rattle.ion_text_in.specs.Views.{as_number, number_token, word_token_of};
 
 use crate::first::First;
-use crate::lob::{Lob, next_lob};
-use crate::number::{Number, next_number};
-use crate::operator::{next_infinity, next_operator};
-use crate::text::{next_long_string, next_quoted_symbol, next_short_string};
+use crate::lob::next_lob;
+use crate::number::{Number, next_infinity, next_number, next_operator};
+use crate::quoted::Quote;
+use crate::text::{next_long_text, next_short_text};
 use crate::word::{Word, next_word};
 use ion_meter::buf::Buf;
 use ion_meter::device::Input;
@@ -28,38 +29,37 @@ use ion_meter::source::Source;
 use ion_value::decimal::Decimal;
 use ion_value::int::Int;
 use ion_value::ion_type::{IonType, Kind};
+use ion_value::item::{Annotation, Sym, SymAt};
 use ion_value::timestamp::Timestamp;
 use std::alloc::Allocator;
 
 /// A symbol. The bytes of a text stand beside it.
 #[derive(Clone, Copy)]
 pub(crate) enum Symbol {
-    /// A text.
     Text,
     /// An id, where 2^31 stands for every id above 2^31 - 1.
     Id(u32),
 }
 
+/// The name of a field, whose bytes stand beside it, and the place of its first byte.
+#[derive(Clone, Copy)]
+pub(crate) struct FieldName {
+    pub(crate) symbol: Symbol,
+    pub(crate) place: u64,
+}
+
 /// A scalar. The bytes of a symbol's text, a string, a clob or a blob stand beside it.
 #[derive(Clone, Copy)]
 pub(crate) enum Body {
-    /// The null of a type.
     Null(IonType),
-    /// A truth value.
     Bool(bool),
-    /// An int.
     Int(Int),
-    /// A decimal.
     Decimal(Decimal),
     /// A timestamp in local time.
     Timestamp(Timestamp),
-    /// A symbol.
     Symbol(Symbol),
-    /// A string.
     String,
-    /// A clob.
     Clob,
-    /// A blob.
     Blob,
 }
 
@@ -73,13 +73,10 @@ pub(crate) enum Token {
     /// A string. Behind a long one blanks were passed over: `Some` is the place where a comment
     /// begins among them that does not end.
     String(Option<u64>),
-    /// An operator.
     Operator,
     /// `nan`, `+inf` or `-inf`.
     NoNumber,
-    /// A container begins.
     Begin(Kind),
-    /// A container ends.
     End(Kind),
     /// `,`
     Comma,
@@ -112,17 +109,23 @@ pub(crate) fn next_token<I: Input, A: Allocator + Copy>(
     ensures paid { IfOk result (λ token. length text.new + prepaid text.new token
         ≤ length text.old + 16 * passed_over source.old source.new) }
 {
+    let place = source.place();
     match first {
         First::Word => Ok(word_token(next_word(source, text, limits, meter)?)),
         First::Number => Ok(number_token(next_number(source, text, limits, meter)?)),
-        First::Lob => Ok(lob_token(next_lob(source, text, limits, meter)?)),
-        First::LongString => Ok(Token::String(next_long_string(source, text, limits, meter)?)),
+        First::Lob => Ok(Token::Plain(next_lob(source, text, limits, meter)?)),
+        First::LongString => {
+            source.consume(3);
+            Ok(Token::String(next_long_text(source, text, Quote::Long, place, limits, meter)?))
+        }
         First::String => {
-            next_short_string(source, text, limits, meter)?;
+            source.advance();
+            next_short_text(source, text, Quote::Short, place, limits, meter)?;
             Ok(Token::String(None))
         }
         First::QuotedSymbol => {
-            next_quoted_symbol(source, text, limits, meter)?;
+            source.advance();
+            next_short_text(source, text, Quote::Symbol, place, limits, meter)?;
             Ok(Token::Symbol(Symbol::Text, true))
         }
         First::Operator => {
@@ -138,7 +141,7 @@ pub(crate) fn next_token<I: Input, A: Allocator + Copy>(
         First::Comma => Ok(pass(source, 1, Token::Comma)),
         First::Colon => Ok(pass(source, 1, Token::Colon)),
         First::Colons => Ok(pass(source, 2, Token::Colons)),
-        First::Nothing => Err(Fault::Refused(Reason::BadToken, source.place())),
+        First::Nothing => Err(Fault::Refused(Reason::BadToken, place)),
     }
 }
 
@@ -159,7 +162,6 @@ fn pass<I: Input, A: Allocator + Copy>(
     mark
 }
 
-// A word as a token.
 #[inline(always)]
 fn word_token(word: Word) -> Token
     ensures is { (text : List ℕ) (place : ℕ)
@@ -177,7 +179,6 @@ fn word_token(word: Word) -> Token
     }
 }
 
-// A number or a timestamp as a token.
 #[inline(always)]
 fn number_token(number: Number) -> Token
     ensures is { (text : List ℕ) (place : ℕ) → token_view text place result ≡ number_token number }
@@ -192,17 +193,58 @@ fn number_token(number: Number) -> Token
     }
 }
 
-// A lob as a token.
-#[inline(always)]
-fn lob_token(lob: Lob) -> Token
-    ensures is { (text : List ℕ) (place : ℕ)
-        → token_view text place result ≡ tokens.plain (lob_of lob text) }
-    ensures range { TokenInRange result }
-    ensures alone { overrun_of result ≡ None }
-    ensures paid { (text : List ℕ) → prepaid text result ≡ 0 }
+// Puts the text of an annotation behind those before it.
+#[inline]
+pub(crate) fn keep_text<A: Allocator + Copy>(
+    texts: &mut Buf<A>,
+    text: &[u8],
+    symbol: Symbol,
+    place: u64,
+    meter: &mut Meter<A>,
+) -> Result<Annotation, Fault>
+    requires room { meter.old.held + length text.now < 2 ^ 63 }
+    requires countable { meter.old.refused < 2 ^ 64 - 1 }
+    ensures kept { IfOk result (IsKept texts.old texts.new text.now symbol place) }
+    ensures cost { OnOk result (GrowsBy meter.old meter.new text.now symbol) }
+    ensures memory { IfErr result (λ fault. fault ≡ Fault.Memory) }
+    ensures err { OnErr result (texts.new ≡ texts.old) }
+    ensures refused { OnErr result (IsRefused meter.old meter.new) }
 {
-    match lob {
-        Lob::Clob => Token::Plain(Body::Clob),
-        Lob::Blob => Token::Plain(Body::Blob),
+    let from = texts.as_slice().len();
+    match symbol {
+        Symbol::Id(id) => Ok(Annotation::Id { id, place }),
+        Symbol::Text => {
+            texts.extend(meter, text)?;
+            let to = texts.as_slice().len();
+            Ok(Annotation::Text { from, to, place })
+        }
+    }
+}
+
+// A symbol and its place, its text being lent.
+#[inline]
+pub(crate) fn lent_symbol(text: &[u8], symbol: Symbol, place: u64) -> SymAt<'_>
+    ensures { symbol_at result ≡ at (as_symbol text.now symbol) place }
+{
+    match symbol {
+        Symbol::Text => SymAt {
+            sym: Sym::Text(text),
+            place,
+        },
+        Symbol::Id(id) => SymAt {
+            sym: Sym::Id(id),
+            place,
+        },
+    }
+}
+
+// The field of an item, its text being lent.
+#[inline]
+pub(crate) fn lent_field(name: &[u8], field: Option<FieldName>) -> Option<SymAt<'_>>
+    ensures { raw_field result ≡ as_field name.now field }
+{
+    match field {
+        None => None,
+        Some(field) => Some(lent_symbol(name, field.symbol, field.place)),
     }
 }

@@ -50,15 +50,15 @@ fn next_part(inside: Option<Kind>, bytes: &[u8]) -> Option<Part<'_>>
     match first {
         First::Comma | First::Colon => Some(Part::Passed(&bytes[1..])),
         First::Colons => Some(Part::Passed(&bytes[2..])),
-        First::Number => {
-            token_extent(Run::Number, bytes)?;
-            Some(Part::Item)
-        }
-        First::Operator => {
-            token_extent(Run::Operator, bytes)?;
-            Some(Part::Item)
-        }
-        First::Word => word_part(in_sexp, bytes),
+        First::Number => token_extent(Run::Number, bytes).and(Some(Part::Item)),
+        First::Operator => token_extent(Run::Operator, bytes).and(Some(Part::Item)),
+        First::Word => match scan_word(u64::MAX, bytes) {
+            Scanned::Cut => None,
+            Scanned::Whole(Word::Name | Word::Id(_), count) => {
+                behind_name(in_sexp, &bytes[count..])
+            }
+            _ => Some(Part::Item),
+        },
         First::QuotedSymbol => behind_name(in_sexp, behind_text(Quote::Symbol, &bytes[1..])?),
         First::String => {
             let behind = behind_text(Quote::Short, &bytes[1..])?;
@@ -67,7 +67,14 @@ fn next_part(inside: Option<Kind>, bytes: &[u8]) -> Option<Part<'_>>
                 _ => Some(Part::Item),
             }
         }
-        First::LongString => long_part(in_sexp, &bytes[3..]),
+        First::LongString => {
+            let behind = behind_text(Quote::Long, &bytes[3..])?;
+            match first_behind(in_sexp, behind)? {
+                // A further segment.
+                (First::LongString, next) => Some(Part::Passed(next)),
+                _ => behind_name(in_sexp, behind),
+            }
+        }
         First::Lob => lob_part(&bytes[2..]),
         First::Begin(_) | First::End(_) | First::Infinity | First::Nothing => Some(Part::Item),
     }
@@ -84,28 +91,6 @@ fn may_be_declaration(bytes: &[u8]) -> bool {
             _ => true,
         },
         _ => false,
-    }
-}
-
-// A word.
-fn word_part(in_sexp: bool, bytes: &[u8]) -> Option<Part<'_>>
-    ensures { IfSome result (PassesSome bytes.now) }
-{
-    match scan_word(u64::MAX, bytes) {
-        Scanned::Cut => None,
-        Scanned::Whole(Word::Name | Word::Id(_), count) => behind_name(in_sexp, &bytes[count..]),
-        _ => Some(Part::Item),
-    }
-}
-
-// A long string, from behind the opening quotes: further segments may follow it.
-fn long_part(in_sexp: bool, bytes: &[u8]) -> Option<Part<'_>>
-    ensures { IfSome result (PassesSome bytes.now) }
-{
-    let behind = behind_text(Quote::Long, bytes)?;
-    match first_behind(in_sexp, behind)? {
-        (First::LongString, next) => Some(Part::Passed(next)),
-        _ => behind_name(in_sexp, behind),
     }
 }
 
@@ -137,28 +122,12 @@ fn behind_text(quote: Quote, bytes: &[u8]) -> Option<&[u8]>
     let mut rest = bytes;
     'text: loop {
         let found = &rest[run_without(quote.mark(), b'\\', rest)..];
-        match found {
-            [] | [b'\\'] => return None,
-            [b'\\', _, others @ ..] => rest = others,
-            [_, others @ ..] => {
-                if let Some(behind) = behind_quotes(quote, found) {
-                    return Some(behind);
-                }
-                rest = others;
-            }
+        match (quote, found) {
+            (_, [] | [b'\\']) => return None,
+            (Quote::Long, [b'\'', b'\'', b'\'', behind @ ..]) => return Some(behind),
+            (_, [b'\\', _, others @ ..]) | (Quote::Long, [_, others @ ..]) => rest = others,
+            (_, [_, behind @ ..]) => return Some(behind),
         }
-    }
-}
-
-// What stands behind closing quotes at the front of some bytes.
-fn behind_quotes(quote: Quote, bytes: &[u8]) -> Option<&[u8]>
-    ensures { IfSome result (λ rest. length rest.now < length bytes.now) }
-{
-    match (quote, bytes) {
-        (Quote::Symbol, [b'\'', rest @ ..]) => Some(rest),
-        (Quote::Short, [b'"', rest @ ..]) => Some(rest),
-        (Quote::Long, [b'\'', b'\'', b'\'', rest @ ..]) => Some(rest),
-        _ => None,
     }
 }
 
@@ -166,8 +135,11 @@ fn behind_quotes(quote: Quote, bytes: &[u8]) -> Option<&[u8]>
 fn lob_part(bytes: &[u8]) -> Option<Part<'_>>
     ensures { IfSome result (PassesSome bytes.now) }
 {
-    let rest = match behind_white(bytes) {
-        [b'"', text @ ..] => behind_white(behind_text(Quote::Short, text)?),
+    let rest = match &bytes[white_run(bytes)..] {
+        [b'"', text @ ..] => {
+            let behind = behind_text(Quote::Short, text)?;
+            &behind[white_run(behind)..]
+        }
         [b'\'', ..] => return None,
         groups => &groups[run_without(b'}', b'}', groups)..],
     };
@@ -175,11 +147,4 @@ fn lob_part(bytes: &[u8]) -> Option<Part<'_>>
         [b'}', b'}', ..] => Some(Part::Item),
         _ => None,
     }
-}
-
-// What stands behind white space.
-fn behind_white(bytes: &[u8]) -> &[u8]
-    ensures { length result.now ≤ length bytes.now }
-{
-    &bytes[white_run(bytes)..]
 }

@@ -1,20 +1,20 @@
 //! Words: keywords, ids and symbols without quotes (Ion specification, "Text Encoding").
-ghost use Rattle.std.specs.Prelude.{◌≡◌, ◌&&◌, ◌||◌, ◌==◌, ◌^◌, ◌≤◌, ◌<◌, ◌*◌, codes, length, Some, None, Ok, Err, true, false, IfOk, IfSome, MatchResult, OnOk};
+ghost use Rattle.std.specs.Prelude.{◌≡◌, ◌&&◌, ◌==◌, ◌≤◌, ◌<◌, ◌*◌, codes, length, Some, None, Ok, Err, true, false, IfOk, IfSome, MatchResult, OnOk};
 ghost use Rattle.std.specs.Str.{bytes_eq};
 ghost use Rattle.ion_meter.specs.Windows.{lent};
 ghost use Rattle.ion_value.specs.Calls.{AnswersBy, CanRead, ReadsInto, passed_over};
 ghost use Rattle.ion_value.specs.Digits.{first_is};
 ghost use Rattle.ion_text_in.specs.Runs.{CanAppend};
-ghost use Rattle.ion_value.specs.Name.{begins_with, is_identifier_start, type_named};
+ghost use Rattle.ion_value.specs.Name.{type_named};
 ghost use Rattle.ion_text_in.specs.Scanners.{Shows};
 ghost use Rattle.ion_text_in.specs.Token.{a_word, token_of, word_of, word_token};
 ghost use Rattle.ion_text_in.specs.Feeding.{IfName, IsBegun, IsSimpleWord};
 ghost use Rattle.ion_value.specs.Shares.{GrowsWithin};
 ghost use Rattle.ion_text_in.specs.Symbols.{prepaid_word};
-ghost use Rattle.ion_text_in.specs.Views.{AreShown, IsWithin, id_in, is_point, may_be_keyword, shown_text, spelled, with_name, word_token_of};
+ghost use Rattle.ion_text_in.specs.Views.{AreShown, IsWithin, id_in, may_be_keyword, shown_text, spelled, with_name, word_token_of};
 
 use crate::gather::{append, copy, gather, gather_token};
-use crate::run::{Run, word_run};
+use crate::run::{CLASSES, Run, word_run};
 use crate::scanned::Scanned;
 use ion_meter::buf::Buf;
 use ion_meter::device::Input;
@@ -89,7 +89,14 @@ pub(crate) fn scan_simple(limit: u64, bytes: &[u8]) -> Scanned<Word>
     if !may_be_keyword(bytes) {
         return Scanned::Whole(Word::Name, count);
     }
-    begun_keyword(limit, count, bytes)
+    let word = &bytes[..count];
+    if has_type(word, &bytes[count..]) {
+        return typed_null(limit, bytes);
+    }
+    match keyword_or_name(word) {
+        Ok(word) => Scanned::Whole(word, count),
+        Err(_) => Scanned::Cut,
+    }
 }
 
 // How many bytes stand at the front of a slice that are a word without a type behind it, where the
@@ -101,7 +108,7 @@ fn begun_word(limit: u64, bytes: &[u8]) -> Option<usize>
     let [first, others @ ..] = bytes else {
         return None;
     };
-    if !begins_simple(*first) {
+    if CLASSES[*first as usize] < 3 {
         return None;
     }
     let extent = word_run(others);
@@ -113,24 +120,6 @@ fn begun_word(limit: u64, bytes: &[u8]) -> Option<usize>
         return None;
     }
     Some(count)
-}
-
-// What a slice shows of a word that begins as a keyword does.
-#[inline(always)]
-fn begun_keyword(limit: u64, count: usize, bytes: &[u8]) -> Scanned<Word>
-    requires begun { IsBegun limit bytes.now count }
-    ensures shows { Shows (word_token_of (shown_text bytes.now result)) bytes.now result
-        (token_of (Some limit) a_word) }
-    ensures name { IfName (IsSimpleWord limit bytes.now) result }
-{
-    let word = &bytes[..count];
-    if has_type(word, &bytes[count..]) {
-        return typed_null(limit, bytes);
-    }
-    match keyword_or_name(word) {
-        Ok(word) => Scanned::Whole(word, count),
-        Err(_) => Scanned::Cut,
-    }
 }
 
 // What a slice shows of a null with the name of a type.
@@ -147,34 +136,6 @@ fn typed_null(limit: u64, bytes: &[u8]) -> Scanned<Word>
         _ => Scanned::Cut,
     }
 }
-
-// Whether an identifier may begin with this byte that is no dollar sign.
-#[inline(always)]
-fn begins_simple(first: u8) -> bool
-    ensures { result ≡ true → (is_identifier_start first ≡ true) × ((first == 36) ≡ false) }
-{
-    STARTS[first as usize] > 0
-}
-
-// Whether a keyword may begin with this byte.
-#[inline(always)]
-fn begins_keyword(first: u8) -> bool
-    ensures { result ≡ (110 == first || 116 == first || 102 == first) }
-{
-    STARTS[first as usize] > 1
-}
-
-// Which bytes begin an identifier, but for the dollar sign; 2 for those that begin a keyword.
-static STARTS: [u8; 256] = [
-    0, 0, 0, 0, 0, 0, 0, 0, 0, 0, 0, 0, 0, 0, 0, 0, 0, 0, 0, 0, 0, 0, 0, 0, 0, 0, 0, 0, 0, 0, 0, 0,
-    0, 0, 0, 0, 0, 0, 0, 0, 0, 0, 0, 0, 0, 0, 0, 0, 0, 0, 0, 0, 0, 0, 0, 0, 0, 0, 0, 0, 0, 0, 0, 0,
-    0, 1, 1, 1, 1, 1, 1, 1, 1, 1, 1, 1, 1, 1, 1, 1, 1, 1, 1, 1, 1, 1, 1, 1, 1, 1, 1, 0, 0, 0, 0, 1,
-    0, 1, 1, 1, 1, 1, 2, 1, 1, 1, 1, 1, 1, 1, 2, 1, 1, 1, 1, 1, 2, 1, 1, 1, 1, 1, 1, 0, 0, 0, 0, 0,
-    0, 0, 0, 0, 0, 0, 0, 0, 0, 0, 0, 0, 0, 0, 0, 0, 0, 0, 0, 0, 0, 0, 0, 0, 0, 0, 0, 0, 0, 0, 0, 0,
-    0, 0, 0, 0, 0, 0, 0, 0, 0, 0, 0, 0, 0, 0, 0, 0, 0, 0, 0, 0, 0, 0, 0, 0, 0, 0, 0, 0, 0, 0, 0, 0,
-    0, 0, 0, 0, 0, 0, 0, 0, 0, 0, 0, 0, 0, 0, 0, 0, 0, 0, 0, 0, 0, 0, 0, 0, 0, 0, 0, 0, 0, 0, 0, 0,
-    0, 0, 0, 0, 0, 0, 0, 0, 0, 0, 0, 0, 0, 0, 0, 0, 0, 0, 0, 0, 0, 0, 0, 0, 0, 0, 0, 0, 0, 0, 0, 0,
-];
 
 /// The word that begins here: the bytes of a symbol are copied to `text`.
 ///
@@ -286,18 +247,11 @@ fn gather_type<I: Input, A: Allocator + Copy>(
     ensures goes { GrowsWithin meter.old meter.new (length text.old) (length text.new)
         (8 * passed_over source.old source.new) }
 {
-    if !is_point(source.peek(0)?) {
+    let Some(b'.') = source.peek(0)? else {
         return Ok(());
-    }
+    };
     append(source, text, 1, limits, place, meter)?;
     gather(source, text, Run::Word, limits, place, meter)
-}
-
-// Whether a byte is a point.
-fn is_point(next: Option<u8>) -> bool
-    ensures { result ≡ is_point next }
-{
-    matches!(next, Some(b'.'))
 }
 
 // How many bytes the word has that begins at the front of a slice, where the slice shows it.
@@ -348,10 +302,13 @@ fn word_by(word: &[u8]) -> Result<Word, Reason>
     if may_be_keyword(word) {
         return keyword_or_name(word);
     }
-    if has_dollar(word) {
-        return Ok(id_or_name(word));
+    let [b'$', digits @ ..] = word else {
+        return Ok(Word::Name);
+    };
+    match id_of(digits) {
+        Some(id) => Ok(Word::Id(id)),
+        None => Ok(Word::Name),
     }
-    Ok(Word::Name)
 }
 
 // Whether a word begins as a keyword does.
@@ -360,17 +317,9 @@ fn may_be_keyword(word: &[u8]) -> bool
     ensures { result ≡ may_be_keyword word.now }
 {
     match word {
-        [first, ..] => begins_keyword(*first),
+        [first, ..] => CLASSES[*first as usize] > 3,
         [] => false,
     }
-}
-
-// Whether a word begins with a dollar sign.
-#[inline(always)]
-fn has_dollar(word: &[u8]) -> bool
-    ensures { result ≡ first_is (λ b. b == 36) word.now }
-{
-    matches!(word, [b'$', ..])
 }
 
 // What a word is that begins as a keyword does.
@@ -384,11 +333,11 @@ fn keyword_or_name(word: &[u8]) -> Result<Word, Reason>
     if is_null(word) {
         return Ok(Word::Null(IonType::Null));
     }
-    if is_typed_null(word) {
-        let Some(ion_type) = type_named(&word[5..]) else {
-            return Err(Reason::BadToken);
+    if let [b'n', b'u', b'l', b'l', b'.', name @ ..] = word {
+        return match type_named(name) {
+            Some(ion_type) => Ok(Word::Null(ion_type)),
+            None => Err(Reason::BadToken),
         };
-        return Ok(Word::Null(ion_type));
     }
     if is_true(word) {
         return Ok(Word::Bool(true));
@@ -400,14 +349,6 @@ fn keyword_or_name(word: &[u8]) -> Result<Word, Reason>
         return Ok(Word::NoNumber);
     }
     Ok(Word::Name)
-}
-
-// Whether a word is `null` with a point, and the name of a type behind it.
-#[inline(always)]
-fn is_typed_null(word: &[u8]) -> bool
-    ensures { result ≡ begins_with (codes "null.") word.now }
-{
-    matches!(word, [b'n', b'u', b'l', b'l', b'.', ..])
 }
 
 // The type of a name.
@@ -442,18 +383,6 @@ fn type_named(name: &[u8]) -> Option<IonType>
         Some(IonType::Struct)
     } else {
         None
-    }
-}
-
-// The id or symbol of a word that begins with a dollar sign.
-#[inline(always)]
-fn id_or_name(word: &[u8]) -> Word
-    requires { first_is (λ b. b == 36) word.now ≡ true }
-    ensures { word_token word.now ≡ Ok (word_token_of word.now result) }
-{
-    match id_of(&word[1..]) {
-        Some(id) => Word::Id(id),
-        None => Word::Name,
     }
 }
 

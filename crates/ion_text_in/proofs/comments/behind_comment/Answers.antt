@@ -1,14 +1,20 @@
-use Rattle.std.proofs.Common.{ℕ, ◌≤◌, length, List, ap, arith}
+use Rattle.std.proofs.Common.{ℕ, ◌<◌, ◌≤◌, length, List, ap, subst, sym, arith}
+use Rattle.ion_text_in.specs.Blanks.{blanks_at, in_line}
+use Rattle.ion_text_in.specs.Feeding.{LeadsTo}
 use Rattle.std.proofs.lemmas.Grind.{common_steps}
 use Rattle.std.proofs.lemmas.List.{length-drop}
-use Rattle.ion_text_in.proofs.FeedComments.{leads-to-block, leads-to-line}
+use Rattle.ion_text_in.proofs.FeedComments.{leads-line, leads-to-block, leads-to-line}
 use Rattle.ion_text_in.proofs.comments.behind_comment.Goals as goal
 
 pub returns-then-bytes-eq47-clause-leads : goal.returns-then-bytes-eq47-clause-leads
 returns-then-bytes-eq47-clause-leads c some =
     let bytes = c.args.bytes.now in
+    let line = c.behind-line.result.now in
+    let end = c.run_without-end in
     let two : 2 ≤ length bytes = grind (arith, c.if-bytes-lt2.false) in
-    leads-to-line bytes c.behind.result.now c.behind_line.result.now two (grind (arith, c.if-bytes-ne47.false)) c.if-bytes-eq47.true c.behind.ensures (c.behind_line.ensures some)
+    let there : end.result < length line = grind (arith, end.ensures.within, c.if-end-line.false) in
+    leads-to-line bytes line c.behind.result.now two (grind (arith, c.if-bytes-ne47.false)) c.if-bytes-eq47.true c.behind-line.ensures
+    (subst (λ (l : List ℕ). LeadsTo in_line blanks_at line l) (sym c.behind.ensures) (leads-line line end.result there end.ensures.run end.ensures.ends))
 
 pub returns-then-bytes-eq42-clause-leads : goal.returns-then-bytes-eq42-clause-leads
 returns-then-bytes-eq42-clause-leads c some =

@@ -1,5 +1,5 @@
 use Rattle.std.proofs.Common.{arith}
-use Rattle.ion_text_in.proofs.FirstTokens.{told-bare, told-front}
+use Rattle.ion_text_in.proofs.FirstTokens.{brace-first, told-bare, told-front}
 use Rattle.ion_text_in.proofs.first.told_first.Goals as goal
 
 pub returns-then-told-gt0-clause-tells : goal.returns-then-told-gt0-clause-tells
@@ -7,3 +7,6 @@ returns-then-told-gt0-clause-tells c = told-front c.args.bytes.now c.in-len1-up.
 
 pub returns-then-told-gt0-clause-bare : goal.returns-then-told-gt0-clause-bare
 returns-then-told-gt0-clause-bare c = told-bare c.args.bytes.now c.in-len1-up.len_at_least (omega (arith, c.type_inv.bytes 0))
+
+pub returns-in-123-clause-tells : goal.returns-in-123-clause-tells
+returns-in-123-clause-tells c _ = brace-first c.args.bytes.now c.in-123.len_at_least (omega arith) c.if-next-ne123.true

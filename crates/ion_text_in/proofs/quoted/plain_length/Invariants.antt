@@ -12,3 +12,12 @@ invariant-skip l = record {
 
 abbrev pub decreases-skip : goal.decreases-skip
 decreases-skip l = length l.bytes - l.at
+
+abbrev pub invariant-few : goal.invariant-few
+invariant-few l = record {
+  within : l.at ≤ length l.bytes;
+  plain : all_are (is_plain_byte (quote_of l.quote)) (take l.at l.bytes) ≡ true;
+}
+
+abbrev pub decreases-few : goal.decreases-few
+decreases-few l = length l.bytes - l.at

@@ -1,9 +1,11 @@
 use Rattle.std.proofs.Common.{◌≡◌, ◌<◌, ◌∙◌, ◌||◌, Bool, true, false, length, take, refl, sym, arith}
 use Rattle.std.proofs.lemmas.Grind.{common_steps}
 use Rattle.std.proofs.lemmas.Bool.{false≢true}
+use lib.Count.{count_trailing_zeros}
 use Rattle.std.specs.Str.{is_utf8}
 use Rattle.ion_text_in.specs.Quotes.{quote_of, mark_of}
 use Rattle.ion_text_in.proofs.ScannedTexts.{ascii-shown, text-shown, text-bad, text-over, ends-unclosed, stops-unclosed}
+use Rattle.ion_text_in.proofs.Suspects.{ascii-plain}
 use Rattle.ion_text_in.proofs.Utf8.{is_utf8-test}
 use Rattle.ion_text_in.proofs.quoted.scan_text.Goals.{then-is_long-via-then-is_long, then-is_long-via-else-is_long+then-plain-bytes, then-is_long-via-else-is_long+else-plain-bytes+then-bytes-plain, else-not-in_clob-via-then-not-in_clob+else-not-is_text, else-not-in_clob-via-else-not-in_clob}
 use Rattle.ion_text_in.proofs.quoted.scan_text.Goals as goal
@@ -22,17 +24,17 @@ returns-then-is_long-clause-known c = λ _ short.
       plain = c.plain_length-plain.ensures.plain;
       ends = c.plain_length-plain.ensures.ends;
       unclosed = elim c.then-is_long.branch [
-        | then-is_long-via-then-is_long w ↦ absurd (false≢true (sym short ∙ (sym c.is_long.ensures ∙ w.if-is_long.true)))
+        | then-is_long-via-then-is_long w ↦ absurd (false≢true (sym short ∙ (sym c.is_long-2.ensures ∙ w.if-is_long.true)))
         | then-is_long-via-else-is_long+then-plain-bytes w ↦ ends-unclosed mark bytes n w.if-plain-bytes.true
         | then-is_long-via-else-is_long+else-plain-bytes+then-bytes-plain w ↦
             let there : n < length bytes = omega (arith, c.plain_length-plain.ensures.within, w.if-plain-bytes.false) in
-            stops-unclosed mark bytes n there (λ e. w.if-bytes-plain.true (e ∙ sym w.mark.ensures))
+            stops-unclosed mark bytes n there (λ e. w.if-bytes-plain.true (e ∙ sym w.mark-else-plain-bytes.ensures))
       ];
     }
 
 pub returns-then-limit-plain-clause-shows : goal.returns-then-limit-plain-clause-shows
 returns-then-limit-plain-clause-shows c = λ place more.
-    text-over c.args.quote c.args.limit place c.plain_length-plain.result c.args.bytes.now more (sym c.is_long.ensures ∙ c.if-is_long.false) c.plain_length-plain.ensures.plain c.plain_length-plain.ensures.within
+    text-over c.args.quote c.args.limit place c.plain_length-plain.result c.args.bytes.now more (sym c.is_long-2.ensures ∙ c.if-is_long.false) c.plain_length-plain.ensures.plain c.plain_length-plain.ensures.within
     c.if-limit-plain.true
 
 pub returns-then-not-is_text-clause-shows : goal.returns-then-not-is_text-clause-shows
@@ -43,7 +45,7 @@ returns-then-not-is_text-clause-shows c = λ place more.
     let test = is_utf8-test (take n c.args.bytes.now) c.is_text.result c.is_text.ensures in
     let clob : q.in_clob ≡ false = sym c.in_clob.ensures ∙ c.if-not-in_clob.true in
     let none : (q.in_clob || is_utf8 (take n c.args.bytes.now)) ≡ false = rw (clob, ← test) c.if-not-is_text.true in
-    text-bad c.args.quote c.args.limit place n c.args.bytes.now more (sym c.is_long.ensures ∙ c.if-is_long.false) c.plain_length-plain.ensures.plain there (c.if-bytes-plain.false ∙ c.mark.ensures) c.if-limit-plain.false none
+    text-bad c.args.quote c.args.limit place n c.args.bytes.now more (sym c.is_long-2.ensures ∙ c.if-is_long.false) c.plain_length-plain.ensures.plain there (c.if-bytes-plain.false ∙ c.mark-else-plain-bytes.ensures) c.if-limit-plain.false none
 
 pub returns-clause-shows : goal.returns-clause-shows
 returns-clause-shows c =
@@ -59,8 +61,8 @@ returns-clause-shows c =
           rw clob refl
     ] in (
       omega (arith, there),
-      λ place more. text-shown c.args.quote c.args.limit place n c.args.bytes.now more (sym c.is_long.ensures ∙ c.if-is_long.false) c.plain_length-plain.ensures.plain there
-          (c.if-bytes-plain.false ∙ c.mark.ensures) c.if-limit-plain.false good,
+      λ place more. text-shown c.args.quote c.args.limit place n c.args.bytes.now more (sym c.is_long-2.ensures ∙ c.if-is_long.false) c.plain_length-plain.ensures.plain there
+          (c.if-bytes-plain.false ∙ c.mark-else-plain-bytes.ensures) c.if-limit-plain.false good,
     )
 
 pub returns-then-limit-plain-clause-known : goal.returns-then-limit-plain-clause-known
@@ -72,8 +74,13 @@ returns-then-not-is_text-clause-known c = grind (arith, common_steps) steps 4000
 pub returns-clause-known : goal.returns-clause-known
 returns-clause-known c = grind (arith, common_steps) steps 400000
 
-pub returns-in-Some-clause-shows : goal.returns-in-Some-clause-shows
-returns-in-Some-clause-shows c = (
-  omega (arith, c.in-Some.ensures.within),
-  λ place more. ascii-shown c.args.quote c.args.limit place c.in-Some.plain c.args.bytes.now more c.in-Some.ensures c.if-plain-limit.true,
-)
+pub bounds-bytes-near : goal.bounds-bytes-near
+bounds-bytes-near c = (ascii-plain c.args.quote c.args.bytes.now c.suspects-suspects.result (rw c.mark.ensures at c.suspects-suspects.ensures) (omega arith) c.if-suspects-ne0.true).0
+
+pub returns-then-near-limit-clause-shows : goal.returns-then-near-limit-clause-shows
+returns-then-near-limit-clause-shows c =
+    let run = ascii-plain c.args.quote c.args.bytes.now c.suspects-suspects.result (rw c.mark.ensures at c.suspects-suspects.ensures) (omega arith) c.if-suspects-ne0.true in
+    let n = count_trailing_zeros 64 c.suspects-suspects.result in (
+      omega (arith, run.0),
+      λ place more. ascii-shown c.args.quote c.args.limit place n c.args.bytes.now more (sym c.is_long.ensures ∙ c.if-not-is_long.true) run (c.if-bytes-near.true ∙ c.mark-then-suspects-ne0.ensures) c.if-near-limit.true,
+    )

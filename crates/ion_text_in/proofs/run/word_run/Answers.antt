@@ -9,4 +9,4 @@ pub returns-then-others-ne0 : goal.returns-then-others-ne0
 returns-then-others-ne0 c =
     let bits = c.others-others.result in
     let at = run-front is_identifier_byte c.args.bytes.now 16 bits (omega (arith, c.if-bytes-ge16.true)) (omega arith) c.others-others.ensures (omega (arith, c.if-others-ne0.true)) in
-    rw c.so_far.ensures (word-extent c.args.bytes.now (count_trailing_zeros 64 bits) at.0 at.1)
+    word-extent c.args.bytes.now (count_trailing_zeros 64 bits) at.0 at.1

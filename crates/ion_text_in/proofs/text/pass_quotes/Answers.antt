@@ -8,5 +8,5 @@ consume-requires g c = grind (arith, common_steps)
 pub returns-clause-plain : goal.returns-clause-plain
 returns-clause-plain g c = grind (arith, common_steps)
 
-pub returns-then-ne-3-clause-plain : goal.returns-then-ne-3-clause-plain
-returns-then-ne-3-clause-plain g c = grind (arith, common_steps)
+pub returns-then-ne-clause-plain : goal.returns-then-ne-clause-plain
+returns-then-ne-clause-plain g c = grind (arith, common_steps)

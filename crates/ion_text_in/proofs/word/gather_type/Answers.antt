@@ -1,4 +1,4 @@
-use Rattle.std.proofs.Common.{◌≡◌, ◌≤◌, ◌∙◌, ap, sym, Some, true, List, ℕ, ◌++◌, length, take, refl, arith}
+use Rattle.std.proofs.Common.{◌≡◌, ◌≤◌, ◌==◌, ◌∙◌, ap, sym, Some, true, List, ℕ, ◌++◌, length, take, refl, arith}
 use Rattle.ion_meter.specs.Windows.{left, lent}
 use Rattle.ion_meter.specs.Sources.{cursor, skip}
 use Rattle.ion_meter.proofs.Lent.{lent-take, lent-IsGiven}
@@ -16,7 +16,7 @@ returns-clause-gives g c = λ h.
     let t = c.append.new.source in
     let peek = c.in_ok-peek.ensures in
     let added = c.in_ok-append.ensures in
-    let is : is_point c.in_ok-peek.field-0 ≡ true = sym c.is_point.ensures ∙ c.if-not-is_point.false in
+    let is : is_point c.in_ok-peek.field-0 ≡ true = ap is_point c.in-Some-eq46.is ∙ ap (λ (b : ℕ). b == 46) c.in-Some-eq46.field-0-test in
     let given = (point-given c.in_ok-peek.field-0 _ is peek.byte).1 in
     let one : 1 ≤ length (lent p) = omega (arith, lent-IsGiven p 0 peek.well.1 given.0) in
     let there : cursor g.I.Input t ≡ skip 1 (cursor g.I.Input s) = IsPassed-cursor g.I.Input p t 1 one added.appends.passed ∙ ap (skip 1) (cursor-extends g.I.Input s p peek.kept h) in

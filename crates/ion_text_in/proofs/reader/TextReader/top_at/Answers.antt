@@ -5,5 +5,5 @@ use Rattle.ion_text_in.proofs.reader.TextReader.top_at.Goals as goal
 pub returns-in-None : goal.returns-in-None
 returns-in-None g c = grind (arith, common_steps) steps 400000
 
-pub returns-in-Some : goal.returns-in-Some
-returns-in-Some g c = grind (arith, common_steps) steps 400000
+pub returns-in-Some-Text : goal.returns-in-Some-Text
+returns-in-Some-Text g c = grind (arith, common_steps) steps 400000

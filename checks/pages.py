@@ -7,7 +7,8 @@ status, which is 0 where nothing shows it. Each command runs in a shell of its o
 one before it ended, so that a `cd` holds to the end of the page; the first begins in the root, where no command may
 leave anything. In a table that has a column `Input` and next to it a column `Answer`, a row has an
 input for `ion show` (a text, or bytes in hexadecimal after `hex` or after the version marker `M`), options
-or another command in a second code span, and the lines that are printed, a code span each.
+or another command in a second code span, and the lines that are printed, a code span each. A block of code that begins with
+`// crates/..` has lines of the files that are named there, and comments.
 """
 import glob
 import os
@@ -167,6 +168,18 @@ def check_links(page, text):
     page.judge(True, "", None, None)
 
 
+def check_code(page, text):
+    """Each line of a block that begins with `// crates/..`, but for comments, stands in one of the files that are named there."""
+    for head, lines in re.findall(r"^```rattle\n(// crates/[^\n]*)\n(.*?)^```$", text, re.M | re.S):
+        there = set()
+        for name in filter(os.path.exists, re.findall(r"crates/[\w/]+\.rt", head)):
+            with open(name, encoding="utf-8") as file:
+                there.update(map(str.strip, file))
+        for line in map(str.strip, lines.split("\n")):
+            if line and not line.startswith("// ") and line not in there:
+                page.judge(False, "a line of code", head, line)
+
+
 def rows_of(text):
     """The cells of input and answer of each row of the tables that have both."""
     first = None
@@ -184,12 +197,14 @@ def main():
     if not os.access(program, os.X_OK):
         sys.exit(f"there is no program {program}: (cd crates/ion_tool && rt run) builds it")
     pages = []
-    for name in ["README.md", "CONTRIBUTING.md", "SECURITY.md", "CHANGELOG.md", *sorted(glob.glob("docs/*.md")), *sorted(glob.glob("examples/*/*.md"))]:
+    for name in ["README.md", "CONTRIBUTING.md", "SECURITY.md", "CHANGELOG.md",
+                 *(found for folder in ("docs", "crates/*", "examples/*") for found in sorted(glob.glob(folder + "/*.md")))]:
         with open(name, encoding="utf-8") as file:
             text = file.read()
         page = Page(name)
         pages.append(page)
         check_links(page, text)
+        check_code(page, text)
         if name != "README.md" and name not in RUN and not name.startswith("examples/"):
             continue
         run_blocks(page, text, program)

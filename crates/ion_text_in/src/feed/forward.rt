@@ -166,9 +166,21 @@ pub(super) fn forward<'a, W: ValueWriter<O, A>, O: Output, A: Allocator + Copy>(
         (lane kinds.old at.old writer.old sink.old meter.old)
         (lane kinds.new at.new writer.new sink.new meter.new) }
 {
-    let further = Further {
-        start,
+    let inner = innermost(kinds);
+    let place = bounds.end - start.next.rest.len() as u64;
+    let top = top_at(at.top, inner, start.note, place);
+    let item = PlainItem {
+        field: start.field,
+        annotation: start.note,
         second: None,
+        head: found.head,
+        spelled: found.spelled,
+        place,
+        top,
     };
-    forward_any(at, further, found, bounds, kinds, meter, writer, sink)
+    if !writer.take_plain(meter, sink, item) {
+        return false;
+    }
+    pass_value(at, found.rest, top, inner);
+    true
 }

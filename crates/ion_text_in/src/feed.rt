@@ -22,7 +22,7 @@ use crate::slice::{behind, front};
 use crate::word::{Word, scan_simple};
 use any::rare;
 use close::close;
-use forward::{forward, forward_any};
+use forward::forward;
 use heads::{
     begin_head, decimal_head, int_head, keyword_head, spelled_quick, string_head, symbol_head,
     token,
@@ -115,21 +115,11 @@ fn word<'a, W: ValueWriter<O, A>, O: Output, A: Allocator + Copy>(
                 None => note(at, start, count, bounds, kinds, meter, writer, sink),
             }
         }
-        Scanned::Whole(Word::Null(ion_type), count) => {
-            let found = Found {
-                head: ion_value::item::Head::Null(ion_type),
-                spelled: None,
-                rest: behind(count, bytes),
-            };
-            forward(at, start, found, bounds, kinds, meter, writer, sink)
-        }
-        Scanned::Whole(Word::Bool(truth), count) => {
-            let found = Found {
-                head: ion_value::item::Head::Bool(truth),
-                spelled: None,
-                rest: behind(count, bytes),
-            };
-            forward(at, start, found, bounds, kinds, meter, writer, sink)
+        Scanned::Whole(word, count) => {
+            match keyword_head(bounds.limits, place, word, count, bytes) {
+                Some(found) => forward(at, start, found, bounds, kinds, meter, writer, sink),
+                None => false,
+            }
         }
         _ => false,
     }
@@ -212,7 +202,7 @@ fn begin<'a, W: ValueWriter<O, A>, O: Output, A: Allocator + Copy>(
 {
     let place = bounds.end - start.next.rest.len() as u64;
     let found = begin_head(bounds.limits, place, kind, start.next.rest);
-    forward_any(at, spot::Further { start, second: None }, found, bounds, kinds, meter, writer, sink)
+    forward(at, start, found, bounds, kinds, meter, writer, sink)
 }
 
 // Hands on the value that begins here, or the container's beginning, behind its field's name. Each kind has a

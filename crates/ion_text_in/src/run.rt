@@ -76,17 +76,7 @@ pub(crate) fn word_run(bytes: &[u8]) -> Extent
             return Extent { len, ended: true };
         }
     }
-    let mut at = 0;
-    'blocks: while bytes.len() - at >= 16 {
-        let others = others(u8x16::from_slice(&bytes[at..]));
-        if others != 0 {
-            let len = at + others.trailing_zeros() as usize;
-            return Extent { len, ended: true };
-        }
-        at += 16;
-    }
-    let rest = run_by_byte(Run::Word, &bytes[at..]);
-    Extent { len: at + rest.len, ended: rest.ended }
+    run_by_byte(Run::Word, bytes)
 }
 
 // Which of these bytes cannot stand in an identifier: a bit for each, the lowest for the first.

@@ -166,21 +166,9 @@ pub(super) fn forward<'a, W: ValueWriter<O, A>, O: Output, A: Allocator + Copy>(
         (lane kinds.old at.old writer.old sink.old meter.old)
         (lane kinds.new at.new writer.new sink.new meter.new) }
 {
-    let inner = innermost(kinds);
-    let place = bounds.end - start.next.rest.len() as u64;
-    let top = top_at(at.top, inner, start.note, place);
-    let item = PlainItem {
-        field: start.field,
-        annotation: start.note,
+    let further = Further {
+        start,
         second: None,
-        head: found.head,
-        spelled: found.spelled,
-        place,
-        top,
     };
-    if !writer.take_plain(meter, sink, item) {
-        return false;
-    }
-    pass_value(at, found.rest, top, inner);
-    true
+    forward_any(at, further, found, bounds, kinds, meter, writer, sink)
 }

@@ -45,7 +45,7 @@ pub(crate) enum Word {
 ///
 /// Its bytes are those at the front of the slice. Answers `ScalarLimit` where it has more than the
 /// limit, and then `BadToken` where no type's name stands behind `null.`.
-#[inline(always)]
+#[inline(never)]
 pub(crate) fn scan_word(limit: u64, bytes: &[u8]) -> Scanned<Word>
     ensures shows { Shows (word_token_of (shown_text bytes.now result)) bytes.now result
         (token_of (Some limit) a_word) }
@@ -123,7 +123,7 @@ fn begun_word(limit: u64, bytes: &[u8]) -> Option<usize>
 }
 
 // What a slice shows of a null with the name of a type.
-#[inline(never)]
+#[inline(always)]
 fn typed_null(limit: u64, bytes: &[u8]) -> Scanned<Word>
     ensures shows { Shows (word_token_of (shown_text bytes.now result)) bytes.now result
         (token_of (Some limit) a_word) }

@@ -166,14 +166,14 @@ fields_slots g (member before field annotations place x) = fields_slots g before
 abbrev pub IsCostly : Ground → Members SymbolAt ℕ → Type 0
 IsCostly g members = (g.limit < fields_cost g members) ⊎ (most_slots < fields_slots g members)
 
--- a declaration is refused for a symbol id above the table before it, for a limit, for a field that stands twice, or for a table that isn't there
+-- a declaration is refused for a symbol id above the table before it, for a limit, for a field that has a meaning and stands twice, or for a table that isn't there
 abbrev pub WhyRefused : Type 0
 WhyRefused =
     (g : Ground) (top : ℕ) (members : Members SymbolAt ℕ) (reason : Reason) (place : ℕ) → declared g top members ≡ Err (reason, place)
     → ((reason ≡ BadSymbol) × SomeAbove g.old members)
     ⊎ (((reason ≡ SymbolLimit) × IsCostly g members) ⊎ ((reason ≡ BadTable) × (IsDoubled (text_at g.old) members ⊎ (next_table g.catalog (text_at g.old) g.old members ≡ None))))
 
--- what is true of a declaration that leaves a table: the limits are kept, no id is above the table before it, and no field stands twice
+-- what is true of a declaration that leaves a table: the limits are kept, no id is above the table before it, and no field that has a meaning stands twice
 pub record IsKept (g : Ground) (members : Members SymbolAt ℕ) (t : Table) : Type 0 where
   pub cost : table_cost t ≤ g.limit
   pub count : count_of t ≤ most_slots

@@ -17,13 +17,13 @@ pub fn what_is_declared()
 {}
 
 /// A declaration is refused for a symbol id above the table before it, for a limit, for a field
-/// that stands twice, or for a shared table that is not in the catalogue.
+/// with a meaning that stands twice, or for a shared table that is not in the catalogue.
 pub fn why_refused()
     ensures { WhyRefused }
 {}
 
 /// A declaration that leaves a table keeps the limits on cost and count, has no symbol id above the
-/// table before it, and no field twice.
+/// table before it, and no field with a meaning twice.
 pub fn what_is_accepted()
     ensures { WhatIsAccepted }
 {}

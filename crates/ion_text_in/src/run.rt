@@ -63,17 +63,25 @@ fn run_by_byte(run: Run, bytes: &[u8]) -> Extent
     Extent { len, ended: false }
 }
 
-/// How far a word goes on in a slice that begins behind its first byte. Most words are so short
-/// that sixteen bytes, looked at together, show where they end; others are looked at byte by byte.
+/// How far a word goes on in a slice that begins after its first byte. Most words are so short
+/// that sixteen bytes, looked at together, show where they end, and most others end in the next
+/// sixteen. A longer one is looked at byte by byte: a loop here costs every short word a register.
 #[inline(always)]
 pub(crate) fn word_run(bytes: &[u8]) -> Extent
     ensures { IsExtent Run.Word bytes.now result }
 {
     if bytes.len() >= 16 {
-        let others = others(u8x16::from_slice(bytes));
-        if others != 0 {
-            let len = others.trailing_zeros() as usize;
+        let stops = word_stops(u8x16::from_slice(bytes));
+        if stops != 0 {
+            let len = stops.trailing_zeros() as usize;
             return Extent { len, ended: true };
+        }
+        if bytes.len() >= 32 {
+            let stops = word_stops(u8x16::from_slice(&bytes[16..]));
+            if stops != 0 {
+                let len = 16 + stops.trailing_zeros() as usize;
+                return Extent { len, ended: true };
+            }
         }
     }
     run_by_byte(Run::Word, bytes)
@@ -81,7 +89,7 @@ pub(crate) fn word_run(bytes: &[u8]) -> Extent
 
 // Which of these bytes cannot stand in an identifier: a bit for each, the lowest for the first.
 #[inline(always)]
-fn others(bytes: u8x16) -> u64
+fn word_stops(bytes: u8x16) -> u64
     ensures { result ≡ mask_l (map (λ b. not (is_identifier_byte b)) bytes) }
 {
     let lower = bytes | u8x16::splat(0x20);

@@ -4,7 +4,7 @@ use Rattle.std.proofs.lemmas.Bool.{agree_below_at}
 use lib.Bits.{bit_or}
 use Rattle.ion_value.specs.Name.{is_identifier_byte}
 use Rattle.ion_text_in.proofs.Lanes.{either, both, to_all, from_all, mapped_to_all, mapped_from_all, mask_of}
-use Rattle.ion_text_in.proofs.run.others.Goals as goal
+use Rattle.ion_text_in.proofs.run.word_stops.Goals as goal
 
 abbrev other : ℕ → Bool
 other x = ((ltb (bit_or x 32) 97 || ltb 122 (bit_or x 32)) && (ltb x 48 || ltb 57 x)) && (not (eqb x 95) && not (eqb x 36))

@@ -1,5 +1,6 @@
 -- Checks of the symbols of an item, one after the other.
 use Rattle.std.proofs.Common.{◌≡◌, ℕ, zero, suc, ◌+◌, ◌<◌, Bool, List, [], ◌∷◌, map, length, drop, slice_get, Option, Some, None, Result, Ok, Err, refl, ap, sym, subst, ◌∙◌, arith, add-one}
+use Rattle.std.specs.Result.{IsErr, IsErrAnd}
 use Rattle.ion_meter.specs.declared.fault.Fault.{Fault}
 use Rattle.ion_value.specs.Value.{SymbolAt, Head, PlacedItem, map_head, end}
 use Rattle.ion_value.specs.Items.{named_at, named_item}
@@ -24,6 +25,11 @@ or_fine (bad reason place) b x h k = absurd (cc h)
 pub or_bad : (a b : Checked) (fault : Fault) → CheckedAs a (Err fault) → CheckedAs (or_else a b) (Err fault)
 or_bad fine b fault h = absurd (cc h)
 or_bad (bad reason place) b fault h = h
+
+-- the fault that `?` returns
+pub returned : (r : Result Unit Fault) (e : Fault) → IsErr r × IsErrAnd r (λ y. y ≡ e) → Err e ≡ r
+returned (Ok x) e given = absurd (cc given.0)
+returned (Err y) e given = ap Err (sym given.1)
 
 -- the checks of the parts of an item are that of the item
 pub item_checked : (t : Table) (user : Bool) (i : PlacedItem) (f : Option SymbolAt) (ns : List SymbolAt) (h : Head SymbolAt) (x : Result Unit Fault)

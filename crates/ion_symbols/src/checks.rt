@@ -56,9 +56,7 @@ fn check_annotations<A: Allocator + Copy>(
 {
     let mut i = 0;
     while let Some(at) = annotations.get(i) {
-        if let Err(fault) = check_symbol(symbols, user, at) {
-            return Err(fault);
-        }
+        check_symbol(symbols, user, at)?;
         i += 1;
     }
     Ok(())
@@ -89,11 +87,7 @@ pub(crate) fn check_item<A: Allocator + Copy>(
 ) -> Result<(), Fault>
     ensures { CheckedAs (checked symbols.now.table user (raw_item item.now)) result }
 {
-    if let Err(fault) = check_field(symbols, user, item.field()) {
-        return Err(fault);
-    }
-    if let Err(fault) = check_annotations(symbols, user, item.annotations()) {
-        return Err(fault);
-    }
+    check_field(symbols, user, item.field())?;
+    check_annotations(symbols, user, item.annotations())?;
     check_head(symbols, user, item.head())
 }

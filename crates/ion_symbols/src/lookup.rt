@@ -14,8 +14,7 @@ use std::alloc::Allocator;
 /// order.
 const MOST_PASSED: u32 = 32;
 
-/// The number of a text, if it is there, and with how many texts it was compared. It is compared with
-/// the first of its bucket at once.
+/// The number of a text, if it is there, and with how many texts it was compared.
 #[inline(always)]
 pub(crate) fn find<A: Allocator + Copy>(probe: Probe<'_, A>, text: &[u8]) -> (Option<u32>, u32)
     requires kept { AreKept probe.kept.now }
@@ -35,9 +34,8 @@ pub(crate) fn find<A: Allocator + Copy>(probe: Probe<'_, A>, text: &[u8]) -> (Op
     find_apart(probe, text, hash)
 }
 
-// The number of a text, if it is there, by the links or by halving, and with how many texts it was
-// compared. `find_onward` takes the probe's address; it does so here, so that the probe needs no
-// memory where `find` returns without it.
+// As `find`, by the links or by halving. `find_onward` takes the probe's address; it does so here, so
+// that the probe needs no memory where `find` returns without it.
 #[inline(always)]
 fn find_apart<A: Allocator + Copy>(
     probe: Probe<'_, A>,

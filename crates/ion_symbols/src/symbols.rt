@@ -110,18 +110,6 @@ fn system_simple(id: u32) -> Option<&'static [u8]>
     }
 }
 
-// The text as it is. What a call that is not in line answered is built anew, so that where none is
-// called the answer does not go by memory.
-#[inline(always)]
-fn handed_on(text: Option<&[u8]>) -> Option<&[u8]>
-    ensures { result ≡ text.entry }
-{
-    match text {
-        Some(text) => Some(text),
-        None => None,
-    }
-}
-
 // The local slot at a place.
 #[inline(always)]
 fn local<A: Allocator + Copy>(slots: &Slots<A>, place: u64) -> Slot<'_>
@@ -177,12 +165,7 @@ fn shared_simple<A: Allocator + Copy>(
         (λ t. import_slot (slice_get (slots_at catalog.now table) place) ≡ known t.now) }
     ensures simple { IfSome result (λ t. is_simple t.now ≡ true) }
 {
-    let Some(table) = table else {
-        return None;
-    };
-    let Some(table) = catalog.get(table) else {
-        return None;
-    };
+    let table = catalog.get(table?)?;
     if place >= table.len() as u64 {
         return None;
     }
@@ -269,13 +252,17 @@ impl<'c, A: Allocator + Copy> Symbols<'c, A> {
         }
     }
 
-    // The text of an id of the system table or of an import, if it has one that is simple.
+    // The text of an id of the system table or of an import, if it has one that is simple. What the call
+    // returns is built anew: so it has its place in memory here, and not where none is called.
     #[inline(always)]
     fn early_simple(&self, id: u32) -> Option<&[u8]>
         ensures { IfSome result (λ t. (text_at self.now.table id ≡ Some t.now)
             × (is_simple t.now ≡ true)) }
     {
-        handed_on(self.early_simple_text(id))
+        match self.early_simple_text(id) {
+            Some(text) => Some(text),
+            None => None,
+        }
     }
 
     // The simple text of an id of the system table or of an import, by a call that is not in line.

@@ -1,16 +1,17 @@
 use Rattle.std.proofs.Common.{◌<◌, length, ap, subst, ◌∙◌, arith}
 use Rattle.std.proofs.lemmas.Grind.{common_steps}
 use Rattle.ion_value.specs.Items.{raw_annotations, raw_field, symbol_at}
-use Rattle.ion_symbols.specs.Users.{at_checked}
+use Rattle.ion_symbols.specs.Users.{annotations_checked, at_checked}
 use Rattle.ion_symbols.specs.User.{CheckedAs}
-use Rattle.ion_symbols.proofs.Checking.{got_plain, annotations_going, annotations_bad, annotations_end, got_within}
+use Rattle.ion_symbols.proofs.Checking.{returned, got_plain, annotations_going, annotations_bad, annotations_end, got_within}
 use Rattle.ion_symbols.proofs.checks.check_annotations.Goals as goal
 
-pub returns-in-Err : goal.returns-in-Err
-returns-in-Err g c =
+pub returns-in_err-check_symbol : goal.returns-in_err-check_symbol
+returns-in_err-check_symbol g c =
     let there = got_plain (raw_annotations c.args.annotations) c.loop-at.i (raw_field c.get.result) c.get.ensures ∙ ap raw_field c.in-Some.is in
-    annotations_bad c.args.symbols.now.table c.args.user (raw_annotations c.args.annotations) c.loop-at.i (symbol_at c.in-Some.at) c.in-Err.fault c.loop-at.invariant.checked
-    there (subst (λ x. CheckedAs (at_checked c.args.symbols.now.table c.args.user (symbol_at c.in-Some.at)) x) c.in-Err.is c.check_symbol.ensures)
+    subst (CheckedAs (annotations_checked c.args.symbols.now.table c.args.user (raw_annotations c.args.annotations))) (returned c.from_residual.result c.in_err-check_symbol.field-0.0 c.from_residual.ensures)
+    (annotations_bad c.args.symbols.now.table c.args.user (raw_annotations c.args.annotations) c.loop-at.i (symbol_at c.in-Some.at) _ c.loop-at.invariant.checked
+    there (subst (λ x. CheckedAs (at_checked c.args.symbols.now.table c.args.user (symbol_at c.in-Some.at)) x) c.in_err-check_symbol.was c.check_symbol.ensures))
 
 pub loop-at-smaller : goal.loop-at-smaller
 loop-at-smaller g c =
@@ -25,7 +26,7 @@ loop-at-preserved g c =
     record {
       within = omega (arith, within);
       checked = annotations_going c.args.symbols.now.table c.args.user (raw_annotations c.args.annotations) c.loop-at.i (symbol_at c.in-Some.at) c.loop-at.invariant.checked
-          there (subst (λ x. CheckedAs (at_checked c.args.symbols.now.table c.args.user (symbol_at c.in-Some.at)) x) c.in_default-check_symbol.is c.check_symbol.ensures);
+          there (subst (λ x. CheckedAs (at_checked c.args.symbols.now.table c.args.user (symbol_at c.in-Some.at)) x) c.in_ok-check_symbol.was c.check_symbol.ensures);
     }
 
 pub returns : goal.returns

@@ -124,6 +124,27 @@ impl<O: Output, A: Allocator + Copy> Sink<O, A> {
         Ok(())
     }
 
+    /// `put_slowly`, in line. What that answers is built anew, so that the memory by which it comes belongs
+    /// to this way alone: `put` would clear it for all that it puts.
+    #[inline(always)]
+    fn put_otherwise(&mut self, bytes: &[u8]) -> Result<(), Fault>
+        ensures puts { self.old.fault ≡ None
+            → Puts O.written O.observable self.old self.new bytes.now }
+        ensures ok { OnOk result (O.observable self.old.device
+            → so_far O.written self.new ≡ so_far O.written self.old ++ bytes.now) }
+        ensures well { OnOk result ((self.old.fault ≡ None) × (self.new.fault ≡ None)) }
+        ensures fault { IfErr result (λ f. self.new.fault ≡ Some f) }
+        ensures again { IfSome self.old.fault (λ f. (result ≡ Err f) × (self.new ≡ self.old)) }
+        ensures cause { IfErr result (λ f. f ≡ Fault.WriteFault) }
+        ensures count { O.failure_count self.new.device
+            ≡ O.failure_count self.old.device + write_failures_in self.old.fault result }
+    {
+        match self.put_slowly(bytes) {
+            Ok(()) => Ok(()),
+            Err(fault) => Err(fault),
+        }
+    }
+
     /// Puts these bytes behind what was put before.
     ///
     /// They are copied into the window, which is written out where it has no room for all of them.
@@ -149,7 +170,7 @@ impl<O: Output, A: Allocator + Copy> Sink<O, A> {
             self.take(bytes);
             return Ok(());
         }
-        self.put_slowly(bytes)
+        self.put_otherwise(bytes)
     }
 
     /// How many bytes the window has room for.

@@ -10,7 +10,7 @@ use Rattle.ion_text_out.specs.Escape.{is_shown, escaped, byte_text, between_quot
 
 -- ---- which bytes stand for themselves
 
-all_joined : (test : ℕ → Bool) (xs ys : List ℕ) → all_are test (xs ++ ys) ≡ (all_are test xs && all_are test ys)
+pub all_joined : (test : ℕ → Bool) (xs ys : List ℕ) → all_are test (xs ++ ys) ≡ (all_are test xs && all_are test ys)
 all_joined test [] ys = refl
 all_joined test (x ∷ xs) ys = elim (cases_Bool (test x)) [ inl e ↦ rw e (all_joined test xs ys) | inr e ↦ rw e refl ]
 

@@ -1,5 +1,5 @@
 -- Runs of bytes that stand for themselves between quotes, as vectors find them.
-use Rattle.std.proofs.Common.{◌≡◌, ◌≢◌, ℕ, zero, suc, ◌+◌, ◌-◌, ◌*◌, ◌%◌, ◌^◌, ◌<◌, ◌≤◌, Bool, true, false, not, cond, eqb, leb, ◌&&◌, ◌||◌, nat_le, nat_lt, List, [], ◌∷◌, map, take, drop, length, replicate, refl, sym, subst, ap, ap₂, ◌∙◌, inl, inr, arith, w8, Fits}
+use Rattle.std.proofs.Common.{◌≡◌, ◌≢◌, ℕ, zero, suc, ◌+◌, ◌-◌, ◌*◌, ◌%◌, ◌^◌, ◌<◌, ◌≤◌, Bool, true, false, not, cond, eqb, leb, ◌&&◌, ◌||◌, nat_eq, nat_le, nat_lt, List, [], ◌∷◌, ◌++◌, map, take, drop, length, replicate, refl, sym, subst, ap, ap₂, ◌∙◌, inl, inr, arith, w8, Fits}
 use Rattle.std.proofs.lemmas.Bool.{and_parts, cases_Bool, ne_eqb}
 use Rattle.std.proofs.lemmas.Bool.Decides.{nat_tests}
 use Rattle.std.proofs.lemmas.Simd.{zip2_splat, zip2_splat_left, map-map, mask_l-mod, chunk-drop, length-chunk, trailing_mask_l}
@@ -12,7 +12,7 @@ use lib.Lanes.{zip2, chunk, mask_l, top, Each1}
 use lib.Count.{count_trailing_zeros}
 use Rattle.ion_value.specs.Digits.{first_is, all_are}
 use Rattle.ion_text_out.specs.Escape.{is_shown}
-use Rattle.ion_text_out.proofs.Quoted.{all_behind}
+use Rattle.ion_text_out.proofs.Quoted.{all_behind, all_joined}
 
 -- ---- a vector of bytes, tested lane by lane
 
@@ -222,6 +222,28 @@ some_hidden quote most bytes at found same some =
     elim (cases_Bool (all_are p bytes)) [
       | inl e ↦ absurd (some (same ∙ no_bits p (chunk at 16 bytes) (all_taken p 16 (drop at bytes) (all_dropped p at bytes e))))
       | inr e ↦ e
+    ]
+
+-- the first bytes and the last ones as one block: where they are all bytes, they tell of all
+both_pass : (p : ℕ → Bool) (bytes : List ℕ) (n : ℕ) → length bytes ≤ n + n → all_are p (take n bytes ++ drop (length bytes - n) bytes) ≡ true → all_are p bytes ≡ true
+both_pass p bytes n short e =
+    let at : ℕ = length bytes - n in
+    let both = and_parts (all_are p (take n bytes)) (all_are p (drop at bytes)) (sym (all_joined p (take n bytes) (drop at bytes)) ∙ e) in
+    subst (λ (l : List ℕ). all_are p l ≡ true) (take_all (at + n) bytes (omega arith))
+    (all_behind p bytes at n (all_prefix p at n bytes (omega (arith, short)) both.0) (all_taken p n (drop at bytes) both.1))
+
+pub ends_hidden : (quote most : ℕ) (bytes : List ℕ) (found n : ℕ) → found ≡ mask_l (map (λ b. not (is_shown quote most b)) (take n bytes ++ drop (length bytes - n) bytes)) → length bytes ≤ n + n
+    → nat_eq found 0 ≡ all_are (is_shown quote most) bytes
+ends_hidden quote most bytes found n same short =
+    let p = is_shown quote most in
+    let block = take n bytes ++ drop (length bytes - n) bytes in
+    elim (cases_Bool (all_are p bytes)) [
+      | inl e ↦
+          let all : all_are p block ≡ true = all_joined p (take n bytes) (drop (length bytes - n) bytes) ∙ ap₂ (λ y z. y && z) (all_taken p n bytes e) (all_dropped p (length bytes - n) bytes e) in
+          rw (same ∙ no_bits p block all, e) refl
+      | inr e ↦
+          let some : found ≢ 0 = λ none. let no : true ≡ false = sym (both_pass p bytes n short (all_pass p block (sym same ∙ none))) ∙ e in cc no in
+          ne_eqb found 0 some ∙ sym e
     ]
 
 -- nor do they where one stands behind a run

@@ -1,5 +1,5 @@
 //! Bytes between quotes.
-ghost use Rattle.std.specs.Prelude.{◌≡◌, ◌<◌, ◌≤◌, not, true, false, None, map, length, take, drop};
+ghost use Rattle.std.specs.Prelude.{◌≡◌, ◌<◌, ◌≤◌, ◌-◌, ◌++◌, not, true, false, None, map, length, take, drop};
 ghost use Rattle.std.specs.List.{flat_map};
 ghost use Rattle.std.specs.Simd.Lanes.{mask_l};
 ghost use Rattle.ion_text_out.specs.Escape.{hex_digit, letter, is_shown, escaped, byte_text, between_quotes};
@@ -62,6 +62,9 @@ fn put_inside<O: Output, A: Allocator + Copy>(
 // How many bytes are looked at together.
 const BLOCK: usize = 16;
 
+// Half of them: texts that are shorter are looked at byte by byte.
+const HALF: usize = 8;
+
 // How many bytes at the front of these stand for themselves.
 #[inline]
 fn shown_run(quote: u8, top: u16, bytes: &[u8]) -> usize
@@ -103,7 +106,7 @@ fn hidden(quote: u8, top: u16, bytes: u8x16) -> u64
 pub fn stands_in_string(bytes: &[u8]) -> bool
     ensures { result ≡ all_are (is_shown 34 256) bytes.now }
 {
-    if bytes.len() < BLOCK {
+    if bytes.len() < HALF {
         return few_in_string(bytes);
     }
     stand_between(b'"', bytes)
@@ -114,16 +117,40 @@ pub fn stands_in_string(bytes: &[u8]) -> bool
 pub fn stands_in_symbol(bytes: &[u8]) -> bool
     ensures { result ≡ all_are (is_shown 39 256) bytes.now }
 {
-    if bytes.len() < BLOCK {
+    if bytes.len() < HALF {
         return few_in_symbol(bytes);
     }
     stand_between(b'\'', bytes)
 }
 
+// Whether bytes, half a block of them or more, stand for themselves between these quotes.
+#[inline(always)]
+fn stand_between(quote: u8, bytes: &[u8]) -> bool
+    requires { HALF ≤ length bytes.now }
+    ensures { result ≡ all_are (is_shown quote 256) bytes.now }
+{
+    if bytes.len() < BLOCK {
+        return hidden(quote, 256, u8x16::from_slice(&both_ends(bytes))) == 0;
+    }
+    blocks_stand(quote, bytes)
+}
+
+// The first bytes and the last ones, half a block of each, which may lie partly over each other.
+#[inline(always)]
+fn both_ends(bytes: &[u8]) -> [u8; BLOCK]
+    requires { HALF ≤ length bytes.now }
+    ensures { result ≡ take HALF bytes.now ++ drop (length bytes.now - HALF) bytes.now }
+{
+    let mut block = [0; BLOCK];
+    block[..HALF].copy_from_slice(&bytes[..HALF]);
+    block[HALF..].copy_from_slice(&bytes[bytes.len() - HALF..]);
+    block
+}
+
 // Whether bytes, a block of them or more, stand for themselves between these quotes. The last block is
 // looked at first, and may lie partly over the one before it.
 #[inline(always)]
-fn stand_between(quote: u8, bytes: &[u8]) -> bool
+fn blocks_stand(quote: u8, bytes: &[u8]) -> bool
     requires { BLOCK ≤ length bytes.now }
     ensures { result ≡ all_are (is_shown quote 256) bytes.now }
 {

@@ -1,20 +1,11 @@
-use Rattle.std.proofs.Common.{sym, arith}
-use Rattle.ion_text_out.proofs.ShownRuns.{over_block, over_last, some_hidden}
+use Rattle.std.proofs.Common.{◌≤◌, ◌-◌, ◌++◌, length, take, drop, arith}
+use Rattle.std.proofs.lemmas.Grind.{common_steps}
+use Rattle.std.proofs.lemmas.List.{take_all}
+use Rattle.ion_text_out.proofs.ShownRuns.{ends_hidden}
 use Rattle.ion_text_out.proofs.quote.stand_between.Goals as goal
 
-pub returns-then-hidden_last-ne0 : goal.returns-then-hidden_last-ne0
-returns-then-hidden_last-ne0 c =
-    sym (some_hidden c.args.quote 256 c.args.bytes.now _ c.hidden-hidden_last.result c.hidden-hidden_last.ensures c.if-hidden_last-ne0.true)
-
-pub returns-then-hidden-ne0 : goal.returns-then-hidden-ne0
-returns-then-hidden-ne0 c = sym (some_hidden c.args.quote 256 c.args.bytes.now c.over.at c.hidden.result c.hidden.ensures c.if-hidden-ne0.true)
-
-pub over-preserved : goal.over-preserved
-over-preserved c = record {
-  within = omega (arith, c.over-test.true);
-  shown = over_block c.args.quote 256 c.args.bytes.now c.over.at c.hidden.result c.hidden.ensures c.over.invariant.shown c.if-hidden-ne0.false;
-}
-
-pub returns : goal.returns
-returns c =
-    sym (over_last c.args.quote 256 c.args.bytes.now c.over.at _ c.hidden-hidden_last.result c.hidden-hidden_last.ensures c.if-hidden_last-ne0.false (omega arith) (let t = c.over-test.false in omega (arith, t)) c.over.invariant.shown)
+pub returns-then-bytes-lt-BLOCK : goal.returns-then-bytes-lt-BLOCK
+returns-then-bytes-lt-BLOCK c =
+    let bytes = c.args.bytes.now in
+    let long : length (take 8 bytes ++ drop (length bytes - 8) bytes) ≤ 16 = grind (arith, common_steps) in
+    ends_hidden c.args.quote 256 bytes c.hidden.result 8 (rw (c.both_ends.ensures, take_all 16 (take 8 bytes ++ drop (length bytes - 8) bytes) long) at c.hidden.ensures) (omega (arith, c.if-bytes-lt-BLOCK.true))

@@ -1,7 +1,7 @@
 use Rattle.std.proofs.Common.{◌≡◌, ◌-◌, ◌≤◌, true, length, take}
 use Rattle.ion_value.specs.Digits.{all_are}
 use Rattle.ion_text_out.specs.Escape.{is_shown}
-use Rattle.ion_text_out.proofs.quote.stand_between.Given as goal
+use Rattle.ion_text_out.proofs.quote.blocks_stand.Given as goal
 
 abbrev pub invariant-over : goal.invariant-over
 invariant-over l = record {

@@ -125,6 +125,7 @@ fn put_int<O: Output, A: Allocator + Copy>(sink: &mut Sink<O, A>, int: Int) -> R
 }
 
 /// Puts a decimal.
+#[inline(always)]
 fn put_decimal<O: Output, A: Allocator + Copy>(
     sink: &mut Sink<O, A>,
     decimal: Decimal,
@@ -138,6 +139,7 @@ fn put_decimal<O: Output, A: Allocator + Copy>(
 }
 
 /// Puts a timestamp.
+#[inline(always)]
 fn put_timestamp<O: Output, A: Allocator + Copy>(
     sink: &mut Sink<O, A>,
     timestamp: Timestamp,

@@ -4,7 +4,7 @@ ghost use Rattle.ion_meter.specs.declared.fault.Reason.{Reason};
 ghost use Rattle.ion_meter.specs.declared.fault.Fault.TheVariants.{Refused};
 ghost use Rattle.ion_meter.specs.Limits.{AreChecked};
 ghost use Rattle.ion_meter.specs.Counts.{Shrinks};
-ghost use Rattle.ion_value.specs.Value.{map_head};
+ghost use Rattle.ion_value.specs.Value.{Known, map_head};
 ghost use Rattle.ion_value.specs.Decimal.{IsDecimal, decimal_text};
 ghost use Rattle.ion_value.specs.Timestamp.{IsTimestamp, timestamp_text};
 ghost use Rattle.ion_value.specs.Int.{int_text};
@@ -175,7 +175,7 @@ impl<A: Allocator + Copy> TextWriter<A> {
     }
 
     // A symbol.
-    #[inline(never)]
+    #[inline(always)]
     fn take_symbol<O: Output, const SPELLS: bool>(
         &mut self,
         sink: &mut Sink<O, A>,
@@ -194,6 +194,26 @@ impl<A: Allocator + Copy> TextWriter<A> {
         let Sym::Text(text) = symbol else {
             return false;
         };
+        self.take_known::<O, SPELLS>(sink, name, note, text)
+    }
+
+    // The symbol of a text.
+    #[inline(never)]
+    fn take_known<O: Output, const SPELLS: bool>(
+        &mut self,
+        sink: &mut Sink<O, A>,
+        name: &[u8],
+        note: &[u8],
+        text: &[u8],
+    ) -> bool
+        ensures declines { result ≡ false → (self.new ≡ self.old) × (sink.new ≡ sink.old) }
+        ensures puts { result ≡ true → sink.new ≡ record sink.old {
+          pending = sink.old.pending ++ plain_scalar (opened_in self.old)
+              (spelled_by SPELLS name.now) (spelled_by SPELLS note.now)
+              (symbol_text (Known text.now));
+        } }
+        ensures behind { result ≡ true → self.new ≡ record self.old { empty = false } }
+    {
         if is_bare(text) {
             self.take_text::<O, SPELLS>(sink, name, note, text)
         } else {
@@ -288,8 +308,9 @@ impl<A: Allocator + Copy> TextWriter<A> {
         true
     }
 
-    // A decimal.
-    #[inline(never)]
+    // A decimal. It is in line, since what is handed to a call of its own would go by memory, which all ways
+    // of `take_head` would clear.
+    #[inline(always)]
     fn take_decimal<O: Output, const SPELLS: bool>(
         &mut self,
         sink: &mut Sink<O, A>,
@@ -310,9 +331,31 @@ impl<A: Allocator + Copy> TextWriter<A> {
         self.take_text::<O, SPELLS>(sink, name, note, text.as_str().as_bytes())
     }
 
-    // A timestamp.
-    #[inline(never)]
+    // A timestamp, by a call that is not in line. What is handed to that goes by memory, which is of this way
+    // alone: where the call stands in `take_head`, all ways there clear it.
+    #[inline(always)]
     fn take_timestamp<O: Output, const SPELLS: bool>(
+        &mut self,
+        sink: &mut Sink<O, A>,
+        name: &[u8],
+        note: &[u8],
+        moment: Timestamp,
+    ) -> bool
+        requires { IsTimestamp moment }
+        ensures declines { result ≡ false → (self.new ≡ self.old) × (sink.new ≡ sink.old) }
+        ensures puts { result ≡ true → sink.new ≡ record sink.old {
+          pending = sink.old.pending ++ plain_scalar (opened_in self.old)
+              (spelled_by SPELLS name.now) (spelled_by SPELLS note.now)
+              (timestamp_text moment);
+        } }
+        ensures behind { result ≡ true → self.new ≡ record self.old { empty = false } }
+    {
+        self.take_timestamp_text::<O, SPELLS>(sink, name, note, moment)
+    }
+
+    // The text of a timestamp.
+    #[inline(never)]
+    fn take_timestamp_text<O: Output, const SPELLS: bool>(
         &mut self,
         sink: &mut Sink<O, A>,
         name: &[u8],

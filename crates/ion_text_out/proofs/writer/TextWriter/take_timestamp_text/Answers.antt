@@ -1,6 +1,6 @@
 use Rattle.std.proofs.Common.{arith}
 use Rattle.std.proofs.lemmas.Grind.{common_steps}
-use Rattle.ion_text_out.proofs.writer.TextWriter.take_timestamp.Goals as goal
+use Rattle.ion_text_out.proofs.writer.TextWriter.take_timestamp_text.Goals as goal
 
 pub returns-clause-puts : goal.returns-clause-puts
 returns-clause-puts g c = grind (arith, common_steps)

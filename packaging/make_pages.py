@@ -24,19 +24,19 @@ WORDS = {FORMS: ("text", "binary")}
 
 # What the page says beside the help. Lines that begin with a blank are shown as they stand.
 NOTES = """\
-With FILE - or without FILE standard input is read. Behind --catalog a - is a file of that name in the present folder,
+With FILE - or without FILE standard input is read. After --catalog a - is a file of that name in the present folder,
 since standard input is most often the stream itself. A catalogue that comes by a pipe is read from /dev/stdin, and the
 stream then has a name:
 
   make-tables | ion show --catalog /dev/stdin data.10n
 
-A stream is binary where its first byte is E0, whatever the file is called. A script that may run twice says --to, since convert
+A stream is binary if its first byte is E0, whatever the file is called. A script that may run twice says --to, since convert
 alone would turn everything back. Binary is not written again as binary: that is refused as SameForm at 0.
 
 A float other than null.float is refused, as Float. JSON is read as text, but for a number with an exponent, which is a float.
 
-Where the reader of a pipe ends before the output does, as head does, the next write fails, and ion ends with "write
-fault" and status 3. Nothing is wrong with the stream then, and what head has printed is right:
+If the reader of a pipe ends before the output does, as head does, the next write fails, and ion ends with "write
+fault" and status 3. Nothing is said of the rest of the stream then, and what head has printed is right:
 
   ion show data.10n 2>/dev/null | head -n 3
 
@@ -44,9 +44,9 @@ Check the status before you trust the output: values are written as they are rea
 stands before it. In a pipe "set -o pipefail" keeps the status."""
 
 DIAGNOSTICS = (
-    ("refused REASON at PLACE",
-     "The stream is not valid, passes a limit or has a float. PLACE is the number of bytes before the faulty part. Status 1."),
-    ("catalog refused REASON at PLACE", "The same of the file behind --catalog. Status 1."),
+    ("refused REASON at OFFSET",
+     "The stream is not valid, passes a limit or has a float. OFFSET is the number of bytes before the faulty part. Status 1."),
+    ("catalog refused REASON at OFFSET", "The same of the file of --catalog. Status 1."),
     ("cannot open FILE", "The file is not there, or may not be read. Status 3."),
     ("no memory, read fault, write fault", "The system failed; nothing is said of the stream. Status 3."),
 )
@@ -54,7 +54,7 @@ DIAGNOSTICS = (
 BUGS = """\
 A file whose name is not UTF-8 is read by standard input alone. What is said of a stream names neither the file nor the line:
 
-  head -c PLACE FILE | wc -l
+  head -c OFFSET FILE | wc -l
 
 counts the line ends before the fault. Controls from U+0080 to U+009F and marks of direction in a text are shown as they are."""
 SEE_ALSO = """\

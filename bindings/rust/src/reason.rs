@@ -25,8 +25,8 @@ macro_rules! reasons {
 
 reasons! {
     Truncated = 1 "The input ends inside a part, or with a container open.",
-    BadDescriptor = 2 "An octet that begins no value.",
-    BadVar = 3 "A VarUInt or VarInt that nine octets, or its field, do not end.",
+    BadDescriptor = 2 "A byte that begins no value.",
+    BadVar = 3 "A VarUInt or VarInt that is unfinished after nine bytes or its field.",
     Overrun = 4 "A part that goes past the container or annotation wrapper around it.",
     BadVersion = 5 "A version marker of another version than Ion 1.0.",
     BadAnnotation = 6 "An annotation wrapper that is malformed.",

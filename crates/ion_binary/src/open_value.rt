@@ -21,7 +21,7 @@ mod plain;
 use crate::front::Front;
 use crate::header::header;
 use crate::headers::{HeaderPlace, Headers};
-use crate::noted::{id_octets, noted_scalar};
+use crate::noted::noted_scalar;
 use crate::opening::{LONGEST, opening};
 use crate::scalar::{Octets, Spelled, spell, spell_int, with_lent};
 use arrayvec::ArrayVec;
@@ -372,7 +372,10 @@ impl<A: Allocator + Copy> OpenValue<A> {
         ensures declines { result ≡ false → (self.new ≡ self.old) × (meter.new ≡ meter.old) }
         ensures stepped { Stepped limits.now self.old self.new meter.old meter.new None }
     {
-        let notes = id_octets(note);
+        if note == 0 {
+            return self.put_behind(meter, limits, name, &[], scalar);
+        }
+        let notes = var_uint_write(u64::from(note));
         self.put_behind(meter, limits, name, notes.as_slice(), scalar)
     }
 

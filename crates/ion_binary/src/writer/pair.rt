@@ -61,11 +61,7 @@ impl<A: Allocator + Copy> BinWriter<A> {
     // The octets of the ids of both annotations, where their texts have ids, wherever the second
     // stands.
     #[inline(always)]
-    fn pair_ids(
-        &self,
-        item: &SingleItem<'_, '_>,
-        second: &[u8],
-    ) -> Option<ArrayVec<u8, LONGEST>>
+    fn pair_ids(&self, item: &SingleItem<'_, '_>, second: &[u8]) -> Option<ArrayVec<u8, LONGEST>>
         ensures known { IfSome result (λ _. (place : ℕ) → HaveIds self.now.symbols.texts
             (with_note (as_item item.now) second.now place).annotations) }
         ensures octets { IfSome result (λ notes. (place : ℕ) → notes.items

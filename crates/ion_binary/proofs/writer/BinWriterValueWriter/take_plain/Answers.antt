@@ -1,4 +1,4 @@
-use Rattle.std.proofs.Common.{◌≡◌, true, false, arith, ◌∙◌, List, ℕ, Bool, ◌++◌, ap, sym, subst, append-nil}
+use Rattle.std.proofs.Common.{◌≡◌, true, arith, ◌∙◌, List, ℕ, Bool, ◌++◌, ap, sym, subst, append-nil}
 use Rattle.std.proofs.lemmas.Grind.{common_steps}
 use Rattle.ion_value.specs.Items.{raw_head}
 use Rattle.ion_value.specs.PlainItems.{placed_item}

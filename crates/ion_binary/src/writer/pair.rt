@@ -78,9 +78,8 @@ impl<A: Allocator + Copy> BinWriter<A> {
         let Some(other) = self.symbols.known(second) else {
             return None;
         };
-        Some(joined(
-            var_uint_write(u64::from(first)).as_slice(),
-            var_uint_write(u64::from(other)).as_slice(),
-        ))
+        let one = var_uint_write(u64::from(first));
+        let two = var_uint_write(u64::from(other));
+        Some(joined(one.as_slice(), two.as_slice()))
     }
 }

@@ -17,5 +17,5 @@ returns-clause-octets g c place =
     let two : c.from-2.result ≡ second.other = search rules in
     c.joined.ensures
     ∙ pair-octets texts c.args.item.now.annotation c.in-Some.at c.args.second.now c.in-Some-known.first second.other place c.in-Some.is c.in-Some-known.ensures second.ensures
-    c.as_slice.result.now c.as_slice-2.result.now (c.as_slice.ensures.value ∙ (c.var_uint_write.ensures.spelled ∙ ap var_uint_octets one))
-    (c.as_slice-2.ensures.value ∙ (c.var_uint_write-2.ensures.spelled ∙ ap var_uint_octets two))
+    c.as_slice.result.now c.as_slice-2.result.now (c.as_slice.ensures.value ∙ (c.var_uint_write-one.ensures.spelled ∙ ap var_uint_octets one))
+    (c.as_slice-2.ensures.value ∙ (c.var_uint_write-two.ensures.spelled ∙ ap var_uint_octets two))

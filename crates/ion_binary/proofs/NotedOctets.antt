@@ -14,11 +14,9 @@ pub named-short : (id : ℕ) → 0 < id → id < 128 → (128 + id) ∷ [] ≡ n
 named-short id some few = sym (named-octets id some ∙ var-one id few)
 
 -- what stands before a value in its wrapper, behind its field
-pub note-front : (front d before x : List ℕ) (n note : ℕ) → d ≡ name_octets note → before ≡ wrapper_octets (length d) n → length x ≡ n
-    → ((front ++ before) ++ d) ++ x ≡ front ++ wrapped (counted_ids (name_octets note)) x
-note-front front d before x n note ed eb long =
+pub notes-front : (front d before x : List ℕ) (n : ℕ) → before ≡ wrapper_octets (length d) n → length x ≡ n
+    → ((front ++ before) ++ d) ++ x ≡ front ++ wrapped (counted_ids d) x
+notes-front front d before x n eb long =
     append_assoc (front ++ before) d x
     ∙ (append_assoc front before (d ++ x)
-    ∙ ap (λ (y : List ℕ). front ++ y)
-    (ap (λ (y : List ℕ). y ++ (d ++ x)) (eb ∙ ap (wrapper_octets (length d)) (sym long))
-    ∙ (wrapper-around d x ∙ ap (λ (y : List ℕ). wrapped (counted_ids y) x) ed)))
+    ∙ ap (λ (y : List ℕ). front ++ y) (ap (λ (y : List ℕ). y ++ (d ++ x)) (eb ∙ ap (wrapper_octets (length d)) (sym long)) ∙ wrapper-around d x))

@@ -1,11 +1,13 @@
 -- A plain item that is added to an open value is that of the streaming definition.
 use Rattle.std.proofs.Common.{◌≡◌, ℕ, ◌+◌, ◌-◌, ◌/◌, ◌<◌, ◌≤◌, ◌⊎◌, inl, subst, nat_lt, Bool, true, false, if◌then◌else◌, List, [], ◌∷◌, ◌++◌, length, map, take, drop, Option, Some, None, unwrap_or, option_map, Ok, refl, ap, sym, ◌∙◌, arith, append-nil, append_assoc, le-ltb}
-use Rattle.std.specs.Prelude.{IfSome, is_some}
+use Rattle.std.specs.Prelude.{IfSome}
 use Rattle.ion_meter.specs.Counts.{Counts}
 use Rattle.ion_meter.specs.declared.limits.Limits.{Limits}
 use Rattle.ion_meter.specs.declared.fault.Reason.{Reason}
 use Rattle.ion_value.specs.declared.plain_item.PlainItem.{PlainItem}
 use Rattle.ion_value.specs.declared.plain_item.SecondAt.{SecondAt}
+use Rattle.ion_value.specs.declared.plain_item.TextAt.{TextAt}
+use Rattle.ion_value.specs.Items.{raw_head}
 use Rattle.ion_value.specs.PlainItems.{listed, placed_item, placed_text, single_item, with_second}
 use Rattle.ion_value.specs.Value as value
 use Rattle.ion_value.specs.Value.{Head, Item, Known, PlacedItem, SymbolAt, UserSymbol, map_head, user_item, user_symbol_at}
@@ -14,10 +16,10 @@ use Rattle.ion_binary.specs.declared.headers.HeaderPlace.{HeaderPlace}
 use Rattle.ion_binary.specs.declared.open_value.OpenValue.{OpenValue}
 use Rattle.ion_binary.specs.declared.writer.BinWriter.{BinWriter}
 use Rattle.ion_value.specs.Number.{var_uint_octets}
-use Rattle.ion_binary.specs.Canonical.{annotation_octets, declaration, header, marker_if, field_octets, id_in, member_octets, wrapped, with_symbol, with_symbols, with_text}
+use Rattle.ion_binary.specs.Canonical.{annotation_octets, declaration, header, marker_if, field_octets, id_in, id_octets, member_octets, wrapped, with_symbol, with_symbols, with_text}
 use Rattle.ion_binary.specs.Held.{Held, closed_in, counted_ids, headed_at, headers_around, headers_with, held_forgotten, held_of, ids_place, moved_headers, moved_octets, octets_with, size_of, value_held, value_put, whole_at, with_front, with_names}
 use Rattle.ion_binary.specs.ItemOctets.{head_octets}
-use Rattle.ion_binary.specs.Opening.{IsOpen, MayAdd, MayCome, Stepped, name_octets, noted}
+use Rattle.ion_binary.specs.Opening.{IsOpen, MayAdd, MayCome, Stepped, name_octets, noted, noted_by}
 use Rattle.ion_binary.specs.Plain.{AddsPlain, EndsPlain, HaveIds, IsWhole}
 use Rattle.ion_binary.specs.Writer.{CanTake, ComesAt, Follows, Taken, added, adds_at, held_in, item_refusal}
 use Rattle.ion_value.specs.Writable.{field_symbols}
@@ -30,15 +32,6 @@ use Rattle.ion_binary.proofs.DeclarationOctets.{declaration-none}
 use Rattle.ion_binary.proofs.OpenSteps.{closed-put, put-length}
 use Rattle.ion_binary.proofs.WriterFollows.{adds-are, codes-after, follows-out, forgotten-is, held-behind, held-now, may-add, put-behind, refusal-is}
 use Rattle.ion_binary.proofs.WriterSteps.{kept, not-refused, same-held}
-
--- an item that has no second annotation is what it is without it
-without-second : (notes : List SymbolAt) (second : Option SecondAt) → is_some second ≡ false → with_second notes second ≡ notes
-without-second notes None none = refl
-without-second notes (Some s) none = absurd (cc none)
-
-pub single-placed : (item : PlainItem) → is_some item.second ≡ false → placed_item item ≡ single_item item
-single-placed item none =
-    ap (λ (notes : List SymbolAt). record (single_item item) { annotations = notes }) (without-second (listed (option_map placed_text item.annotation)) item.second none)
 
 -- nothing is put while a container is open
 pub put-inside : (h : Held) (hs : List HeaderPlace) (octets : List ℕ) → 0 < length hs → value_put h hs octets ≡ []
@@ -184,7 +177,30 @@ plain-added {A} w v before after item result c known some more held opened decli
   taken = plain-taken w v before after c s;
 }
 
--- a scalar was added behind the ids of its field and its annotation, if the call says so
+-- a scalar was added behind the ids of its field and its annotations, if the call says so
+pub member-noted : {A : Type 0} (w : BinWriter A) (v : OpenValue A) (before after : Counts) (item : PlacedItem) (result : Bool) (name : ℕ) (notes x : List ℕ)
+    → CanTake w before → 0 < length w.open_value.headers → IsWhole item.head
+    → HaveIds w.symbols.texts (field_symbols item.field) → HaveIds w.symbols.texts item.annotations → HaveIds w.symbols.texts (head_symbols item.head)
+    → name_octets name ≡ field_octets (id_in w.symbols.texts) (user_item item).field
+    → counted_ids notes ≡ annotation_octets (id_in w.symbols.texts) (user_item item).annotations
+    → x ≡ head_octets (id_in w.symbols.texts) (user_item item).head
+    → (result ≡ true → v.octets ≡ w.open_value.octets ++ noted_by name notes x) → v.headers ≡ w.open_value.headers → (result ≡ true → IsOpen w.limits v)
+    → (result ≡ false → (v ≡ w.open_value) × (after ≡ before)) → Stepped w.limits w.open_value v before after None
+    → AddsPlain w (record w { open_value = v }) before after item result
+member-noted {A} w v before after item result name notes x c some whole kf ka kh ef ea eh put same opened declines s =
+    let texts : List (List ℕ) = w.symbols.texts in
+    let known : HaveIds texts (item_symbols item) = have-append texts (field_symbols item.field) (item.annotations ++ head_symbols item.head) kf (have-append texts item.annotations (head_symbols item.head) ka kh) in
+    let long : length v.headers ≡ length w.open_value.headers = ap (λ (hs : List HeaderPlace). length hs) same in
+    let octets : noted_by name notes x ≡ member_octets (id_in texts) (user_item item).field (user_item item).annotations (head_octets (id_in texts) (user_item item).head) =
+    ap (λ (y : List ℕ). y ++ wrapped (counted_ids notes) x) ef
+    ∙ ap (λ (y : List ℕ). field_octets (id_in texts) (user_item item).field ++ y) (ap (λ (y : List ℕ). wrapped y x) ea ∙ ap (wrapped (annotation_octets (id_in texts) (user_item item).annotations)) eh) in
+    plain-added w v before after item result c known (inl some) (λ e. omega (arith, long, some))
+    (λ e.
+    ap (λ (hs : List HeaderPlace). record (held_in w) { octets = v.octets; headers = hs }) same
+    ∙ scalar-added (held_in w) item v.octets known whole (put e ∙ ap (λ (y : List ℕ). w.open_value.octets ++ y) octets))
+    opened declines s
+
+-- the same where it has one annotation at most
 pub member-plain : {A : Type 0} (w : BinWriter A) (v : OpenValue A) (before after : Counts) (item : PlacedItem) (result : Bool) (name note : ℕ) (x : List ℕ)
     → CanTake w before → 0 < length w.open_value.headers → IsWhole item.head
     → HaveIds w.symbols.texts (field_symbols item.field) → HaveIds w.symbols.texts item.annotations → HaveIds w.symbols.texts (head_symbols item.head)
@@ -194,18 +210,7 @@ pub member-plain : {A : Type 0} (w : BinWriter A) (v : OpenValue A) (before afte
     → (result ≡ true → v.octets ≡ w.open_value.octets ++ noted name note x) → v.headers ≡ w.open_value.headers → (result ≡ true → IsOpen w.limits v)
     → (result ≡ false → (v ≡ w.open_value) × (after ≡ before)) → Stepped w.limits w.open_value v before after None
     → AddsPlain w (record w { open_value = v }) before after item result
-member-plain {A} w v before after item result name note x c some whole kf ka kh ef ea eh put same opened declines s =
-    let texts : List (List ℕ) = w.symbols.texts in
-    let known : HaveIds texts (item_symbols item) = have-append texts (field_symbols item.field) (item.annotations ++ head_symbols item.head) kf (have-append texts item.annotations (head_symbols item.head) ka kh) in
-    let long : length v.headers ≡ length w.open_value.headers = ap (λ (hs : List HeaderPlace). length hs) same in
-    let octets : noted name note x ≡ member_octets (id_in texts) (user_item item).field (user_item item).annotations (head_octets (id_in texts) (user_item item).head) =
-    ap (λ (y : List ℕ). y ++ wrapped (counted_ids (name_octets note)) x) ef
-    ∙ ap (λ (y : List ℕ). field_octets (id_in texts) (user_item item).field ++ y) (ap (λ (y : List ℕ). wrapped y x) ea ∙ ap (wrapped (annotation_octets (id_in texts) (user_item item).annotations)) eh) in
-    plain-added w v before after item result c known (inl some) (λ e. omega (arith, long, some))
-    (λ e.
-    ap (λ (hs : List HeaderPlace). record (held_in w) { octets = v.octets; headers = hs }) same
-    ∙ scalar-added (held_in w) item v.octets known whole (put e ∙ ap (λ (y : List ℕ). w.open_value.octets ++ y) octets))
-    opened declines s
+member-plain w v before after item result name note = member-noted w v before after item result name (name_octets note)
 
 -- the id of a symbol value
 pub name-kept : (texts : List (List ℕ)) (t : List ℕ) (place : ℕ) (o : Option ℕ) → o ≡ known_id texts t
@@ -227,6 +232,27 @@ pub note-octets-are : (texts : List (List ℕ)) (t : List ℕ) (o : Option ℕ) 
 note-octets-are texts t None e = tt
 note-octets-are texts t (Some id) e =
     ap counted_ids (known-named texts t id e ∙ sym (append-nil (var_uint_octets (id_in texts (Known t))))) ∙ counted-are (id_in texts) (Known t ∷ [])
+
+-- the ids of two annotations, the first of which is `one`
+module _ (texts : List (List ℕ)) (o : Option TextAt) (one : TextAt) (t : List ℕ) (first second place : ℕ) (there : o ≡ Some one)
+    (ef : Some first ≡ known_id texts one.text.now) (es : Some second ≡ known_id texts t) where
+  abbrev after : SymbolAt
+  after = record { symbol = value.Text t; place = place }
+
+  pub pair-known : HaveIds texts (listed (option_map placed_text o) ++ after ∷ [])
+  pair-known =
+      let P : Option TextAt → Type 0 = λ a. HaveIds texts (listed (option_map placed_text a) ++ after ∷ []) in
+      subst P (sym there) (known-kept texts one.text.now first ef, (known-kept texts t second es, tt))
+
+  pub pair-octets : (x y : List ℕ) → x ≡ var_uint_octets first → y ≡ var_uint_octets second
+      → x ++ y ≡ id_octets (id_in texts) (map user_symbol_at (listed (option_map placed_text o) ++ after ∷ []))
+  pair-octets x y ex ey =
+      let a : List ℕ = var_uint_octets (id_in texts (Known one.text.now)) in
+      let b : List ℕ = var_uint_octets (id_in texts (Known t)) in
+      let P : Option TextAt → Type 0 = λ n. x ++ y ≡ id_octets (id_in texts) (map user_symbol_at (listed (option_map placed_text n) ++ after ∷ [])) in
+      subst P (sym there)
+      (ap (λ (z : List ℕ). z ++ y) (ex ∙ ap var_uint_octets (known-is texts one.text.now first ef))
+      ∙ ap (λ (z : List ℕ). a ++ z) (ey ∙ (ap var_uint_octets (known-is texts t second es) ∙ sym (append-nil b))))
 
 -- ---- containers begin and end
 
@@ -262,6 +288,18 @@ ended-added h item os hs none bare head eo eh =
 
 pub ended-bare : {A : Type 0} (limits : Limits) (v : OpenValue A) (item : PlacedItem) → item.head ≡ value.end → MayAdd limits v item.head item → (item.field ≡ None) × (item.annotations ≡ [])
 ended-bare {A} limits v item e may = let P : Head SymbolAt → Type 0 = λ h. MayAdd {A = A} limits v h item in subst P e may
+
+-- nor has it a second annotation
+none-behind : (notes : List SymbolAt) (second : Option SecondAt) → with_second notes second ≡ [] → with_second notes second ≡ notes
+none-behind notes None bare = refl
+none-behind [] (Some s) bare = absurd (Prim.cc bare)
+none-behind (n ∷ ns) (Some s) bare = absurd (Prim.cc bare)
+
+pub ended-single : {A : Type 0} (w : BinWriter A) (item : PlainItem) → MayCome w.limits w.open_value (placed_item item) → raw_head item.head ≡ value.end
+    → placed_item item ≡ single_item item
+ended-single w item may head =
+    let bare = ended-bare w.limits w.open_value (placed_item item) head may.follows in
+    ap (λ (notes : List SymbolAt). record (single_item item) { annotations = notes }) (none-behind (listed (option_map placed_text item.annotation)) item.second bare.1)
 
 -- ---- the value at top level ends
 

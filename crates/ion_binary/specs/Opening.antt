@@ -84,9 +84,13 @@ both_octets s = s.front.now ++ s.rest.now
 abbrev pub name_octets : ℕ → List ℕ
 name_octets id = if nat_eq id 0 then [] else var_uint_octets id
 
--- a value behind its field and in the wrapper of its annotation, by their ids, each 0 where there is none
+-- a value behind its field, by the id, 0 where there is none, and in the wrapper of its annotations, by the octets of their ids
+abbrev pub noted_by : ℕ → List ℕ → List ℕ → List ℕ
+noted_by name notes x = name_octets name ++ wrapped (counted_ids notes) x
+
+-- the same where there is one annotation at most: its id, 0 where there is none
 abbrev pub noted : ℕ → ℕ → List ℕ → List ℕ
-noted name note x = name_octets name ++ wrapped (counted_ids (name_octets note)) x
+noted name note x = noted_by name (name_octets note) x
 
 -- the octets of a scalar, some of which are lent
 abbrev pub spelled_octets : Spelled → List ℕ

@@ -1,10 +1,11 @@
 -- What contracts see of plain items that are added at once to a value that is open and stays so.
-use Rattle.std.specs.Prelude.{◌≡◌, ℕ, ◌/◌, ◌<◌, ◌≤◌, ◌⊎◌, Bool, true, false, List, [], ◌∷◌, ◌++◌, length, option_map, None, ⊤}
+use Rattle.std.specs.Prelude.{◌≡◌, ℕ, ◌/◌, ◌<◌, ◌≤◌, ◌⊎◌, Bool, true, false, List, [], ◌∷◌, ◌++◌, length, option_map, Option, None, ⊤}
 use Rattle.ion_meter.specs.Counts.{Counts}
 use Rattle.ion_value.specs.Items.{raw_head}
-use Rattle.ion_value.specs.PlainItems.{listed, placed_text}
+use Rattle.ion_value.specs.PlainItems.{listed, placed_text, with_second}
 use Rattle.ion_value.specs.Value as value
 use Rattle.ion_value.specs.Value.{SymbolAt, user_symbol_at, Head, PlacedItem}
+use Rattle.ion_value.specs.declared.plain_item.SecondAt.{SecondAt}
 use Rattle.ion_binary.specs.declared.writer.BinWriter.{BinWriter}
 use Rattle.ion_binary.specs.declared.writer.plain.SingleItem.{SingleItem}
 use Rattle.ion_symbols.specs.Output.{texts_cost}
@@ -22,6 +23,14 @@ as_item item = record {
   place = item.place;
   top = item.top;
 }
+
+-- an item with one more annotation, of this text, that stands at a place
+abbrev pub with_note : PlacedItem → List ℕ → ℕ → PlacedItem
+with_note item text place = record item { annotations = item.annotations ++ record { symbol = value.Text text; place = place } ∷ [] }
+
+-- an item with a second annotation, if there is one
+abbrev pub as_pair : SingleItem → Option SecondAt → PlacedItem
+as_pair item second = record (as_item item) { annotations = with_second (as_item item).annotations second }
 
 -- a head is a scalar
 abbrev pub IsWhole : {S : Type 0} → Head S → Type 0

@@ -13,7 +13,7 @@ ghost use Rattle.ion_binary.specs.Grammar.{type_code};
 ghost use Rattle.ion_binary.specs.Held.{begun_at, begun_headers, closed_in, headers_around, innermost_in, moved_headers, moved_octets, size_of, whole_at, wrapper_headers, header_at};
 ghost use Rattle.ion_binary.specs.ItemOctets.{head_name, user_head};
 ghost use Rattle.ion_meter.specs.Limits.{AreChecked};
-ghost use Rattle.ion_binary.specs.Opening.{CanStep, IsOpen, IsOpenTo, IsWithin, MayFollow, PutsScalar, Raises, Stepped, both_octets, name_octets, noted, open_cost, spelled_octets, wrapper_octets};
+ghost use Rattle.ion_binary.specs.Opening.{CanStep, IsOpen, IsOpenTo, IsWithin, MayFollow, PutsScalar, Raises, Stepped, both_octets, name_octets, open_cost, spelled_octets, wrapper_octets};
 
 mod ended;
 mod plain;
@@ -21,7 +21,6 @@ mod plain;
 use crate::front::Front;
 use crate::header::header;
 use crate::headers::{HeaderPlace, Headers};
-use crate::noted::noted_scalar;
 use crate::opening::{LONGEST, opening};
 use crate::scalar::{Octets, Spelled, spell, spell_int, with_lent};
 use arrayvec::ArrayVec;
@@ -350,36 +349,6 @@ impl<A: Allocator + Copy> OpenValue<A> {
             return false;
         }
         self.octets.extend_if_room(meter, octets.front, octets.rest)
-    }
-
-    /// Adds a scalar behind the ids of its field and of its annotation, each 0 where there is none, as
-    /// `extend_if_room` adds octets.
-    #[inline(never)]
-    pub fn put_octets(
-        &mut self,
-        meter: &mut Meter<A>,
-        limits: &Limits,
-        name: u32,
-        note: u32,
-        scalar: &Octets<'_>,
-    ) -> bool
-        requires can_step { CanStep limits.now self.old meter.old }
-        requires open { IsOpen limits.now self.old }
-        ensures octets { result ≡ true → self.new.octets
-            ≡ self.old.octets ++ noted name note (both_octets scalar.now) }
-        ensures headers { self.new.headers ≡ self.old.headers }
-        ensures open { result ≡ true → IsOpen limits.now self.new }
-        ensures declines { result ≡ false → (self.new ≡ self.old) × (meter.new ≡ meter.old) }
-        ensures stepped { Stepped limits.now self.old self.new meter.old meter.new None }
-    {
-        let Some(front) = noted_scalar(limits, name, note, scalar) else {
-            return false;
-        };
-        let octets = Octets {
-            front: front.as_slice(),
-            rest: scalar.rest,
-        };
-        self.extend_if_room(meter, *limits, &octets)
     }
 
     /// Begins a container behind the id of its field, if any, as `begin_if_room` does.

@@ -18,6 +18,7 @@ ghost use Rattle.ion_binary.specs.ItemPuts.{binary_grows, binary_silent};
 ghost use Rattle.ion_binary.specs.WriterWithin.{binary-within};
 
 mod fresh;
+mod pair;
 mod plain;
 
 use crate::declaration::put_declaration;
@@ -403,10 +404,6 @@ impl<O: Output, A: Allocator + Copy> ValueWriter<O, A> for BinWriter<A> {
         sink: &mut Sink<O, A>,
         item: PlainItem<'_, '_>,
     ) -> bool {
-        let pair = item.second.is_some();
-        if pair {
-            return false;
-        }
         let single = single_of(item);
         if let Head::End = single.head {
             if self.open_value.headers.len() == 1 {
@@ -417,7 +414,7 @@ impl<O: Output, A: Allocator + Copy> ValueWriter<O, A> for BinWriter<A> {
         if waits {
             return false;
         }
-        self.add_plain(meter, single)
+        self.add_plain(meter, single, item.second)
     }
 
     ghost grows = { binary_grows };

@@ -2,17 +2,77 @@
 ghost use Rattle.std.specs.Prelude.{◌≡◌, ◌^◌, ◌<◌, ◌≤◌, ◌∷◌, [], ◌++◌, true, false, if◌then◌else◌, length, take, None};
 ghost use Rattle.ion_value.specs.Number.{coefficient_octets, uint_octets};
 ghost use Rattle.ion_binary.specs.Canonical.{headed};
-ghost use Rattle.ion_binary.specs.Opening.{CanStep, IsOpen, Stepped, noted};
+ghost use Rattle.ion_binary.specs.Opening.{CanStep, IsOpen, Stepped, both_octets, noted, noted_by};
 
 use super::OpenValue;
 use crate::few::{Few, few_header, few_number, noted_front};
 use crate::header::header;
+use crate::noted::noted_scalar;
 use crate::scalar::Octets;
 use ion_meter::limits::Limits;
 use ion_meter::meter::Meter;
+use ion_value::var::var_uint_write;
 use std::alloc::Allocator;
 
 impl<A: Allocator + Copy> OpenValue<A> {
+    /// Adds a scalar behind the ids of its field and of its annotation, each 0 where there is none, as
+    /// `extend_if_room` adds octets.
+    #[inline(never)]
+    pub fn put_octets(
+        &mut self,
+        meter: &mut Meter<A>,
+        limits: &Limits,
+        name: u32,
+        note: u32,
+        scalar: &Octets<'_>,
+    ) -> bool
+        requires can_step { CanStep limits.now self.old meter.old }
+        requires open { IsOpen limits.now self.old }
+        ensures octets { result ≡ true → self.new.octets
+            ≡ self.old.octets ++ noted name note (both_octets scalar.now) }
+        ensures headers { self.new.headers ≡ self.old.headers }
+        ensures open { result ≡ true → IsOpen limits.now self.new }
+        ensures declines { result ≡ false → (self.new ≡ self.old) × (meter.new ≡ meter.old) }
+        ensures stepped { Stepped limits.now self.old self.new meter.old meter.new None }
+    {
+        if note == 0 {
+            return self.put_behind(meter, limits, name, &[], scalar);
+        }
+        let notes = var_uint_write(u64::from(note));
+        self.put_behind(meter, limits, name, notes.as_slice(), scalar)
+    }
+
+    /// Adds a scalar behind the id of its field, 0 where there is none, and the octets of the ids of
+    /// its annotations, as `extend_if_room` adds octets.
+    #[inline(always)]
+    pub fn put_behind(
+        &mut self,
+        meter: &mut Meter<A>,
+        limits: &Limits,
+        name: u32,
+        notes: &[u8],
+        scalar: &Octets<'_>,
+    ) -> bool
+        requires can_step { CanStep limits.now self.old meter.old }
+        requires open { IsOpen limits.now self.old }
+        requires few { length notes.now ≤ 20 }
+        ensures octets { result ≡ true → self.new.octets
+            ≡ self.old.octets ++ noted_by name notes.now (both_octets scalar.now) }
+        ensures headers { self.new.headers ≡ self.old.headers }
+        ensures open { result ≡ true → IsOpen limits.now self.new }
+        ensures declines { result ≡ false → (self.new ≡ self.old) × (meter.new ≡ meter.old) }
+        ensures stepped { Stepped limits.now self.old self.new meter.old meter.new None }
+    {
+        let Some(front) = noted_scalar(limits, name, notes, scalar) else {
+            return false;
+        };
+        let octets = Octets {
+            front: front.as_slice(),
+            rest: scalar.rest,
+        };
+        self.extend_if_room(meter, *limits, &octets)
+    }
+
     /// Adds a scalar of one octet, as `put_octets` does.
     #[inline(never)]
     pub fn put_octet(

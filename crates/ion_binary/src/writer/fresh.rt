@@ -17,7 +17,7 @@ ghost use Rattle.ion_binary.specs.Writer.{CanTake};
 use super::BinWriter;
 use super::plain::SingleItem;
 use crate::few::{few_number, noted_front};
-use crate::noted::noted_scalar;
+use crate::noted::{id_octets, noted_scalar};
 use crate::scalar::{Octets, spell};
 use ion_meter::buf::Added;
 use ion_meter::meter::Meter;
@@ -104,7 +104,8 @@ impl<A: Allocator + Copy> BinWriter<A> {
             front: spelled.front.as_slice(),
             rest: spelled.lent,
         };
-        let Some(front) = noted_scalar(&self.limits, fresh.name, note, &scalar) else {
+        let notes = id_octets(note);
+        let Some(front) = noted_scalar(&self.limits, fresh.name, notes.as_slice(), &scalar) else {
             return false;
         };
         let octets = Octets {
@@ -232,9 +233,9 @@ fn small_of(head: Head<'_>, symbol: u32) -> Option<Small>
     }
 }
 
-// Whether a head is a scalar.
+/// Whether a head is a scalar.
 #[inline(always)]
-fn is_scalar(head: Head<'_>) -> bool
+pub(super) fn is_scalar(head: Head<'_>) -> bool
     ensures { result ≡ true → IsWhole (raw_head head.entry) }
 {
     !matches!(head, Head::Begin(_) | Head::End | Head::Marker)

@@ -10,7 +10,7 @@ ghost use Rattle.ion_binary.specs.Canonical.{annotation_octets, field_octets, he
 ghost use Rattle.ion_binary.specs.Held.{counted_ids};
 ghost use Rattle.ion_binary.specs.ItemOctets.{head_name, head_octets, user_head};
 ghost use Rattle.ion_binary.specs.Opening.{MayCome, both_octets, name_octets};
-ghost use Rattle.ion_binary.specs.Plain.{AddsPlain, EndsPlain, HaveIds, IsWhole, as_item};
+ghost use Rattle.ion_binary.specs.Plain.{AddsPlain, EndsPlain, HaveIds, IsWhole, as_item, as_pair};
 ghost use Rattle.ion_binary.specs.Writer.{CanTake};
 ghost use Rattle.ion_binary.specs.Writing.{head_symbols};
 
@@ -24,7 +24,7 @@ use ion_value::decimal::Decimal;
 use ion_value::int::Int;
 use ion_value::ion_type::Kind;
 use ion_value::item::{Head, Sym, SymAt};
-use ion_value::plain_item::{PlainItem, TextAt};
+use ion_value::plain_item::{PlainItem, SecondAt, TextAt};
 use std::alloc::Allocator;
 
 /// A plain item that has one annotation at most. It goes to calls by memory, and a second annotation
@@ -69,12 +69,20 @@ impl<A: Allocator + Copy> BinWriter<A> {
     // Adds an item behind which a value is open, where all is there that it needs: ids of its texts, or
     // of a scalar of all but one, and room. Else it answers false.
     #[inline(always)]
-    pub(super) fn add_plain(&mut self, meter: &mut Meter<A>, item: SingleItem<'_, '_>) -> bool
+    pub(super) fn add_plain(
+        &mut self,
+        meter: &mut Meter<A>,
+        item: SingleItem<'_, '_>,
+        second: Option<SecondAt<'_>>,
+    ) -> bool
         requires can_take { CanTake self.old meter.old }
-        requires comes { MayCome self.old.limits self.old.open_value (as_item item) }
+        requires comes { MayCome self.old.limits self.old.open_value (as_pair item second) }
         ensures { AddsPlain self.old self.new meter.old meter.new
-            (as_item item.entry) result }
+            (as_pair item.entry second.entry) result }
     {
+        if let Some(second) = second {
+            return self.add_pair(meter, &item, second.text, second.place);
+        }
         match item.head {
             Head::Begin(kind) => self.begin_plain(meter, &item, kind),
             Head::End => self.end_plain(meter, &item),

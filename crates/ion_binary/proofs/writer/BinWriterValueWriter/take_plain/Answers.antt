@@ -1,12 +1,15 @@
-use Rattle.std.proofs.Common.{◌≡◌, true, false, arith, ◌∙◌, List, ℕ, Bool, ◌++◌, ap, sym, subst, append-nil, rules}
+use Rattle.std.proofs.Common.{◌≡◌, true, arith, ◌∙◌, List, ℕ, Bool, ◌++◌, ap, sym, subst, append-nil}
 use Rattle.std.proofs.lemmas.Grind.{common_steps}
-use Rattle.std.specs.Prelude.{is_some}
+use Rattle.ion_value.specs.Items.{raw_head}
 use Rattle.ion_value.specs.PlainItems.{placed_item}
+use Rattle.ion_value.specs.Value as value
 use Rattle.ion_value.specs.Value.{PlacedItem}
 use Rattle.ion_binary.specs.Opening.{MayCome}
-use Rattle.ion_binary.specs.Plain.{AddsPlain, EndsPlain, as_item}
+use Rattle.ion_binary.specs.Plain.{AddsPlain, EndsPlain, as_item, as_pair}
+use Rattle.ion_binary.specs.Writer.{ComesAt}
 use Rattle.ion_binary.specs.Writing.{written_behind}
-use Rattle.ion_binary.proofs.PlainAdded.{ends-follows, ends-puts, plain-adds, plain-comes, plain-follows, single-placed}
+use Rattle.ion_binary.specs.declared.writer.plain.SingleItem.{SingleItem}
+use Rattle.ion_binary.proofs.PlainAdded.{ended-single, ends-follows, ends-puts, plain-adds, plain-comes, plain-follows}
 use Rattle.ion_binary.proofs.WriterFollows.{may-come, stands-behind}
 use Rattle.ion_binary.proofs.writer.BinWriterValueWriter.take_plain.Goals as goal
 
@@ -15,30 +18,29 @@ end_whole-requires-clause-comes g c =
     let w = c.args.self.now in
     let at = c.requires.path in
     let none : w.ended ≡ 0 = let e = at.1.holds.ended in let l = c.len.ensures in let t = c.if-len-eq1.true in omega (arith, e, l, t) in
-    let alone : is_some c.args.item.second ≡ false = search rules in
-    let single : placed_item c.args.item ≡ as_item c.single_of-single.result = single-placed c.args.item alone ∙ ap as_item (sym c.single_of-single.ensures) in
-    subst (λ (i : PlacedItem). MayCome w.limits w.open_value i) single
-    (plain-comes w (written_behind w.limits at.0) (placed_item c.args.item) (at.1.holds, may-come w.limits at.0 (placed_item c.args.item) at.2) none)
+    let item : PlacedItem = placed_item c.args.item in
+    let comes = plain-comes w (written_behind w.limits at.0) item (at.1.holds, may-come w.limits at.0 item at.2) none in
+    let head : raw_head c.args.item.head ≡ value.end = ap raw_head (sym (ap (λ (i : SingleItem). i.head) c.single_of-single.ensures) ∙ c.in-End.is) in
+    subst (λ (i : PlacedItem). MayCome w.limits w.open_value i) (ended-single w c.args.item comes head ∙ ap as_item (sym c.single_of-single.ensures)) comes
 
 pub add_plain-requires-clause-comes : goal.add_plain-requires-clause-comes
 add_plain-requires-clause-comes g c =
     let w = c.args.self.now in
     let at = c.requires.path in
     let none : w.ended ≡ 0 = let t = c.if-waits.false in omega (arith, t) in
-    let alone : is_some c.args.item.second ≡ false = search rules in
-    let single : placed_item c.args.item ≡ as_item c.single_of-single.result = single-placed c.args.item alone ∙ ap as_item (sym c.single_of-single.ensures) in
-    subst (λ (i : PlacedItem). MayCome w.limits w.open_value i) single
-    (plain-comes w (written_behind w.limits at.0) (placed_item c.args.item) (at.1.holds, may-come w.limits at.0 (placed_item c.args.item) at.2) none)
+    let item : PlacedItem = placed_item c.args.item in
+    let placed : item ≡ as_pair c.single_of-single.result c.args.item.second = ap (λ (i : SingleItem). as_pair i c.args.item.second) (sym c.single_of-single.ensures) in
+    subst (λ (i : PlacedItem). MayCome w.limits w.open_value i) placed
+    (plain-comes w (written_behind w.limits at.0) item (at.1.holds, may-come w.limits at.0 item at.2) none)
 
 pub returns-clause-stands : goal.returns-clause-stands
 returns-clause-stands g c is path stands next =
     let w = c.args.self.now in
     let none : w.ended ≡ 0 = let t = c.if-waits.false in omega (arith, t) in
     let item : PlacedItem = placed_item c.args.item in
-    let alone : is_some c.args.item.second ≡ false = search rules in
-    let single : item ≡ as_item c.single_of-single.result = single-placed c.args.item alone ∙ ap as_item (sym c.single_of-single.ensures) in
+    let placed : item ≡ as_pair c.single_of-single.result c.args.item.second = ap (λ (i : SingleItem). as_pair i c.args.item.second) (sym c.single_of-single.ensures) in
     let P : PlacedItem → Bool → Type 0 = λ i b. AddsPlain w c.add_plain.new.self c.args.meter.now c.add_plain.new.meter i b in
-    let p = subst (λ (i : PlacedItem). P i true) (sym single) (subst (P (as_item c.single_of-single.result)) is c.add_plain.ensures) in
+    let p = subst (λ (i : PlacedItem). P i true) (sym placed) (subst (P (as_pair c.single_of-single.result c.args.item.second)) is c.add_plain.ensures) in
     let f = plain-follows w c.add_plain.new.self c.args.meter.now c.add_plain.new.meter (written_behind w.limits path) item p (stands.holds, may-come w.limits path item next) none in
     (stands-behind w.limits c.add_plain.new.self path item p.taken.limits (p.taken.failed ∙ stands.well) f.holds, f.passes)
 
@@ -47,10 +49,9 @@ returns-clause-puts g c is path stands next =
     let w = c.args.self.now in
     let none : w.ended ≡ 0 = let t = c.if-waits.false in omega (arith, t) in
     let item : PlacedItem = placed_item c.args.item in
-    let alone : is_some c.args.item.second ≡ false = search rules in
-    let single : item ≡ as_item c.single_of-single.result = single-placed c.args.item alone ∙ ap as_item (sym c.single_of-single.ensures) in
+    let placed : item ≡ as_pair c.single_of-single.result c.args.item.second = ap (λ (i : SingleItem). as_pair i c.args.item.second) (sym c.single_of-single.ensures) in
     let P : PlacedItem → Bool → Type 0 = λ i b. AddsPlain w c.add_plain.new.self c.args.meter.now c.add_plain.new.meter i b in
-    let p = subst (λ (i : PlacedItem). P i true) (sym single) (subst (P (as_item c.single_of-single.result)) is c.add_plain.ensures) in
+    let p = subst (λ (i : PlacedItem). P i true) (sym placed) (subst (P (as_pair c.single_of-single.result c.args.item.second)) is c.add_plain.ensures) in
     let adds = plain-adds w c.add_plain.new.self c.args.meter.now c.add_plain.new.meter (written_behind w.limits path) item p (stands.holds, may-come w.limits path item next) none in
     sym (append-nil c.args.sink.now.pending) ∙ ap (λ (x : List ℕ). c.args.sink.now.pending ++ x) (sym adds)
 
@@ -59,11 +60,13 @@ returns-then-len-eq1-clause-stands g c is path stands next =
     let w = c.args.self.now in
     let none : w.ended ≡ 0 = let e = stands.holds.ended in let l = c.len.ensures in let t = c.if-len-eq1.true in omega (arith, e, l, t) in
     let item : PlacedItem = placed_item c.args.item in
-    let alone : is_some c.args.item.second ≡ false = search rules in
-    let single : item ≡ as_item c.single_of-single.result = single-placed c.args.item alone ∙ ap as_item (sym c.single_of-single.ensures) in
+    let comes : ComesAt w (written_behind w.limits path) item = (stands.holds, may-come w.limits path item next) in
+    let head : raw_head c.args.item.head ≡ value.end = ap raw_head (sym (ap (λ (i : SingleItem). i.head) c.single_of-single.ensures) ∙ c.in-End.is) in
+    let single : item ≡ as_item c.single_of-single.result =
+    ended-single w c.args.item (plain-comes w (written_behind w.limits path) item comes none) head ∙ ap as_item (sym c.single_of-single.ensures) in
     let P : PlacedItem → Bool → Type 0 = λ i b. EndsPlain w c.end_whole.new.self c.args.meter.now c.end_whole.new.meter i c.args.sink.now.pending c.end_whole.new.sink.pending b in
     let p = subst (λ (i : PlacedItem). P i true) (sym single) (subst (P (as_item c.single_of-single.result)) is c.end_whole.ensures.ends) in
-    let f = ends-follows w c.end_whole.new.self c.args.meter.now c.end_whole.new.meter (written_behind w.limits path) item c.args.sink.now.pending c.end_whole.new.sink.pending p (stands.holds, may-come w.limits path item next) none in
+    let f = ends-follows w c.end_whole.new.self c.args.meter.now c.end_whole.new.meter (written_behind w.limits path) item c.args.sink.now.pending c.end_whole.new.sink.pending p comes none in
     (stands-behind w.limits c.end_whole.new.self path item p.taken.limits (p.taken.failed ∙ stands.well) f.holds, f.passes)
 
 pub returns-then-len-eq1-clause-puts : goal.returns-then-len-eq1-clause-puts
@@ -71,11 +74,13 @@ returns-then-len-eq1-clause-puts g c is path stands next =
     let w = c.args.self.now in
     let none : w.ended ≡ 0 = let e = stands.holds.ended in let l = c.len.ensures in let t = c.if-len-eq1.true in omega (arith, e, l, t) in
     let item : PlacedItem = placed_item c.args.item in
-    let alone : is_some c.args.item.second ≡ false = search rules in
-    let single : item ≡ as_item c.single_of-single.result = single-placed c.args.item alone ∙ ap as_item (sym c.single_of-single.ensures) in
+    let comes : ComesAt w (written_behind w.limits path) item = (stands.holds, may-come w.limits path item next) in
+    let head : raw_head c.args.item.head ≡ value.end = ap raw_head (sym (ap (λ (i : SingleItem). i.head) c.single_of-single.ensures) ∙ c.in-End.is) in
+    let single : item ≡ as_item c.single_of-single.result =
+    ended-single w c.args.item (plain-comes w (written_behind w.limits path) item comes none) head ∙ ap as_item (sym c.single_of-single.ensures) in
     let P : PlacedItem → Bool → Type 0 = λ i b. EndsPlain w c.end_whole.new.self c.args.meter.now c.end_whole.new.meter i c.args.sink.now.pending c.end_whole.new.sink.pending b in
     let p = subst (λ (i : PlacedItem). P i true) (sym single) (subst (P (as_item c.single_of-single.result)) is c.end_whole.ensures.ends) in
-    ends-puts w c.end_whole.new.self c.args.meter.now c.end_whole.new.meter (written_behind w.limits path) item c.args.sink.now.pending c.end_whole.new.sink.pending p (stands.holds, may-come w.limits path item next) none
+    ends-puts w c.end_whole.new.self c.args.meter.now c.end_whole.new.meter (written_behind w.limits path) item c.args.sink.now.pending c.end_whole.new.sink.pending p comes none
 
 pub returns-then-len-eq1-clause-charges : goal.returns-then-len-eq1-clause-charges
 returns-then-len-eq1-clause-charges g c = grind (arith, common_steps) steps 400000
@@ -85,9 +90,6 @@ returns-clause-declines g c = grind (arith, common_steps) steps 400000
 
 pub returns-then-len-eq1-clause-sound : goal.returns-then-len-eq1-clause-sound
 returns-then-len-eq1-clause-sound g c = grind (arith, common_steps) steps 400000
-
-pub returns-then-pair-clause-stands : goal.returns-then-pair-clause-stands
-returns-then-pair-clause-stands g c = grind (arith, common_steps) steps 400000
 
 pub returns-clause-charges : goal.returns-clause-charges
 returns-clause-charges g c = grind (arith, common_steps) steps 400000
@@ -113,9 +115,6 @@ returns-clause-same g c = grind (arith, common_steps) steps 400000
 pub returns-then-waits-clause-sound : goal.returns-then-waits-clause-sound
 returns-then-waits-clause-sound g c = grind (arith, common_steps) steps 400000
 
-pub returns-then-pair-clause-declines : goal.returns-then-pair-clause-declines
-returns-then-pair-clause-declines g c = grind (arith, common_steps) steps 400000
-
 pub returns-clause-device : goal.returns-clause-device
 returns-clause-device g c = grind (arith, common_steps) steps 400000
 
@@ -134,20 +133,11 @@ end_whole-requires-clause-can_take g c = grind (arith, common_steps) steps 40000
 pub add_plain-requires-clause-can_take : goal.add_plain-requires-clause-can_take
 add_plain-requires-clause-can_take g c = grind (arith, common_steps) steps 400000
 
-pub returns-then-pair-clause-sound : goal.returns-then-pair-clause-sound
-returns-then-pair-clause-sound g c = grind (arith, common_steps) steps 400000
-
 pub returns-then-len-eq1-clause-same : goal.returns-then-len-eq1-clause-same
 returns-then-len-eq1-clause-same g c = grind (arith, common_steps) steps 400000
 
 pub returns-then-waits-clause-charges : goal.returns-then-waits-clause-charges
 returns-then-waits-clause-charges g c = grind (arith, common_steps) steps 400000
-
-pub returns-then-pair-clause-puts : goal.returns-then-pair-clause-puts
-returns-then-pair-clause-puts g c = grind (arith, common_steps) steps 400000
-
-pub returns-then-pair-clause-charges : goal.returns-then-pair-clause-charges
-returns-then-pair-clause-charges g c = grind (arith, common_steps) steps 400000
 
 pub returns-then-waits-clause-counted : goal.returns-then-waits-clause-counted
 returns-then-waits-clause-counted g c = grind (arith, common_steps) steps 400000
@@ -155,11 +145,8 @@ returns-then-waits-clause-counted g c = grind (arith, common_steps) steps 400000
 pub returns-then-waits-clause-puts : goal.returns-then-waits-clause-puts
 returns-then-waits-clause-puts g c = grind (arith, common_steps) steps 400000
 
-pub end_whole-requires-clause-head : goal.end_whole-requires-clause-head
-end_whole-requires-clause-head g c = grind (arith, common_steps) steps 400000
-
 pub returns-then-waits-clause-same : goal.returns-then-waits-clause-same
 returns-then-waits-clause-same g c = grind (arith, common_steps) steps 400000
 
-pub returns-then-pair-clause-device : goal.returns-then-pair-clause-device
-returns-then-pair-clause-device g c = grind (arith, common_steps) steps 400000
+pub end_whole-requires-clause-head : goal.end_whole-requires-clause-head
+end_whole-requires-clause-head g c = grind (arith, common_steps) steps 400000

@@ -1,0 +1,20 @@
+use Rattle.std.proofs.Common.{rules, ◌≡◌, ◌++◌, List, ℕ, length, ap, ◌∙◌, arith}
+use Rattle.std.proofs.lemmas.Grind.{common_steps}
+use Rattle.ion_binary.specs.Opening.{wrapper_octets}
+use Rattle.ion_binary.proofs.NotedOctets.{notes-front}
+use Rattle.ion_binary.proofs.noted.put_notes.Goals as goal
+
+pub returns-clause-octets : goal.returns-clause-octets
+returns-clause-octets c x long =
+    let front : List ℕ = c.args.front.now.items in
+    let d : List ℕ = c.args.notes.now in
+    let second : c.try_extend_from_slice-2.new.self.items ≡ c.try_extend_from_slice.new.self.items ++ d = search rules in
+    let first : c.try_extend_from_slice.new.self.items ≡ front ++ c.wrapper-before.result.items = search rules in
+    let before : c.wrapper-before.result.items ≡ wrapper_octets (length d) c.args.size = search rules in
+    ap (λ (y : List ℕ). y ++ x) (second ∙ ap (λ (y : List ℕ). y ++ d) first) ∙ notes-front front d c.wrapper-before.result.items x c.args.size before long
+
+pub returns-clause-few : goal.returns-clause-few
+returns-clause-few c = grind (arith, common_steps) steps 400000
+
+pub unwrap-requires-2 : goal.unwrap-requires-2
+unwrap-requires-2 c = grind (arith, common_steps) steps 400000

@@ -44,7 +44,8 @@ use Rattle.ion_binary.specs.Reading.{size}
 use Rattle.ion_binary.proofs.ReaderParts.{as_frames-length, innermost-struct, last-innermost, kinds-frames, kinds_of-length}
 use Rattle.ion_binary.proofs.Termination.{step-shrinks}
 use Rattle.std.specs.Prelude.{reverse}
-use Rattle.ion_binary.specs.Lane.{EndsHere, GoesOn, IsAround, ShowsField, ShowsFront, frame_in}
+use Rattle.ion_binary.specs.Lane.{EndsHere, GoesOn, IsAround, ShowsField, ShowsFront, frame_in, frame_of, kind_around}
+use Rattle.ion_binary.specs.declared.reader.lane.Level.TheVariants as level
 use Rattle.ion_binary.specs.declared.reader.lane.Around.{Around}
 use Rattle.ion_binary.specs.Wrappers.{as_frame, as_frames, innermost}
 use Rattle.ion_binary.proofs.ReaderParts.{innermost-field, innermost-region, inside-member, member_at-field, top-member}
@@ -311,35 +312,35 @@ pub innermost-of : (frames : List frame.Frame) (o : Option frame.Frame) → slic
 innermost-of frames None e = subst (λ (l : List frame.Frame). IsInnermost (as_frames l) None) (sym (no_last frames e)) at_top
 innermost-of frames (Some f) e = last-innermost frames f e
 
-frame_there : (a : Around) (f : frame.Frame) → a.kind ≡ Some f.kind → a.end ≡ f.end → frame_in a ≡ Some f
-frame_there a f k e = ap₂ (λ (o : Option Kind) (n : ℕ). frame_in (record { kind = o; end = n })) k e
+frame_there : (a : Around) (f : frame.Frame) → kind_around a.level ≡ Some f.kind → a.end ≡ f.end → frame_in a ≡ Some f
+frame_there a f k e = ap₂ (λ (o : Option Kind) (n : ℕ). frame_of o n) k e
 
 -- where the members of the last of these containers stand
-pub around_last : (frames : List frame.Frame) (f : frame.Frame) (a : Around) → slice_get frames (length frames - 1) ≡ Some f → a.kind ≡ Some f.kind → a.end ≡ f.end → IsAround (as_frames frames) a
+pub around_last : (frames : List frame.Frame) (f : frame.Frame) (a : Around) → slice_get frames (length frames - 1) ≡ Some f → kind_around a.level ≡ Some f.kind → a.end ≡ f.end → IsAround (as_frames frames) a
 around_last frames f a e k end = record {
   innermost = subst (λ (o : Option frame.Frame). IsInnermost (as_frames frames) o) (sym (frame_there a f k end)) (innermost-of frames (Some f) e);
   top = λ none. absurd (some_is (sym k ∙ none));
 }
 
 -- and where values at top level do
-pub around_top : (frames : List frame.Frame) → slice_get frames (length frames - 1) ≡ None → IsAround (as_frames frames) (record { kind = None; end = 18446744073709551615 })
+pub around_top : (frames : List frame.Frame) → slice_get frames (length frames - 1) ≡ None → IsAround (as_frames frames) (record { level = level.Top; end = 18446744073709551615 })
 around_top frames e = record { innermost = innermost-of frames None e; top = λ _. refl }
 
 -- and those of one more
-pub around_pushed : (frames : List frame.Frame) (f : frame.Frame) (a : Around) → a.kind ≡ Some f.kind → a.end ≡ f.end → IsAround (as_frames (frames ++ f ∷ [])) a
+pub around_pushed : (frames : List frame.Frame) (f : frame.Frame) (a : Around) → kind_around a.level ≡ Some f.kind → a.end ≡ f.end → IsAround (as_frames (frames ++ f ∷ [])) a
 around_pushed frames f a k end = record {
   innermost = subst (λ (l : List Frame). IsInnermost l (frame_in a)) (sym (as_frames-push frames f))
       (subst (λ (o : Option frame.Frame). IsInnermost (as_frame f ∷ as_frames frames) o) (sym (frame_there a f k end)) (inside f (as_frames frames)));
   top = λ none. absurd (some_is (sym k ∙ none));
 }
 
-bounds_in : (k : Option Kind) (end : ℕ) → Bounds (region_of (innermost (frame_in (record { kind = k; end = end })))) end
+bounds_in : (k : Option Kind) (end : ℕ) → Bounds (region_of (innermost (frame_of k end))) end
 bounds_in None end = tt
 bounds_in (Some k) end = omega arith
 
 -- the end of where a member stands bounds its region
 pub bounds_around : (a : Around) → Bounds (region_of (innermost (frame_in a))) a.end
-bounds_around a = bounds_in a.kind a.end
+bounds_around a = bounds_in (kind_around a.level) a.end
 
 -- one that ends here is open
 pub ends-some : (o : Option frame.Frame) (place : ℕ) → EndsHere o place → (f : frame.Frame) × (o ≡ Some f) × (f.end ≤ place)

@@ -5,6 +5,8 @@ use Rattle.ion_meter.specs.Windows.{Outgoing, left}
 use Rattle.ion_meter.specs.Sources.{BytesAreLeft, Stands, skip}
 use Rattle.ion_meter.specs.declared.device.Input.{Ghosts as InputOf}
 use Rattle.ion_value.specs.declared.writer.ValueWriter.{Ghosts as WriterOf}
+use Rattle.ion_value.specs.declared.ion_type.Kind.{Kind}
+use Rattle.ion_value.specs.declared.ion_type.Kind.TheVariants as kind
 use Rattle.ion_value.specs.Feeding.{CanTake, Feeds, Hands, Joint, StaysWell}
 use Rattle.ion_value.specs.Outcome.{one_if_closed}
 use Rattle.ion_value.specs.Shares.{Charges}
@@ -22,6 +24,8 @@ use Rattle.ion_binary.specs.Descriptor.{Region}
 use Rattle.ion_meter.specs.declared.limits.Limits.{Limits}
 use Rattle.ion_binary.specs.declared.reader.BinReader.{BinReader}
 use Rattle.ion_binary.specs.declared.reader.lane.Around.{Around}
+use Rattle.ion_binary.specs.declared.reader.lane.Level.{Level}
+use Rattle.ion_binary.specs.declared.reader.lane.Level.TheVariants as level
 use Rattle.ion_binary.specs.Reader.{IsInnermost}
 use Rattle.ion_binary.specs.Steps.{IsSized, held_by, left_to, opened_in, share_of, to_come_by}
 
@@ -114,13 +118,22 @@ pub record ShowsFront (texts : ℕ → Option (List ℕ)) (limits : Limits) (oct
       → FillsTo wrapper (far_end here behind found) → ShowsItem limits octets here (region_of frames) depth at head behind raws found
 
 -- the container around a member, by where the member stands
+abbrev pub kind_around : Level → Option Kind
+kind_around level.List = Some kind.List
+kind_around level.Sexp = Some kind.Sexp
+kind_around level.Struct = Some kind.Struct
+kind_around level.Top = None
+
+abbrev pub frame_of : Option Kind → ℕ → Option frame.Frame
+frame_of around end = option_map (λ kind. record { kind = kind; end = end }) around
+
 abbrev pub frame_in : Around → Option frame.Frame
-frame_in a = option_map (λ kind. record { kind = kind; end = a.end }) a.kind
+frame_in a = frame_of (kind_around a.level) a.end
 
 -- the members of the innermost container stand so; at top level the end is behind all places
 pub record IsAround (frames : List Frame) (a : Around) : Type 0 where
   pub innermost : IsInnermost frames (frame_in a)
-  pub top : a.kind ≡ None → a.end ≡ 2 ^ 64 - 1
+  pub top : kind_around a.level ≡ None → a.end ≡ 2 ^ 64 - 1
 
 -- the innermost container does not end here
 abbrev pub GoesOn : Option frame.Frame → ℕ → Type 0

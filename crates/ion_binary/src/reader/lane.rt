@@ -2,7 +2,7 @@
 ghost use Rattle.std.specs.Prelude.{◌≡◌, ◌+◌, ◌*◌, ◌-◌, ◌^◌, ◌<◌, ◌≤◌, get_or, length, false, true, Option, Some, None, IfSome, map};
 ghost use Rattle.ion_value.specs.Items.{named_at, named_item, raw_head};
 ghost use Rattle.ion_value.specs.PlainItems.{IsKnownHead, IsTextOf};
-ghost use Rattle.ion_binary.specs.Lane.{CanHand, EndsHere, GoesOn, Handed, HandsOn, IsAround, FillsTo, ShowsField, ShowsFront, frame_in, inner_region};
+ghost use Rattle.ion_binary.specs.Lane.{CanHand, EndsHere, GoesOn, Handed, HandsOn, IsAround, FillsTo, ShowsField, ShowsFront, frame_in, inner_region, kind_around};
 ghost use Rattle.ion_value.specs.Feeding.{CanTake};
 ghost use Rattle.ion_binary.specs.Steps.{IsSized, IsSound, held_by, left_to, opened_in};
 ghost use Rattle.ion_binary.specs.Positions.{placed_scalar};
@@ -32,11 +32,21 @@ use ion_value::plain_item::{PlainItem, TextAt};
 use ion_value::writer::ValueWriter;
 use std::alloc::Allocator;
 
-// Where a member stands: the kind of the container around it and the place of its end; or at top level,
-// which goes as far as all places.
+// What is around a member: a container of some kind, or nothing at top level. It is one octet, where an
+// optional kind would be two.
+#[derive(Clone, Copy)]
+pub(crate) enum Level {
+    List,
+    Sexp,
+    Struct,
+    Top,
+}
+
+// Where a member stands: what is around it and the place of its end; or at top level, which goes as far as
+// all places.
 #[derive(Clone, Copy)]
 pub(crate) struct Around {
-    kind: Option<Kind>,
+    level: Level,
     end: u64,
 }
 
@@ -47,7 +57,7 @@ pub(super) fn around_in(frames: &[Frame]) -> Around
 {
     match frames.last().copied() {
         None => Around {
-            kind: None,
+            level: Level::Top,
             end: u64::MAX,
         },
         Some(frame) => inside(frame),
@@ -57,10 +67,15 @@ pub(super) fn around_in(frames: &[Frame]) -> Around
 // Where the members of this container stand.
 #[inline(always)]
 fn inside(frame: Frame) -> Around
-    ensures { (result.kind ≡ Some frame.kind) × (result.end ≡ frame.end) }
+    ensures { (kind_around result.level ≡ Some frame.kind) × (result.end ≡ frame.end) }
 {
+    let level = match frame.kind {
+        Kind::List => Level::List,
+        Kind::Sexp => Level::Sexp,
+        Kind::Struct => Level::Struct,
+    };
     Around {
-        kind: Some(frame.kind),
+        level,
         end: frame.end,
     }
 }
@@ -79,12 +94,9 @@ pub(super) fn shown_field<'n, N: Names>(
     ensures { IfSome result (λ r. ShowsField (N.text names.entry.now) octets.now here
         (innermost (frame_in around)) r.0 r.1) }
 {
-    let Some(kind) = around.kind else {
-        return Some((None, 0));
-    };
-    match kind {
-        Kind::List | Kind::Sexp => Some((None, 0)),
-        Kind::Struct => {
+    match around.level {
+        Level::Top | Level::List | Level::Sexp => Some((None, 0)),
+        Level::Struct => {
             let Some((id, behind)) = shown_var(octets, 0) else {
                 return None;
             };
@@ -175,7 +187,7 @@ fn symbol_head(text: &[u8], place: u64) -> Head<'_>
 // Whether the innermost container ends at a place.
 #[inline(always)]
 pub(super) fn ends_here(around: Around, place: u64) -> bool
-    requires top { around.kind ≡ None → place < around.end }
+    requires top { kind_around around.level ≡ None → place < around.end }
     ensures ends { result ≡ true → EndsHere (frame_in around) place }
     ensures goes_on { result ≡ false → GoesOn (frame_in around) place }
 {
@@ -187,9 +199,9 @@ pub(super) fn ends_here(around: Around, place: u64) -> bool
 fn top_at(around: Around, top: u64, here: u64) -> u64
     ensures { result ≡ top_of (innermost (frame_in around)) top here }
 {
-    match around.kind {
-        None => here,
-        Some(_) => top,
+    match around.level {
+        Level::Top => here,
+        Level::List | Level::Sexp | Level::Struct => top,
     }
 }
 
@@ -652,8 +664,9 @@ impl<I: Input, A: Allocator + Copy> BinReader<I, A> {
           source = self.new.source;
         } }
     {
-        if around.kind.is_none() {
-            self.top = self.source.place();
+        match around.level {
+            Level::Top => self.top = self.source.place(),
+            Level::List | Level::Sexp | Level::Struct => {}
         }
         self.source.consume(count);
     }

@@ -1,7 +1,7 @@
-use Rattle.std.proofs.Common.{◌≡◌, ◌∙◌, ap, sym, Option, Some, refl, subst}
-use Rattle.ion_value.specs.declared.ion_type.Kind.{Kind}
+use Rattle.std.proofs.Common.{◌≡◌, sym, Some, refl, subst}
 use Rattle.ion_value.specs.declared.ion_type.Kind.TheVariants as kind
-use Rattle.ion_binary.specs.Lane.{ShowsField, frame_in}
+use Rattle.ion_binary.specs.declared.reader.lane.Level.{Level}
+use Rattle.ion_binary.specs.Lane.{ShowsField, frame_of, kind_around}
 use Rattle.ion_binary.specs.Wrappers.{innermost}
 use Rattle.ion_binary.proofs.Handing.{shows_named}
 use Rattle.ion_binary.proofs.reader.lane.shown_field.Goals as goal
@@ -15,7 +15,6 @@ returns-in-Some-shown_text g c =
     let here = c.args.here in
     let end = c.args.around.end in
     let has = subst (λ n. texts n ≡ Some name.text.now) c.id_of.ensures shown.text in
-    let is : c.args.around.kind ≡ Some kind.Struct = c.in-Some.is ∙ ap Some c.in-Struct.is in
-    subst (λ (k : Option Kind). ShowsField texts octets here (innermost (frame_in (record { kind = k; end = end }))) (Some name) c.in-Some-shown_var.behind) (sym is)
-    (shows_named texts octets here (record { kind = kind.Struct; end = end }) c.in-Some-shown_var.id c.in-Some-shown_var.behind name refl
-    c.in-Some-shown_var.ensures.shows has shown.simple shown.place)
+    subst (λ (l : Level). ShowsField texts octets here (innermost (frame_of (kind_around l) end)) (Some name) c.in-Some.behind) (sym c.in-Struct.is)
+    (shows_named texts octets here (record { kind = kind.Struct; end = end }) c.in-Some.id c.in-Some.behind name refl
+    c.in-Some.ensures.shows has shown.simple shown.place)

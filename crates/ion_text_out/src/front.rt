@@ -81,7 +81,11 @@ pub fn has_room<O: Output, A: Allocator + Copy>(
 {
     let room = sink.room();
     let texts = front.name.len() + front.note.len();
-    texts <= room && more <= room && texts + more + 9 <= room
+    if room < texts {
+        return false;
+    }
+    let left = room - texts;
+    more <= left && 9 <= left - more
 }
 
 /// Puts a front.

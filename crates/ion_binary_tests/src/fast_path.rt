@@ -236,7 +236,7 @@ const TEXTS: &str = r#"
 ['name'::1,'a b'::1]|1|4|
 [name::"s",name::name,name::2007T,name::1.5,name::null,name::true]|1|2|
 name::[1] name::{} [name::(1)] {name:name::{}}|1|10|
-[name::version::1]|1|3|
+[name::version::1]|1|2|
 name::version::[1]|1|4|
 [name::version::name::1]|2|3|
 [$4::1]|2|3|
@@ -250,7 +250,7 @@ name::version::[1]|1|4|
 {"a\n":1}|2|4|
 {'''name''':1}|2|3|
 {$4:1}|1|2|
-{name:name::1,version:name::version::1}|1|3|
+{name:name::1,version:name::version::1}|1|2|
 # Containers.
 [] [[]] [[[[1]]]]|1|2|
 () (1 2) (name "b" [1])|1|2|

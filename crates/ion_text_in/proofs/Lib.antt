@@ -78,3 +78,4 @@ pub mod FeedLanes
 pub mod FeedItems
 pub mod FeedIds
 pub mod FeedReader
+pub mod Declarations

@@ -79,3 +79,4 @@ pub mod FeedItems
 pub mod FeedIds
 pub mod FeedReader
 pub mod Declarations
+mod WhiteRuns

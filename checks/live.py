@@ -120,6 +120,9 @@ TEXTS_OF_MANY_KINDS = [
     (b"sym /* ::*/ 23 ", b"sym\n23\n"),
     (b"$ion_symbol_table::{symbols:[\"a\"]} $10 24 ", b"a\n24\n"),
     (b"'$ion_1_0' $ion_1_0 25 ", b"'$ion_1_0'\n25\n"),
+    (b"$3::{symbols:[\"b\"]} $10 27 ", b"b\n27\n"),
+    (b"'$ion_symbol_table'::{symbols:[\"c\"]} $10 28 ", b"c\n28\n"),
+    (b"'\\x24ion_symbol_table'::{symbols:[\"d\"]} $10 29 ", b"d\n29\n"),
     (b"2007-01-02T ", b"2007-01-02\n"),
     (b"null.int true ", b"null.int\ntrue\n"),
     (b"26 ", b"26\n"),
@@ -183,7 +186,7 @@ def rows():
 
 
 # Before each of these the output is written: that what may be a declaration stands whole is not seen ahead of it.
-WRITTEN_BEFORE = (b"$ion_symbol_table::{", b"'$ion_1_0' ", b"\xE4\x81\x83")
+WRITTEN_BEFORE = (b"$ion_symbol_table::{", b"$3::{", b"'$", b"'\\x24", b"\xE4\x81\x83")
 
 
 def files():

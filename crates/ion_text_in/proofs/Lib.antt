@@ -78,3 +78,5 @@ pub mod FeedLanes
 pub mod FeedItems
 pub mod FeedIds
 pub mod FeedReader
+pub mod Declarations
+mod WhiteRuns

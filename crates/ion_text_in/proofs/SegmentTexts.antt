@@ -28,7 +28,7 @@ alone : (o : Spelled) → (o >>= (λ s. Ok s)) ≡ o
 alone (Ok x) = refl
 alone (Err reason) = refl
 
-text-first : (q : Quote) (limit : Option ℕ) (c : Cursor) → q.is_long ≡ false → text_at q limit c ≡ segment_at q limit 0 c
+pub text-first : (q : Quote) (limit : Option ℕ) (c : Cursor) → q.is_long ≡ false → text_at q limit c ≡ segment_at q limit 0 c
 unfolding segments_for
 text-first q limit c e =
     ap (λ (long : Bool). segment_at q limit 0 c >>= (λ s. with_segments (λ d. segments_for (length c.rest) q limit (0 + length s.0) d) s

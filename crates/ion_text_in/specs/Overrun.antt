@@ -18,6 +18,11 @@ pub record IsRun (test : ℕ → Bool) (bytes : List ℕ) (n : ℕ) : Type 0 whe
   pub run : all_are test (take n bytes) ≡ true
   pub ends : first_is test (drop n bytes) ≡ false
 
+-- so many bytes at the front of some are white space, and the next one begins no comment
+pub record EndsWhite (bytes : List ℕ) (n : ℕ) : Type 0 where
+  pub run : IsRun is_white bytes n
+  pub other : first_is (λ b. not (b == 47)) (drop n bytes) ≡ true
+
 -- a byte that goes on with a comment, or with white space where there is none, whatever follows it
 abbrev pub stays_in : Comment → ℕ → Bool
 stays_in comment.None b = is_white b

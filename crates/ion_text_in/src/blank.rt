@@ -2,13 +2,13 @@
 //! "Text Encoding").
 ghost use Rattle.std.specs.Prelude.{◌≡◌, ◌≢◌, ◌+◌, ◌<◌, ◌≤◌, ℕ, [], true, false, Ok, Err, not, map, length, take, drop, None, OnOk, IfOk, IfSome};
 ghost use Rattle.std.specs.Simd.Lanes.{mask_l};
-ghost use Rattle.ion_meter.specs.Windows.{left};
+ghost use Rattle.ion_meter.specs.Windows.{left, lent};
 ghost use Rattle.ion_meter.specs.Sources.{cursor, Stands};
 ghost use Rattle.ion_value.specs.Calls.{Reads};
 ghost use Rattle.ion_value.specs.Digits.{first_is};
 ghost use Rattle.ion_text_in.specs.Blanks.{is_white, blanks};
 ghost use Rattle.ion_text_in.specs.Places.{behind_run};
-ghost use Rattle.ion_text_in.specs.Overrun.{begun, cut_at, ends_blanks, is_neither, stays_in, overrun, turned, IsRun};
+ghost use Rattle.ion_text_in.specs.Overrun.{begun, cut_at, EndsWhite, ends_blanks, is_neither, stays_in, overrun, turned, IsRun};
 
 use ion_meter::device::Input;
 use ion_meter::fault::{Fault, Reason};
@@ -40,6 +40,9 @@ pub(crate) fn pass_blanks<I: Input, A: Allocator + Copy>(
         blanks (cursor I.Input source.old) ≡ overrun start (cursor I.Input source.new)) }
     ensures used_up { I.observable source.old.device → IfOk result (λ start.
         IfSome start (λ _. left I.rest source.new ≡ [])) }
+    ensures shown { (n : ℕ) → EndsWhite (lent source.old) n
+        → (source.new.device ≡ source.old.device)
+        × (lent source.new ≡ drop n (lent source.old)) }
     ensures plain { (r : Reason) (p : ℕ) → result ≢ Err (Fault.Refused r p) }
     ensures reads { Reads I.Input source.old source.new result }
 {

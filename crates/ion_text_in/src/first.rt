@@ -6,6 +6,7 @@ ghost use Rattle.ion_value.specs.Calls.{Reads};
 ghost use Rattle.ion_text_in.specs.Firsts.{first_of, is_inf, is_told_alone, numbered, width, IsAhead};
 ghost use Rattle.ion_text_in.specs.Blanks.{blanks};
 ghost use Rattle.ion_text_in.specs.Meaning.{at};
+ghost use Rattle.ion_text_in.specs.Overrun.{EndsWhite};
 ghost use Rattle.ion_text_in.specs.Token.{a_colon, first_at};
 
 use crate::blank::pass_blanks;
@@ -163,6 +164,8 @@ pub(crate) fn next_ahead<I: Input, A: Allocator + Copy>(
         (IsAhead in_sexp (cursor I.Input source.old) (cursor I.Input source.new)) }
     ensures wide { IfOk result (λ ahead. IfSome ahead.first
         (λ f. width (first_of f) ≤ length (lent source.new))) }
+    ensures shown { (n : ℕ) → EndsWhite (lent source.old) n → n + 5 ≤ length (lent source.old)
+        → source.new.device ≡ source.old.device }
     ensures plain { (r : Reason) (p : ℕ) → result ≢ Err (Fault.Refused r p) }
     ensures reads { Reads I.Input source.old source.new result }
 {

@@ -99,6 +99,7 @@ fn are_cut_quotes<I: Input, A: Allocator + Copy>(source: &mut Source<I, A>) -> R
         cut ≡ are_cut_quotes (left I.rest source.old)) }
     ensures still { I.observable source.old.device
         → cursor I.Input source.new ≡ cursor I.Input source.old }
+    ensures shown { IsGiven source.old 2 → source.new.device ≡ source.old.device }
     ensures plain { (r : Reason) (p : ℕ) → result ≢ Err (Fault.Refused r p) }
     ensures reads { Reads I.Input source.old source.new result }
 {
@@ -295,6 +296,7 @@ fn pass_braces<I: Input, A: Allocator + Copy>(
     requires stands { Stands source.old }
     ensures gives { I.observable source.old.device → Continues result place
         (closed_at (cursor I.Input source.old)) (λ _. Ok (cursor I.Input source.new)) }
+    ensures shown { IsGiven source.old 1 → source.new.device ≡ source.old.device }
     ensures reads { Reads I.Input source.old source.new result }
 {
     match source.peek(0)? {

@@ -1,7 +1,7 @@
 //! Texts between quotes: strings, long strings, symbols in quotes, and the texts of clobs (Ion
 //! specification, "Strings", "Symbols" and "Clobs").
 ghost use Rattle.std.specs.Prelude.{◌≡◌, ◌≢◌, ◌+◌, ◌<◌, ◌≤◌, List, [], ◌∷◌, ◌*◌, ℕ, true, false, Some, Ok, Err, length, OnOk, IfOk};
-ghost use Rattle.ion_meter.specs.Windows.{left, lent};
+ghost use Rattle.ion_meter.specs.Windows.{left, lent, IsGiven};
 ghost use Rattle.ion_meter.specs.Sources.{skip, cursor, Stands};
 ghost use Rattle.ion_meter.specs.Sources.{Reads as Looks};
 ghost use Rattle.ion_value.specs.Calls.{CanRead, Reads, passed_over};
@@ -122,6 +122,7 @@ pub(crate) fn pass_quotes<I: Input, A: Allocator + Copy>(
     ensures none { I.observable source.old.device → result ≡ Ok false
         → (begins_with (39 ∷ 39 ∷ 39 ∷ []) (left I.rest source.old) ≡ false)
         × (cursor I.Input source.new ≡ cursor I.Input source.old) }
+    ensures shown { IsGiven source.old 2 → source.new.device ≡ source.old.device }
     ensures plain { (r : Reason) (p : ℕ) → result ≢ Err (Fault.Refused r p) }
     ensures reads { Reads I.Input source.old source.new result }
 {
@@ -301,6 +302,8 @@ fn show_piece<I: Input, A: Allocator + Copy>(
     ensures gives { I.observable source.old.device → IfOk result (λ piece.
         piece_of piece ≡ piece_at (quote_of quote) (left I.rest source.old)) }
     ensures takes { IfOk result (λ piece. PieceTakes (lent source.new) (piece_of piece)) }
+    ensures shown { 12 ≤ length (lent source.old)
+        → source.new.device ≡ source.old.device }
     ensures looks { Looks I.Input source.old source.new result }
     ensures limit { result ≡ Err Fault.InputLimit → I.observable source.old.device
         → source.old.limit < source.old.place + length (left I.rest source.old) }

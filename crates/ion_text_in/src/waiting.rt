@@ -1,7 +1,7 @@
 //! Whether the bytes of a window show the next item, so that its reader need not read more.
-ghost use Rattle.std.specs.Prelude.{◌<◌, ◌≤◌, length, IfSome};
+ghost use Rattle.std.specs.Prelude.{◌≡◌, ◌<◌, ◌≤◌, false, length, IfSome};
 ghost use Rattle.ion_text_in.specs.Firsts.{first_of, width};
-ghost use Rattle.ion_text_in.specs.Waiting.{PassesSome};
+ghost use Rattle.ion_text_in.specs.Waiting.{NoneIsDeclared, PassesSome};
 
 use crate::blank::{run_without, white_run};
 use crate::comments::behind_blanks;
@@ -82,12 +82,14 @@ fn next_part(inside: Option<Kind>, bytes: &[u8]) -> Option<Part<'_>>
 
 // Whether a value at top level that so begins may be a version marker or a declaration. The first word
 // of these is `$3`, or a name of no more bytes than `$ion_symbol_table`; in quotes it is not read here.
-fn may_be_declaration(bytes: &[u8]) -> bool {
+fn may_be_declaration(bytes: &[u8]) -> bool
+    ensures { result ≡ false → 2 ≤ length bytes.now → NoneIsDeclared bytes.now }
+{
     match bytes {
         [b'\'', b'$' | b'\\', ..] => true,
         [b'$', ..] => match scan_word(u64::MAX, bytes) {
             Scanned::Whole(Word::Id(id), _) => id == 3,
-            Scanned::Whole(_, count) => count <= b"$ion_symbol_table".len(),
+            Scanned::Whole(Word::Name, count) => count <= b"$ion_symbol_table".len(),
             _ => true,
         },
         _ => false,

@@ -1,4 +1,4 @@
-use Rattle.std.proofs.Common.{◌≡◌, ℕ, List, Some, take, drop, get_or, slice_get, ap, ◌∙◌, arith}
+use Rattle.std.proofs.Common.{◌≡◌, ◌==◌, not, false, ℕ, List, Some, take, drop, get_or, slice_get, ap, ◌∙◌, arith}
 use Rattle.std.proofs.lemmas.Grind.{common_steps}
 use Rattle.ion_meter.specs.Windows.{left}
 use Rattle.ion_value.specs.Digits.{first_is}
@@ -7,6 +7,8 @@ use Rattle.ion_text_in.proofs.BlankTurns.{found-other}
 use Rattle.ion_text_in.proofs.Runs.{ends-shown, first-shown, at-front}
 use Rattle.ion_text_in.proofs.BlankRuns.{white-over}
 use Rattle.ion_text_in.proofs.Turns.{turn, turn-then, turn-behind, extends-not}
+use Rattle.ion_text_in.proofs.WhiteRuns.{first-at, none-at, not-ended, white-passed}
+use Rattle.ion_text_in.proofs.blank.pass_blanks.Goals.{else-run-bytes-via-then-run-bytes+else-bytes-run-ne47, else-run-bytes-via-else-run-bytes}
 use Rattle.ion_text_in.proofs.blank.pass_blanks.Goals as goal
 
 pub returns-then-bytes-run-ne47-clause-gives : goal.returns-then-bytes-run-ne47-clause-gives
@@ -29,3 +31,17 @@ returns-then-bytes-run-ne47-clause-reads g c = grind (arith, common_steps) steps
 
 pub consume-requires : goal.consume-requires
 consume-requires g c = grind (arith, common_steps) steps 400000
+
+pub returns-then-bytes-run-ne47-clause-shown : goal.returns-then-bytes-run-ne47-clause-shown
+returns-then-bytes-run-ne47-clause-shown g c =
+    λ n ends. white-passed c.args.source.now c.consume.new.self c.buffer-bytes.result.now c.white_run-run.result n c.requires.stands.well c.buffer-bytes.ensures c.white_run-run.ensures c.consume.ensures ends
+
+pub returns-clause-shown : goal.returns-clause-shown
+returns-clause-shown g c = λ n ends.
+    let bytes : List ℕ = c.buffer-bytes.result.now in
+    let run = c.white_run-run.result in
+    let slash : first_is (λ b. not (b == 47)) (drop run bytes) ≡ false = elim c.else-run-bytes.branch [
+      | else-run-bytes-via-then-run-bytes+else-bytes-run-ne47 w ↦ first-at (λ b. not (b == 47)) bytes run w.if-run-bytes.true ∙ grind (arith, common_steps)
+      | else-run-bytes-via-else-run-bytes w ↦ none-at (λ b. not (b == 47)) bytes run (omega (arith, w.if-run-bytes.false))
+    ] in
+    absurd (not-ended bytes _ run n c.buffer-bytes.ensures c.white_run-run.ensures slash ends)

@@ -206,26 +206,6 @@ fn imported<'a, A: Allocator + Copy>(
     shared(catalog, found.table, place - found.start)
 }
 
-// The slot at a place of the imports, by that call. What it answers is built anew, so that the memory by
-// which it comes belongs to this way alone, and the way to a local slot does not clear it.
-#[inline(always)]
-fn imported_slot<'a, A: Allocator + Copy>(
-    catalog: &'a Catalog<A>,
-    imports: &[FoundImport],
-    place: u64,
-) -> Slot<'a>
-    requires { (end : ℕ) × (Starts 0 imports.now end × (place < end)) }
-    ensures { (locals : tables.Slots)
-        → as_slot result ≡ slot_in (imports_in catalog.now imports.now) locals place }
-{
-    match imported(catalog, imports, place) {
-        Slot::Known(text) => Slot::Known(text),
-        Slot::Unknown => Slot::Unknown,
-        Slot::Gap => Slot::Gap,
-        Slot::Above => Slot::Above,
-    }
-}
-
 // The text of the slot at a place of the imports, if it has one that is simple.
 #[inline(never)]
 fn imported_simple<'a, A: Allocator + Copy>(
@@ -266,7 +246,7 @@ impl<'c, A: Allocator + Copy> Symbols<'c, A> {
         }
         let place = (id - 10) as u64;
         if place < self.import_slots {
-            imported_slot(self.catalog, self.imports.as_slice(), place)
+            imported(self.catalog, self.imports.as_slice(), place)
         } else {
             local(&self.slots, place - self.import_slots)
         }

@@ -1,8 +1,8 @@
 -- The kind of token that begins: at the input's end, and how many bytes tell it.
-use Rattle.std.proofs.Common.{◌≡◌, ◌≢◌, ℕ, inl, inr, ◌<◌, ◌≤◌, Bool, true, false, ◌&&◌, ◌||◌, ◌==◌, if◌then◌else◌, List, [], ◌∷◌, ◌++◌, length, get_or, not, IfSome, IsSome, MatchOption, Option, Some, None, Ok, codes, refl, sym, ap, ◌∙◌, arith}
+use Rattle.std.proofs.Common.{◌≡◌, ◌≢◌, ℕ, inl, inr, ◌<◌, ◌≤◌, Bool, true, false, ◌&&◌, ◌||◌, ◌==◌, if◌then◌else◌, List, [], ◌∷◌, ◌++◌, length, get_or, not, IfSome, IsSome, MatchOption, Option, Some, None, Ok, codes, refl, sym, ap, subst, ◌∙◌, arith}
 use Rattle.std.proofs.lemmas.Bool.{agree_below_at, and_parts, eqb-false, eqb-true, ne_eqb, or_cases}
 use Rattle.std.proofs.lemmas.Bool.Decides.{nat_tests}
-use Rattle.ion_value.specs.Digits.{first_is}
+use Rattle.ion_value.specs.Digits.{first_is, is_digit}
 use Rattle.ion_value.specs.Name.{begins_with, is_identifier_start, is_operator_byte}
 use Rattle.ion_value.specs.declared.ion_type.Kind.TheVariants as kind
 use Rattle.ion_text_in.specs.declared.first.TheConstants.{FIRST_BYTES}
@@ -172,3 +172,88 @@ brace-first (a ∷ b ∷ bytes) two first other sexp more =
 
 pub no-colons : (n : ℕ) (c : Cursor) → colons_at (numbered n) c ≡ None
 no-colons n c = grind (arith, nat_tests)
+
+-- ---- kinds that are not told
+
+is_numbered : First → Bool
+is_numbered tokens.a_word = true
+is_numbered tokens.a_run = true
+is_numbered tokens.a_short = true
+is_numbered tokens.a_comma = true
+is_numbered (tokens.a_begin of) = true
+is_numbered (tokens.an_end of) = true
+is_numbered _ = false
+
+zero-if : (c : Bool) (f g : First) → is_numbered f ≡ false → is_numbered g ≡ false → is_numbered (if c then f else g) ≡ false
+zero-if true f g one other = one
+zero-if false f g one other = other
+
+-- where the table has 0 for a byte, none of the numbered kinds begins with it, but for those that need the next byte
+lacks : Bool → List ℕ → ℕ → Bool
+lacks sexp more b = not (get_or FIRST_BYTES b 0 == 0) || (b == 123 || (b == 45 || (b == 39 || (b == 43 || (b == 58 || not (is_numbered (first_at sexp (b ∷ more))))))))
+
+all-lack : (sexp : Bool) (more : List ℕ) (b : ℕ) → b < 256 → lacks sexp more b ≡ true
+unfolding first_at lacks is_numbered
+all-lack true more b small = agree_below_at (lacks true more) (λ _. true) 256 b refl small
+all-lack false more b small = agree_below_at (lacks false more) (λ _. true) 256 b refl small
+
+minus-lacks : (sexp : Bool) (c : ℕ) (more : List ℕ) → is_digit c ≡ false → is_numbered (first_at sexp (45 ∷ c ∷ more)) ≡ false
+unfolding first_at is_numbered
+minus-lacks sexp c more none = rw none (zero-if (is_infinity (45 ∷ c ∷ more)) tokens.an_infinity (if sexp && is_operator_byte 45 then tokens.an_operator else tokens.no_token) refl
+    (zero-if (sexp && is_operator_byte 45) tokens.an_operator tokens.no_token refl refl))
+
+plus-lacks : (sexp : Bool) (more : List ℕ) → is_numbered (first_at sexp (43 ∷ more)) ≡ false
+unfolding first_at is_numbered
+plus-lacks sexp more = zero-if (is_infinity (43 ∷ more)) tokens.an_infinity (if sexp && is_operator_byte 43 then tokens.an_operator else tokens.no_token) refl
+    (zero-if (sexp && is_operator_byte 43) tokens.an_operator tokens.no_token refl refl)
+
+quote-lacks : (sexp : Bool) (more : List ℕ) → is_numbered (first_at sexp (39 ∷ more)) ≡ false
+unfolding first_at is_numbered
+quote-lacks sexp more = zero-if (begins_with (39 ∷ 39 ∷ 39 ∷ []) (39 ∷ more)) tokens.a_long tokens.a_quoted refl refl
+
+colon-lacks : (sexp : Bool) (more : List ℕ) → is_numbered (first_at sexp (58 ∷ more)) ≡ false
+unfolding first_at is_numbered
+colon-lacks true more = zero-if (first_is (λ c. c == 58) more) tokens.two_colons tokens.a_colon refl refl
+colon-lacks false more = zero-if (first_is (λ c. c == 58) more) tokens.two_colons tokens.a_colon refl refl
+
+braces-lack : (sexp : Bool) (more : List ℕ) → is_numbered (first_at sexp (123 ∷ 123 ∷ more)) ≡ false
+unfolding first_at is_numbered
+braces-lack sexp more = refl
+
+has-none : (n : ℕ) → not (n == 0) ≡ true → n ≡ 0 → ⊥
+has-none n has none = cc (subst (λ (k : ℕ). not (k == 0) ≡ true) none has)
+
+front-lacks : (sexp : Bool) (b c : ℕ) (more : List ℕ) → b < 256 → get_or FIRST_BYTES b 0 ≡ 0 → (b ≡ 123 → c ≡ 123) → (b ≡ 45 → is_digit c ≡ false) → is_numbered (first_at sexp (b ∷ c ∷ more)) ≡ false
+unfolding lacks
+front-lacks sexp b c more small none brace minus = elim (or_cases _ _ (all-lack sexp (c ∷ more) b small)) [
+  | inl has ↦ absurd (has-none (get_or FIRST_BYTES b 0) has none)
+  | inr some ↦ elim (or_cases (b == 123) _ some) [
+    | inl is ↦ rw (eqb-true b 123 is, brace (eqb-true b 123 is)) (braces-lack sexp more)
+    | inr some ↦ elim (or_cases (b == 45) _ some) [
+      | inl is ↦ rw (eqb-true b 45 is) (minus-lacks sexp c more (minus (eqb-true b 45 is)))
+      | inr some ↦ elim (or_cases (b == 39) _ some) [
+        | inl is ↦ rw (eqb-true b 39 is) (quote-lacks sexp (c ∷ more))
+        | inr some ↦ elim (or_cases (b == 43) _ some) [
+          | inl is ↦ rw (eqb-true b 43 is) (plus-lacks sexp (c ∷ more))
+          | inr some ↦ elim (or_cases (b == 58) _ some) [
+            | inl is ↦ rw (eqb-true b 58 is) (colon-lacks sexp (c ∷ more))
+            | inr last ↦ not-so _ last
+          ]
+        ]
+      ]
+    ]
+  ]
+]
+
+numbered-some : (n : ℕ) → is_numbered (numbered n) ≡ true
+unfolding is_numbered
+numbered-some n = grind arith
+
+pub none-numbered : (bytes : List ℕ) → 2 ≤ length bytes → get_or bytes 0 0 < 256 → get_or FIRST_BYTES (get_or bytes 0 0) 0 ≡ 0
+    → (get_or bytes 0 0 ≡ 123 → get_or bytes 1 0 ≡ 123) → (get_or bytes 0 0 ≡ 45 → is_digit (get_or bytes 1 0) ≡ false)
+    → (sexp : Bool) (more : List ℕ) (n : ℕ) → first_at sexp (bytes ++ more) ≢ numbered n
+none-numbered [] two small none brace minus sexp more n same = absurd (omega (arith, two))
+none-numbered (b ∷ []) two small none brace minus sexp more n same = absurd (omega (arith, two))
+none-numbered (b ∷ c ∷ bytes) two small none brace minus sexp more n same =
+    let here : is_numbered (first_at sexp (b ∷ c ∷ (bytes ++ more))) ≡ false = front-lacks sexp b c (bytes ++ more) small none brace minus in
+    absurd (cc (sym here ∙ (ap is_numbered same ∙ numbered-some n)))

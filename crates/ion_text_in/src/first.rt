@@ -98,7 +98,7 @@ pub(crate) fn scan_first(in_sexp: bool, bytes: &[u8]) -> Option<First>
 }
 
 /// The number of the kind of token that begins at the front of these bytes, where the first of them
-/// tells it, or the first two; or 0.
+/// tells it, or the first two; or 0. Where there are two, it is 0 of none of these kinds.
 #[tactic(auto, unfolding(crate::specs::Token::first_at, crate::specs::Blanks::blanks_at))]
 #[inline(always)]
 pub(crate) fn told_first(bytes: &[u8]) -> u64
@@ -107,6 +107,8 @@ pub(crate) fn told_first(bytes: &[u8]) -> u64
         → blanks (at place (bytes.now ++ more)) ≡ Ok (at place (bytes.now ++ more)) }
     ensures tells { 0 < result → (in_sexp : Bool) (more : List ℕ)
         → first_at in_sexp (bytes.now ++ more) ≡ numbered result }
+    ensures known { 2 ≤ length bytes.now → result ≡ 0 → (in_sexp : Bool) (more : List ℕ) (n : ℕ)
+        → first_at in_sexp (bytes.now ++ more) ≢ numbered n }
 {
     let [byte, ..] = bytes else {
         return 0;

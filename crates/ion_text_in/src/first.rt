@@ -98,7 +98,7 @@ pub(crate) fn scan_first(in_sexp: bool, bytes: &[u8]) -> Option<First>
 }
 
 /// The number of the kind of token that begins at the front of these bytes, where the first of them
-/// tells it, or the first two; or 0. Where there are two, it is 0 of none of these kinds.
+/// tells it, or the first two; or 0. Of two bytes or more, 0 says that no such kind begins there.
 #[tactic(auto, unfolding(crate::specs::Token::first_at, crate::specs::Blanks::blanks_at))]
 #[inline(always)]
 pub(crate) fn told_first(bytes: &[u8]) -> u64

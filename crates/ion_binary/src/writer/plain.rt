@@ -68,7 +68,7 @@ struct Ids {
 
 impl<A: Allocator + Copy> BinWriter<A> {
     // Adds an item behind which a value is open, where all is there that it needs: ids of its texts, or
-    // of a scalar of all but one, and room. Else it answers false.
+    // of a scalar with one annotation at most of all but one, and room. Else it answers false.
     #[inline(always)]
     pub(super) fn add_plain(
         &mut self,

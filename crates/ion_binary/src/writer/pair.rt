@@ -1,13 +1,13 @@
 //! Plain scalars with two annotations, added at once to a value that is open.
 ghost use Rattle.std.specs.Prelude.{◌≡◌, ◌≤◌, ℕ, length, map, IfSome};
+ghost use Rattle.ion_value.specs.Items.{raw_head};
 ghost use Rattle.ion_value.specs.Value.{user_symbol_at};
 ghost use Rattle.ion_binary.specs.Canonical.{id_in, id_octets};
 ghost use Rattle.ion_binary.specs.Opening.{MayCome};
-ghost use Rattle.ion_binary.specs.Plain.{AddsPlain, HaveIds, as_item, with_note};
+ghost use Rattle.ion_binary.specs.Plain.{AddsPlain, HaveIds, IsWhole, as_item, with_note};
 ghost use Rattle.ion_binary.specs.Writer.{CanTake};
 
 use super::BinWriter;
-use super::fresh::is_scalar;
 use super::plain::SingleItem;
 use crate::opening::{LONGEST, joined};
 use crate::scalar::{Octets, spell};
@@ -30,14 +30,12 @@ impl<A: Allocator + Copy> BinWriter<A> {
         requires can_take { CanTake self.old meter.old }
         requires comes { MayCome self.old.limits self.old.open_value
             (with_note (as_item item.now) second.now place) }
+        requires whole { IsWhole (raw_head item.now.head) }
         ensures { AddsPlain self.old self.new meter.old meter.new
             (with_note (as_item item.now) second.now place) result }
     {
         let _place = place;
         if self.open_value.headers.len() == 0 {
-            return false;
-        }
-        if !is_scalar(item.head) {
             return false;
         }
         let Some(name) = self.field_id(item.field) else {

@@ -14,6 +14,7 @@ ghost use Rattle.ion_binary.specs.Plain.{AddsPlain, EndsPlain, HaveIds, IsWhole,
 ghost use Rattle.ion_binary.specs.Writer.{CanTake};
 ghost use Rattle.ion_binary.specs.Writing.{head_symbols};
 
+use super::fresh::is_scalar;
 use super::{BinWriter, FIRST_ID};
 use crate::header::header;
 use crate::scalar::{Octets, spell, spell_int, type_code};
@@ -67,7 +68,7 @@ struct Ids {
 
 impl<A: Allocator + Copy> BinWriter<A> {
     // Adds an item behind which a value is open, where all is there that it needs: ids of its texts, or
-    // of a scalar of all but one, and room. Else it answers false.
+    // of a scalar with one annotation at most of all but one, and room. Else it answers false.
     #[inline(always)]
     pub(super) fn add_plain(
         &mut self,
@@ -81,6 +82,9 @@ impl<A: Allocator + Copy> BinWriter<A> {
             (as_pair item.entry second.entry) result }
     {
         if let Some(second) = second {
+            if !is_scalar(item.head) {
+                return false;
+            }
             return self.add_pair(meter, &item, second.text, second.place);
         }
         match item.head {

@@ -1,4 +1,4 @@
-use Rattle.std.proofs.Common.{◌++◌, List, ℕ, ◌∙◌, ap, map, refl, arith}
+use Rattle.std.proofs.Common.{◌++◌, List, ℕ, ◌∙◌, ap, map, arith}
 use Rattle.ion_value.specs.Value.{PlacedItem, user_symbol_at}
 use Rattle.ion_binary.specs.Canonical.{id_in}
 use Rattle.ion_binary.specs.Held.{counted_ids}
@@ -19,6 +19,6 @@ returns g c =
     let head = c.in-Some-name_of.ensures in
     let p = c.put_behind.ensures in
     member-noted w c.put_behind.new.self c.args.meter.now c.put_behind.new.meter item c.put_behind.result c.in-Some.name notes (c.as_slice.result.now ++ lent) c.requires.can_take
-    (omega (arith, c.if-len-eq0.false, c.len.ensures)) (c.if-not-is_scalar.ensures refl) field.known (pair.known c.args.place) head.known field.octets
+    (omega (arith, c.if-len-eq0.false, c.len.ensures)) c.requires.whole field.known (pair.known c.args.place) head.known field.octets
     (ap counted_ids (c.as_slice-2.ensures.value ∙ pair.octets c.args.place) ∙ counted-are (id_in texts) (map user_symbol_at item.annotations))
     (ap (λ (z : List ℕ). z ++ lent) c.as_slice.ensures.value ∙ c.spell-spelled.ensures (id_in texts) head.name) p.octets p.headers p.open p.declines p.stepped

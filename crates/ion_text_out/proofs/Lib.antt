@@ -1,3 +1,4 @@
+mod BareLanes
 mod Blobs
 mod ItemParts
 mod Annotations

@@ -10,10 +10,14 @@ use ion_value::var::var_uint_read;
 ///
 /// False may be wrong. What is passed over before an item is read in the same call, and has to be
 /// there too.
+#[inline(always)]
 pub(crate) fn shows_item(inside: Option<Kind>, octets: &[u8]) -> bool {
-    if shows_short(inside, octets) {
-        return true;
-    }
+    shows_short(inside, octets) || shows_other(inside, octets)
+}
+
+// Whether they show another than a short value. It is a call of its own, so that a short one needs none.
+#[inline(never)]
+fn shows_other(inside: Option<Kind>, octets: &[u8]) -> bool {
     let mut rest = octets;
     'passed: loop {
         match behind_passed(inside, rest) {
@@ -25,6 +29,7 @@ pub(crate) fn shows_item(inside: Option<Kind>, octets: &[u8]) -> bool {
 
 // Whether a short value stands here whole, which is no NOP pad and no declaration: most values are told
 // so with the fewest steps.
+#[inline(always)]
 fn shows_short(inside: Option<Kind>, octets: &[u8]) -> bool {
     let [octet, body @ ..] = behind_short_field(inside, octets) else {
         return false;

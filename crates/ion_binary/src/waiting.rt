@@ -10,59 +10,13 @@ use ion_value::var::var_uint_read;
 ///
 /// False may be wrong. What is passed over before an item is read in the same call, and has to be
 /// there too.
-#[inline(always)]
 pub(crate) fn shows_item(inside: Option<Kind>, octets: &[u8]) -> bool {
-    shows_short(inside, octets) || shows_other(inside, octets)
-}
-
-// Whether they show another than a short value. It is a call of its own, so that a short one needs none.
-#[inline(never)]
-fn shows_other(inside: Option<Kind>, octets: &[u8]) -> bool {
     let mut rest = octets;
     'passed: loop {
         match behind_passed(inside, rest) {
             None => return shows_value(inside, rest),
             Some(behind) => rest = behind,
         }
-    }
-}
-
-// Whether a short value stands here whole, which is no NOP pad and no declaration: most values are told
-// so with the fewest steps.
-#[inline(always)]
-fn shows_short(inside: Option<Kind>, octets: &[u8]) -> bool {
-    let [octet, body @ ..] = behind_short_field(inside, octets) else {
-        return false;
-    };
-    let length = (*octet % 16) as usize;
-    if length >= 14 || body.len() < length {
-        return false;
-    }
-    match *octet / 16 {
-        1..=12 => true,
-        // The length of the ids has an octet, so that the second is the first of an id.
-        14 => matches!(body, [(128..), (132..), ..]),
-        _ => false,
-    }
-}
-
-/// Whether these octets show that the next member or value has two annotations or more. False may be
-/// wrong.
-#[inline(always)]
-pub(crate) fn shows_notes(inside: Option<Kind>, octets: &[u8]) -> bool {
-    match behind_short_field(inside, octets) {
-        [0xe3..=0xed, ids, id, ..] | [0xee, (128..), ids, id, ..] => *ids > 129 && *id >= 128,
-        _ => false,
-    }
-}
-
-// The octets behind the id of a field, where one must stand here and has one octet; else none.
-#[inline(always)]
-fn behind_short_field(inside: Option<Kind>, octets: &[u8]) -> &[u8] {
-    match (inside, octets) {
-        (Some(Kind::Struct), [(128..), value @ ..]) => value,
-        (Some(Kind::Struct), _) => &[],
-        _ => octets,
     }
 }
 

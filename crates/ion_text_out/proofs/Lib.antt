@@ -1,4 +1,3 @@
-mod BareLanes
 mod Blobs
 mod ItemParts
 mod Annotations

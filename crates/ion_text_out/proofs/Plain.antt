@@ -29,7 +29,7 @@ pub plain_text : (bytes : List ℕ) → is_plain bytes ≡ true → symbol_text 
 plain_text bytes plain = rw plain refl
 
 -- so is a simple one
-pub simple_text : (bytes : List ℕ) → is_simple bytes ≡ true → symbol_text (v.Known bytes) ≡ bytes
+simple_text : (bytes : List ℕ) → is_simple bytes ≡ true → symbol_text (v.Known bytes) ≡ bytes
 simple_text bytes simple = plain_text bytes (simple_plain bytes simple)
 
 -- and any other between quotes

@@ -17,7 +17,7 @@ use Rattle.ion_text_out.proofs.Quoted.{all_behind, all_joined}
 -- ---- a vector of bytes, tested lane by lane
 
 -- a lane that passes has all bits
-abbrev pub lane : Bool → ℕ
+abbrev lane : Bool → ℕ
 lane b = cond b 255 0
 
 -- the lanes of a vector that pass a test
@@ -231,17 +231,6 @@ both_pass p bytes n short e =
     let both = and_parts (all_are p (take n bytes)) (all_are p (drop at bytes)) (sym (all_joined p (take n bytes) (drop at bytes)) ∙ e) in
     subst (λ (l : List ℕ). all_are p l ≡ true) (take_all (at + n) bytes (omega arith))
     (all_behind p bytes at n (all_prefix p at n bytes (omega (arith, short)) both.0) (all_taken p n (drop at bytes) both.1))
-
--- where one of them does not pass, not all do
-pub ends_other : (p : ℕ → Bool) (bytes : List ℕ) (found n : ℕ) → found ≡ mask_l (map (λ b. not (p b)) (take n bytes ++ drop (length bytes - n) bytes)) → found ≢ 0 → all_are p bytes ≡ false
-ends_other p bytes found n same some =
-    let block = take n bytes ++ drop (length bytes - n) bytes in
-    elim (cases_Bool (all_are p bytes)) [
-      | inl e ↦
-          let all : all_are p block ≡ true = all_joined p (take n bytes) (drop (length bytes - n) bytes) ∙ ap₂ (λ y z. y && z) (all_taken p n bytes e) (all_dropped p (length bytes - n) bytes e) in
-          absurd (some (same ∙ no_bits p block all))
-      | inr e ↦ e
-    ]
 
 pub ends_hidden : (quote most : ℕ) (bytes : List ℕ) (found n : ℕ) → found ≡ mask_l (map (λ b. not (is_shown quote most b)) (take n bytes ++ drop (length bytes - n) bytes)) → length bytes ≤ n + n
     → nat_eq found 0 ≡ all_are (is_shown quote most) bytes

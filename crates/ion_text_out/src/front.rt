@@ -95,13 +95,7 @@ pub fn put_front<O: Output, A: Allocator + Copy>(sink: &mut Sink<O, A>, front: F
     ensures { sink.new ≡ record sink.old { pending = sink.old.pending ++ front_text front.entry } }
 {
     if either(front.name_quoted, front.note_quoted) {
-        put_quoted_front(
-            sink,
-            front.name,
-            front.name_quoted,
-            front.note,
-            front.note_quoted,
-        );
+        put_quoted_front(sink, front);
     } else {
         put_bare_front(sink, front.name, front.note);
     }
@@ -133,26 +127,15 @@ fn put_bare_front<O: Output, A: Allocator + Copy>(sink: &mut Sink<O, A>, name: &
     }
 }
 
-// Puts a name and an annotation, of which each may be there, and stand between quotes. It is a call of its
-// own, so that what puts a front stays small enough to be put in line; and its words are no struct, so that
-// they go by registers.
+// Puts a front of which a part stands between quotes. It is a call of its own, so that what puts a front
+// stays small enough to be put in line.
 #[inline(never)]
-fn put_quoted_front<O: Output, A: Allocator + Copy>(
-    sink: &mut Sink<O, A>,
-    name: &[u8],
-    name_quoted: bool,
-    note: &[u8],
-    note_quoted: bool,
-)
-    requires { length sink.old.pending
-        + length (plain_front (as_put name_quoted name.now) (as_put note_quoted note.now)) ≤ 4096 }
-    ensures { sink.new ≡ record sink.old {
-      pending = sink.old.pending
-          ++ plain_front (as_put name_quoted name.now) (as_put note_quoted note.now);
-    } }
+fn put_quoted_front<O: Output, A: Allocator + Copy>(sink: &mut Sink<O, A>, front: Front<'_>)
+    requires { length sink.old.pending + length (front_text front) ≤ 4096 }
+    ensures { sink.new ≡ record sink.old { pending = sink.old.pending ++ front_text front.entry } }
 {
-    put_name(sink, name, name_quoted);
-    put_note(sink, note, note_quoted);
+    put_name(sink, front.name, front.name_quoted);
+    put_note(sink, front.note, front.note_quoted);
 }
 
 // Puts a field's name and a colon, where there is a field.

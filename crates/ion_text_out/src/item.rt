@@ -1,9 +1,8 @@
 //! The text of an item, in parts.
-ghost use Rattle.std.specs.Prelude.{◌≡◌, ◌+◌, ◌*◌, ◌<◌, ◌-◌, ◌++◌, Bool, true, None, Some, Ok, Err, OnOk, IfErr, codes, slice_get};
+ghost use Rattle.std.specs.Prelude.{◌≡◌, ◌+◌, ◌*◌, ◌<◌, ◌-◌, ◌++◌, Bool, None, Some, Ok, Err, OnOk, IfErr, codes, slice_get};
 ghost use Rattle.ion_meter.specs.declared.fault.Fault.{Fault};
-ghost use Rattle.ion_value.specs.Name.{is_simple};
-ghost use Rattle.ion_value.specs.Value.{Known, user_symbol};
-ghost use Rattle.ion_value.specs.Items.{raw_head, symbol_of, item_of, annotations_of};
+ghost use Rattle.ion_value.specs.Value.{user_symbol};
+ghost use Rattle.ion_value.specs.Items.{raw_head, raw_field, symbol_of, item_of, annotations_of};
 ghost use Rattle.ion_text_out.specs.Text.{symbol_text, item_text};
 ghost use Rattle.ion_meter.specs.Sinks.{IsPut};
 ghost use Rattle.ion_text_out.specs.Writing.{first_text, is_value, last_text, middle_text, name_text, next_annotation_text, annotations_text, shown, value_text};
@@ -37,38 +36,16 @@ fn put_name<O: Output, A: Allocator + Copy>(
     put(sink, b":")
 }
 
-/// Puts a text that is simple, as a symbol, and what stands behind it.
+/// Puts a field's name and a colon, where there is one.
 #[inline(always)]
-fn put_simple<O: Output, A: Allocator + Copy>(
+fn put_field<O: Output, A: Allocator + Copy>(
     sink: &mut Sink<O, A>,
-    text: &[u8],
-    behind: &[u8],
+    field: Option<SymAt<'_>>,
 ) -> Result<(), Fault>
     requires well { sink.old.fault ≡ None }
-    requires simple { is_simple text.now ≡ true }
-    ensures { IsPut O.Output sink.old sink.new result
-        (symbol_text (Known text.now) ++ behind.now) }
+    ensures { IsPut O.Output sink.old sink.new result (name_text (raw_field field.entry)) }
 {
-    if let Err(fault) = put(sink, text) {
-        return Err(fault);
-    }
-    put(sink, behind)
-}
-
-/// Puts a field's name and a colon, where an item has one.
-#[inline(always)]
-fn put_field<O: Output, A: Allocator + Copy, N: Names>(
-    sink: &mut Sink<O, A>,
-    item: &Item<'_, N>,
-) -> Result<(), Fault>
-    requires well { sink.old.fault ≡ None }
-    ensures { IsPut O.Output sink.old sink.new result
-        (name_text (item_of N.text item.now).field) }
-{
-    if let Some(text) = item.simple_field() {
-        return put_simple(sink, text, b":");
-    }
-    match item.field() {
+    match field {
         None => put(sink, b""),
         Some(at) => put_name(sink, at),
     }
@@ -101,9 +78,6 @@ fn put_annotation_at<O: Output, A: Allocator + Copy, N: Names>(
     ensures { IsPut O.Output sink.old sink.new result
         (next_annotation_text (slice_get (annotations_of N.text annotations.now) index)) }
 {
-    if let Some(text) = annotations.simple(index) {
-        return put_simple(sink, text, b"::");
-    }
     match annotations.get(index) {
         None => put(sink, b""),
         Some(at) => put_annotation(sink, at),
@@ -194,7 +168,7 @@ fn put_middle<O: Output, A: Allocator + Copy, N: Names>(
     ensures { IsPut O.Output sink.old sink.new result (middle_text (item_of N.text item.now)) }
 {
     if is_value(head) {
-        put_value(sink, item, head)
+        put_value(sink, item.field(), &item.annotations(), head)
     } else {
         put(sink, b"")
     }
@@ -204,19 +178,20 @@ fn put_middle<O: Output, A: Allocator + Copy, N: Names>(
 #[inline(always)]
 fn put_value<O: Output, A: Allocator + Copy, N: Names>(
     sink: &mut Sink<O, A>,
-    item: &Item<'_, N>,
+    field: Option<SymAt<'_>>,
+    annotations: &Annotations<'_, N>,
     head: &Head<'_>,
 ) -> Result<(), Fault>
     requires well { sink.old.fault ≡ None }
     requires range { HeadInRange (raw_head head.now) }
     ensures { IsPut O.Output sink.old sink.new result
-        (value_text (item_of N.text item.now).field (item_of N.text item.now).annotations
+        (value_text (raw_field field.entry) (annotations_of N.text annotations.now)
         (raw_head head.now)) }
 {
-    if let Err(fault) = put_field(sink, item) {
+    if let Err(fault) = put_field(sink, field) {
         return Err(fault);
     }
-    if let Err(fault) = put_annotations(sink, &item.annotations()) {
+    if let Err(fault) = put_annotations(sink, annotations) {
         return Err(fault);
     }
     put_body(sink, head)

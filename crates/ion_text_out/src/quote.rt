@@ -62,8 +62,8 @@ fn put_inside<O: Output, A: Allocator + Copy>(
 // How many bytes are looked at together.
 const BLOCK: usize = 16;
 
-/// Half of them: texts that are shorter are looked at byte by byte.
-pub(crate) const HALF: usize = 8;
+// Half of them: texts that are shorter are looked at byte by byte.
+const HALF: usize = 8;
 
 // How many bytes at the front of these stand for themselves.
 #[inline]
@@ -135,9 +135,9 @@ fn stand_between(quote: u8, bytes: &[u8]) -> bool
     blocks_stand(quote, bytes)
 }
 
-/// The first bytes and the last ones, half a block of each, which may lie partly over each other.
+// The first bytes and the last ones, half a block of each, which may lie partly over each other.
 #[inline(always)]
-pub(crate) fn both_ends(bytes: &[u8]) -> [u8; BLOCK]
+fn both_ends(bytes: &[u8]) -> [u8; BLOCK]
     requires { HALF ≤ length bytes.now }
     ensures { result ≡ take HALF bytes.now ++ drop (length bytes.now - HALF) bytes.now }
 {

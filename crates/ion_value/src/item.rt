@@ -1,7 +1,5 @@
 //! Items: what readers give and writers take, one at a time.
-ghost use Rattle.std.specs.Prelude.{◌≡◌, ⊤, ℕ, Some, true, map, length, slice_get, slice_range, IfSome};
-ghost use Rattle.ion_value.specs.Name.{is_simple};
-ghost use Rattle.ion_value.specs.Value.{Text};
+ghost use Rattle.std.specs.Prelude.{◌≡◌, ⊤, map, length, slice_get, slice_range};
 ghost use Rattle.ion_value.specs.Items.{symbol_at, named_at, raw_field, raw_head, raw_annotation, raw_annotations, raw_item, named_item, annotations_of, item_names, item_of, names_of, is_none_left};
 
 use crate::decimal::Decimal;
@@ -168,27 +166,6 @@ impl<'a, N: Names> Annotations<'a, N> {
         Some(self.symbol(entry))
     }
 
-    /// The text of the annotation at a place of the list, where that is an id whose text is known to be
-    /// simple.
-    #[inline(always)]
-    pub fn simple(&self, index: usize) -> Option<&'a [u8]>
-        ensures text { IfSome result (λ t. (p : ℕ)
-            × (slice_get (annotations_of N.text self.now) index
-            ≡ Some (record { symbol = Text t.now; place = p }))) }
-        ensures simple { IfSome result (λ t. is_simple t.now ≡ true) }
-    {
-        if index >= self.entries.len() {
-            return None;
-        }
-        let Annotation::Id { id, place: _ } = self.entries[index] else {
-            return None;
-        };
-        let Some(text) = self.names.simple_text(id) else {
-            return None;
-        };
-        Some(text)
-    }
-
     // The symbol of an entry.
     #[inline]
     fn symbol(&self, entry: Annotation) -> SymAt<'a>
@@ -245,23 +222,6 @@ impl<'a, N: Names> Item<'a, N> {
     {
         let at = self.field?;
         Some(resolved(self.annotations.names, at))
-    }
-
-    /// The text of the field's name, where that is an id whose text is known to be simple.
-    #[inline(always)]
-    pub fn simple_field(&self) -> Option<&'a [u8]>
-        ensures text { IfSome result (λ t. (p : ℕ) × ((item_of N.text self.now).field
-            ≡ Some (record { symbol = Text t.now; place = p }))) }
-        ensures simple { IfSome result (λ t. is_simple t.now ≡ true) }
-    {
-        let at = self.field?;
-        let Sym::Id(id) = at.sym else {
-            return None;
-        };
-        let Some(text) = self.annotations.names.simple_text(id) else {
-            return None;
-        };
-        Some(text)
     }
 
     /// The annotations, in order.

@@ -9,11 +9,9 @@ ghost use Rattle.ion_binary.specs.Wrappers.{as_frames};
 use super::lane::{Around, around_in, ends_here, noted_front, other_front, shown_field};
 use super::{BinReader, values_behind};
 use crate::descriptor::Shape;
-use crate::wrapper::Frame;
 use ion_meter::device::{Input, Output};
 use ion_meter::meter::Meter;
 use ion_meter::sink::Sink;
-use ion_value::ion_type::Kind;
 use ion_value::names::Names;
 use ion_value::writer::ValueWriter;
 use std::alloc::Allocator;
@@ -42,30 +40,10 @@ impl<I: Input, A: Allocator + Copy> BinReader<I, A> {
         ensures { HandsOn I.Input W.ValueWriter (named_item (N.text names.now)) self.old self.new
             writer.old writer.new sink.old sink.new meter.old meter.new values result }
     {
-        if self.shows_bare() {
-            return values;
-        }
         if self.hand_next_noted(meter, names, writer, sink) {
             return values_behind(values, self.frames.as_slice());
         }
         self.hand_others(values, meter, names, writer, sink)
-    }
-
-    // Whether the window shows that the next item has no name and no annotation: the loop over most has
-    // declined such a one for good.
-    #[inline(always)]
-    fn shows_bare(&self) -> bool {
-        if let Some(Frame {
-            kind: Kind::Struct,
-            end: _,
-        }) = self.frames.as_slice().last()
-        {
-            return false;
-        }
-        match self.source.buffer() {
-            [octet, ..] => *octet < 0xe0,
-            [] => true,
-        }
     }
 
     // Hands the next item on where it has an annotation and that is possible; else it answers false, and

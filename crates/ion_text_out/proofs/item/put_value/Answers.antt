@@ -7,7 +7,7 @@ pub returns-in-Err : goal.returns-in-Err
 returns-in-Err g c = put_cut _ c.in-Err.is c.put_field.ensures
 
 pub returns-in-Err-put_annotations : goal.returns-in-Err-put_annotations
-returns-in-Err-put_annotations g c = put_then c.in_default.is c.put_field.ensures (put_cut _ c.in-Err-put_annotations.is (rw c.annotations.ensures at c.put_annotations.ensures))
+returns-in-Err-put_annotations g c = put_then c.in_default.is c.put_field.ensures (put_cut _ c.in-Err-put_annotations.is c.put_annotations.ensures)
 
 pub returns : goal.returns
 returns g c = grind (arith, common_steps)

@@ -6,11 +6,6 @@ use Rattle.ion_binary.specs.Steps.{held_by, opened_in, share_of}
 use Rattle.ion_binary.proofs.Feeding.{can_hand-then, hands_on-item, hands_on-none, hands_on-nothing, hands_on-then, held-again}
 use Rattle.ion_binary.proofs.reader.BinReader.hand_rare.Goals as goal
 
-pub returns-then-shows_bare : goal.returns-then-shows_bare
-returns-then-shows_bare g c =
-    hands_on-none g.I.Input g.W.ValueWriter (named_item (g.N.Names.text c.args.names.now)) c.args.self.now c.args.writer.now c.args.sink.now c.args.meter.now c.args.values c.requires.sound c.requires.fresh c.requires.writer
-    (g.met.W.ValueWriter.within c.args.writer.now c.requires.writer.sound) c.requires.held
-
 pub hand_next_noted-requires : goal.hand_next_noted-requires
 hand_next_noted-requires g c =
     let input = g.I.Input in

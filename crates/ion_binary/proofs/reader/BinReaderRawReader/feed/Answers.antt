@@ -1,7 +1,6 @@
 use Rattle.std.proofs.Common.{◌+◌, ◌<◌, ap, sym, subst, ◌∙◌, arith}
 use Rattle.std.proofs.lemmas.Grind.{common_steps}
 use Rattle.ion_meter.specs.declared.limits.Limits.{Limits}
-use Rattle.ion_value.specs.Feeding.{nothing}
 use Rattle.ion_value.specs.Items.{named_item}
 use Rattle.ion_value.proofs.Handing.{finished-feeds}
 use Rattle.ion_binary.specs.Lane.{joint}
@@ -14,9 +13,6 @@ pub runs-init : goal.runs-init
 runs-init g c =
     hands_on-none g.I.Input g.W.ValueWriter (named_item (g.N.Names.text c.args.names.now)) c.args.self.now c.args.writer.now c.args.sink.now c.args.meter.now 0 c.requires.sound.0 c.requires.fresh c.requires.writer
     (g.met.W.ValueWriter.within c.args.writer.now c.requires.writer.sound) c.requires.held
-
-pub returns-then-shows_many-clause-feeds : goal.returns-then-shows_many-clause-feeds
-returns-then-shows_many-clause-feeds g c = nothing
 
 pub hand_all-values-requires-clause-room : goal.hand_all-values-requires-clause-room
 hand_all-values-requires-clause-room g c = omega (arith, c.runs.invariant.keeps.charges.held, c.requires.room)

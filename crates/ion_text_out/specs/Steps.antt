@@ -1,10 +1,11 @@
 -- What one step of the writer asks for, puts, keeps and moves.
-use Rattle.std.specs.Prelude.{◌≡◌, ℕ, ◌*◌, ◌-◌, ◌^◌, ◌<◌, ◌≤◌, Bool, true, false, List, [], length, ◌++◌, Option, Some, None, Result, Err, OnOk}
+use Rattle.std.specs.Prelude.{◌≡◌, ℕ, ◌*◌, ◌-◌, ◌^◌, ◌<◌, ◌≤◌, Bool, true, false, List, [], length, ◌++◌, Option, Some, None, Result, Err, OnOk, IfErr}
 use Rattle.ion_meter.specs.Counts.{Counts}
+use Rattle.ion_meter.specs.Sinks.{IsPut}
 use Rattle.ion_meter.specs.Windows.{Outgoing, so_far, Puts, PutsPart}
 use Rattle.ion_meter.specs.declared.device.Output.{Ghosts as OutputOf}
 use Rattle.ion_meter.specs.declared.fault.Fault.{Fault}
-use Rattle.ion_meter.specs.declared.fault.Fault.TheVariants.{Memory}
+use Rattle.ion_meter.specs.declared.fault.Fault.TheVariants.{Memory, WriteFault}
 use Rattle.ion_meter.specs.declared.limits.Limits.{Limits}
 use Rattle.ion_value.specs.Shares.{Charges}
 use Rattle.ion_value.specs.Standing.{HeadInRange}
@@ -73,6 +74,13 @@ pub record Stepped {A : Type 0} (old new : TextWriter A) (before after : Counts)
   pub limits : new.limits ≡ old.limits
   pub failed : new.failed ≡ old.failed
   pub charges : Charges before after (held_by old) (held_by new) (share_of old)
+
+-- where the sink had not failed before, these bytes are put; else its fault is passed on, and nothing is changed
+pub record PutsUnlessFailed {O T : Type 0} (device : OutputOf O) (old new : Outgoing O) (result : Result T Fault) (bytes : List ℕ) : Type 0 where
+  pub well : OnOk result (old.fault ≡ None)
+  pub cause : IfErr result (λ f. f ≡ WriteFault)
+  pub passed : (f : Fault) → old.fault ≡ Some f → new ≡ old
+  pub puts : old.fault ≡ None → IsPut device old new result bytes
 
 -- where it answers well, this text was put, and where it fails, a prefix of it; nothing where the sink had failed before
 pub record PutsText {O T : Type 0} (device : OutputOf O) (old new : Outgoing O) (result : Result T Fault) (text : List ℕ) : Type 0 where

@@ -1,5 +1,6 @@
 -- An item's text in parts: what stands first, the value, and what stands last.
 use Rattle.std.proofs.Common.{◌≡◌, ℕ, List, [], ◌∷◌, ◌++◌, Result, Ok, Err, refl, sym, subst, ap, ◌∙◌, append_assoc, append-nil}
+use Rattle.std.specs.Prelude.{OnOk}
 use Rattle.ion_meter.specs.Windows.{Outgoing}
 use Rattle.ion_meter.specs.declared.fault.Fault.{Fault}
 use Rattle.ion_value.specs.Value as v
@@ -49,3 +50,8 @@ pub item_last : {O T : Type 0} {written : O → List ℕ} {observable : O → Ty
     → HasPut {T = T} written observable failures s u last (item_text cs (user_item i))
 item_last {O} {T} {written} {observable} {failures} {s} {m} {n} {u} {x} {y} {first} {middle} {last} cs i h e ok p fine q r =
     subst (λ (l : List ℕ). HasPut {T = T} written observable failures s u last l) (parts_for cs i h e) (put_then ok p (put_then fine q r))
+
+-- what holds anyway holds where a result is well
+pub on_ok : {T F : Type 0} (result : Result T F) (P : Type 0) → P → OnOk result P
+on_ok (Ok x) P p = p
+on_ok (Err f) P p = tt

@@ -7,3 +7,4 @@ mod ShownRuns
 mod Rows
 mod WriterSteps
 mod Plain
+mod Taken

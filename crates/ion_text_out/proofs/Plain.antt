@@ -15,10 +15,10 @@ use Rattle.ion_value.specs.declared.plain_item.TextAt.{TextAt}
 use Rattle.ion_value.specs.declared.plain_item.SecondAt.{SecondAt}
 use Rattle.ion_value.specs.declared.plain_item.PlainItem.{PlainItem}
 use Rattle.ion_text_out.specs.Escape.{between_quotes, byte_text}
-use Rattle.ion_text_out.specs.Text.{Open, annotation_text, before_item, behind_value, field_text, head_text, item_text, opener, scalar_text, symbol_text}
+use Rattle.ion_text_out.specs.Text.{Open, annotation_text, before_item, behind_value, field_text, head_text, item_text, scalar_text, symbol_text}
 use Rattle.ion_meter.specs.declared.limits.Limits.{Limits}
 use Rattle.ion_text_out.specs.Writing.{behind_end, closing, shown, text_adds, Shows}
-use Rattle.ion_text_out.specs.Lane.{are_said_simple, is_said_simple, notes_in, plain_begin, plain_front, plain_name, plain_note, plain_scalar, spelling, symbol_in, symbols_in, text_in}
+use Rattle.ion_text_out.specs.Lane.{are_said_simple, is_said_simple, notes_in, plain_front, plain_name, plain_note, plain_scalar, spelling, symbol_in, symbols_in, text_in}
 
 -- a simple text is plain
 simple_plain : (bytes : List ℕ) → is_simple bytes ≡ true → is_plain bytes ≡ true
@@ -143,7 +143,7 @@ pub scalar_put : (cs : Open) (name note : List ℕ) (head : v.Head SymbolAt) (bo
 scalar_put cs name note head body text is spelled = rw (is, spelled) refl
 
 -- a head that comes with a text is a scalar, of which that text is put
-spelled_body : (text : List ℕ) (head : v.Head SymbolAt) → IsTextOf text head → (body : v.Scalar SymbolAt) × (head ≡ v.whole body) × (text ≡ scalar_text (map_scalar user_symbol_at body))
+pub spelled_body : (text : List ℕ) (head : v.Head SymbolAt) → IsTextOf text head → (body : v.Scalar SymbolAt) × (head ≡ v.whole body) × (text ≡ scalar_text (map_scalar user_symbol_at body))
 spelled_body text (v.whole (v.int number)) is = (v.int number, refl, is)
 spelled_body text (v.whole (v.decimal number)) is = (v.decimal number, refl, is)
 spelled_body text (v.whole (v.timestamp moment)) is = (v.timestamp moment, refl, is)
@@ -156,22 +156,6 @@ spelled_body text (v.whole (v.blob bytes)) is = absurd is
 spelled_body text (v.begin kind) is = absurd is
 spelled_body text v.end is = absurd is
 spelled_body text v.marker is = absurd is
-
-pub spelled_put : (cs : Open) (name note text : List ℕ) (head : v.Head SymbolAt) → IsTextOf text head → plain_scalar cs name note text ≡ head_text cs (plain_front name note) (map_head user_symbol_at head)
-spelled_put cs name note text head is =
-    let b = spelled_body text head is in
-    scalar_put cs name note head b.0 text b.1 b.2
-
-pub begin_put : (cs : Open) (name note : List ℕ) (head : v.Head SymbolAt) (kind : Kind) → head ≡ v.begin kind
-    → plain_begin cs name note (opener kind) ≡ head_text cs (plain_front name note) (map_head user_symbol_at head)
-begin_put cs name note head kind is = rw is refl
-
--- the same texts are put alike
-pub scalar_same : (cs : Open) (a b c d text : List ℕ) → a ≡ b → c ≡ d → plain_scalar cs a c text ≡ plain_scalar cs b d text
-scalar_same cs a b c d text p q = rw (p, q) refl
-
-pub begin_same : (cs : Open) (a b c d bracket : List ℕ) → a ≡ b → c ≡ d → plain_begin cs a c bracket ≡ plain_begin cs b d bracket
-begin_same cs a b c d bracket p q = rw (p, q) refl
 
 -- what was put is a text that is the same
 pub puts_same : {O : Type 0} (old new : Outgoing O) (put text : List ℕ) → new ≡ record old { pending = old.pending ++ put } → put ≡ text → new ≡ record old { pending = old.pending ++ text }

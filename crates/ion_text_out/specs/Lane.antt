@@ -1,5 +1,6 @@
 -- What is put of a plain item.
-use Rattle.std.specs.Prelude.{ℕ, Bool, true, false, List, [], ◌∷◌, ◌++◌, Option, Some, None, codes}
+use Rattle.std.specs.Prelude.{◌≡◌, ℕ, Bool, true, false, List, [], ◌∷◌, ◌++◌, Option, Some, None, codes}
+use Rattle.ion_meter.specs.Windows.{Outgoing}
 use Rattle.ion_value.specs.Value.{Known}
 use Rattle.ion_value.specs.declared.plain_item.TextAt.{TextAt}
 use Rattle.ion_value.specs.declared.plain_item.SecondAt.{SecondAt}
@@ -76,3 +77,8 @@ plain_scalar cs name note text = before_item cs ++ (plain_front name note ++ (te
 -- what the beginning of a container adds, by its bracket
 abbrev pub plain_begin : Open → List ℕ → List ℕ → List ℕ → List ℕ
 plain_begin cs name note bracket = before_item cs ++ (plain_front name note ++ bracket)
+
+-- where it answers true, a scalar of this text was put behind a name and an annotation; else nothing is changed
+pub record PutsScalar {O : Type 0} (old new : Outgoing O) (result : Bool) (cs : Open) (spells : Bool) (name note text : List ℕ) : Type 0 where
+  pub declines : result ≡ false → new ≡ old
+  pub puts : result ≡ true → new ≡ record old { pending = old.pending ++ plain_scalar cs (spelled_by spells name) (spelled_by spells note) text }

@@ -1,15 +1,17 @@
 -- What one step of the writer asks for, puts, keeps and moves.
-use Rattle.std.specs.Prelude.{◌≡◌, ℕ, ◌*◌, ◌-◌, ◌^◌, ◌<◌, ◌≤◌, List, [], length, ◌++◌, Option, Some, None, Result, Err, OnOk}
+use Rattle.std.specs.Prelude.{◌≡◌, ℕ, ◌*◌, ◌-◌, ◌^◌, ◌<◌, ◌≤◌, Bool, true, false, List, [], length, ◌++◌, Option, Some, None, Result, Err, OnOk, IfErr}
 use Rattle.ion_meter.specs.Counts.{Counts}
+use Rattle.ion_meter.specs.Sinks.{IsPut}
 use Rattle.ion_meter.specs.Windows.{Outgoing, so_far, Puts, PutsPart}
 use Rattle.ion_meter.specs.declared.device.Output.{Ghosts as OutputOf}
 use Rattle.ion_meter.specs.declared.fault.Fault.{Fault}
-use Rattle.ion_meter.specs.declared.fault.Fault.TheVariants.{Memory}
+use Rattle.ion_meter.specs.declared.fault.Fault.TheVariants.{Memory, WriteFault}
 use Rattle.ion_meter.specs.declared.limits.Limits.{Limits}
 use Rattle.ion_value.specs.Shares.{Charges}
 use Rattle.ion_value.specs.Standing.{HeadInRange}
 use Rattle.ion_value.specs.Value.{Head, PlacedItem}
 use Rattle.ion_text_out.specs.declared.writer.TextWriter.{TextWriter}
+use Rattle.ion_text_out.specs.Lane.{plain_scalar, spelled_by}
 use Rattle.ion_text_out.specs.Text.{Open, item_text}
 use Rattle.ion_text_out.specs.Writing.{shown, HasRoom, IsReady, Shows}
 use Rattle.ion_value.specs.Value.{user_item}
@@ -73,6 +75,13 @@ pub record Stepped {A : Type 0} (old new : TextWriter A) (before after : Counts)
   pub failed : new.failed ≡ old.failed
   pub charges : Charges before after (held_by old) (held_by new) (share_of old)
 
+-- where the sink had not failed before, these bytes are put; else its fault is passed on, and nothing is changed
+pub record PutsUnlessFailed {O T : Type 0} (device : OutputOf O) (old new : Outgoing O) (result : Result T Fault) (bytes : List ℕ) : Type 0 where
+  pub well : OnOk result (old.fault ≡ None)
+  pub cause : IfErr result (λ f. f ≡ WriteFault)
+  pub passed : (f : Fault) → old.fault ≡ Some f → new ≡ old
+  pub puts : old.fault ≡ None → IsPut device old new result bytes
+
 -- where it answers well, this text was put, and where it fails, a prefix of it; nothing where the sink had failed before
 pub record PutsText {O T : Type 0} (device : OutputOf O) (old new : Outgoing O) (result : Result T Fault) (text : List ℕ) : Type 0 where
   pub whole : OnOk result (device.observable old.device → so_far device.written new ≡ so_far device.written old ++ text)
@@ -80,3 +89,17 @@ pub record PutsText {O T : Type 0} (device : OutputOf O) (old new : Outgoing O) 
   pub part : old.fault ≡ None → Puts device.written device.observable old new text
   pub cut : old.fault ≡ None → result ≡ Err Memory → PutsPart device.written device.observable old new text
   pub passed : (f : Fault) → old.fault ≡ Some f → new ≡ old
+
+-- where it answers true, a scalar of this text was put behind a name and an annotation, and the writer stands behind it; else nothing is changed
+pub record TakesScalar {A O : Type 0} (w moved : TextWriter A) (old new : Outgoing O) (result spells : Bool) (name note text : List ℕ) : Type 0 where
+  pub declines : result ≡ false → (moved ≡ w) × (new ≡ old)
+  pub puts : result ≡ true → new ≡ record old { pending = old.pending ++ plain_scalar (opened_in w) (spelled_by spells name) (spelled_by spells note) text }
+  pub behind : result ≡ true → moved ≡ record w { empty = false }
+
+-- where it answers true, this text was put, and these containers are open; else nothing is changed
+pub record TakesHead {A O : Type 0} (w moved : TextWriter A) (before after : Counts) (old new : Outgoing O) (result : Bool) (text : List ℕ) (opened : Open) : Type 0 where
+  pub declines : result ≡ false → (moved ≡ w) × (new ≡ old) × (after ≡ before)
+  pub puts : result ≡ true → new ≡ record old { pending = old.pending ++ text }
+  pub opens : result ≡ true → opened_in moved ≡ opened
+  pub counted : after.refused ≡ before.refused
+  pub stepped : Stepped w moved before after

@@ -1,10 +1,10 @@
 //! The text of an item, in parts.
-ghost use Rattle.std.specs.Prelude.{◌≡◌, ◌+◌, ◌*◌, ◌<◌, ◌-◌, ◌++◌, Bool, None, Some, Ok, Err, OnOk, IfErr, codes, slice_get};
-ghost use Rattle.ion_meter.specs.declared.fault.Fault.{Fault};
+ghost use Rattle.std.specs.Prelude.{◌≡◌, ◌+◌, ◌*◌, ◌<◌, ◌-◌, ◌++◌, Bool, None, codes, slice_get};
 ghost use Rattle.ion_value.specs.Value.{user_symbol};
 ghost use Rattle.ion_value.specs.Items.{raw_head, raw_field, symbol_of, item_of, annotations_of};
 ghost use Rattle.ion_text_out.specs.Text.{symbol_text, item_text};
 ghost use Rattle.ion_meter.specs.Sinks.{IsPut};
+ghost use Rattle.ion_text_out.specs.Steps.{PutsUnlessFailed};
 ghost use Rattle.ion_text_out.specs.Writing.{first_text, is_value, last_text, middle_text, name_text, next_annotation_text, annotations_text, shown, value_text};
 ghost use Rattle.ion_value.specs.Value.{user_item};
 ghost use Rattle.ion_value.specs.Standing.{HeadInRange};
@@ -115,10 +115,7 @@ fn put_first<O: Output, A: Allocator + Copy>(
     empty: bool,
     head: &Head<'_>,
 ) -> Result<(), Fault>
-    ensures well { OnOk result (sink.old.fault ≡ None) }
-    ensures cause { IfErr result (λ f. f ≡ Fault.WriteFault) }
-    ensures passed { (f : Fault) → sink.old.fault ≡ Some f → sink.new ≡ sink.old }
-    ensures puts { sink.old.fault ≡ None → IsPut O.Output sink.old sink.new result
+    ensures { PutsUnlessFailed O.Output sink.old sink.new result
         (first_text (shown kinds.now empty) (raw_head head.now)) }
 {
     match *head {
@@ -208,10 +205,7 @@ pub fn put_item<O: Output, A: Allocator + Copy, N: Names>(
 ) -> Result<(), Fault>
     requires range { HeadInRange (item_of N.text item.now).head }
     requires head { raw_head head.now ≡ (item_of N.text item.now).head }
-    ensures well { OnOk result (sink.old.fault ≡ None) }
-    ensures cause { IfErr result (λ f. f ≡ Fault.WriteFault) }
-    ensures passed { (f : Fault) → sink.old.fault ≡ Some f → sink.new ≡ sink.old }
-    ensures puts { sink.old.fault ≡ None → IsPut O.Output sink.old sink.new result
+    ensures { PutsUnlessFailed O.Output sink.old sink.new result
         (item_text (shown kinds.now empty) (user_item (item_of N.text item.now))) }
 {
     if let Err(fault) = put_first(sink, kinds, empty, head) {

@@ -1,12 +1,12 @@
 //! Plain items, put in one go where the window on the output has room for them.
-ghost use Rattle.std.specs.Prelude.{◌≡◌, ◌+◌, ◌^◌, ◌≤◌, ◌<◌, ◌++◌, ◌∷◌, ◌&&◌, [], length, true, false, if◌then◌else◌, Option, IfSome};
+ghost use Rattle.std.specs.Prelude.{◌≡◌, ◌+◌, ◌≤◌, ◌<◌, ◌++◌, ◌∷◌, ◌&&◌, [], length, true, false, if◌then◌else◌, Option, IfSome};
 ghost use Rattle.ion_value.specs.Int.{int_text};
 ghost use Rattle.ion_value.specs.PlainItems.{IsRightlySimple};
 ghost use Rattle.ion_value.specs.declared.plain_item.TextAt.{TextAt};
 ghost use Rattle.ion_text_out.specs.Writing.{behind_end, closing, shown};
 ghost use Rattle.ion_text_out.specs.Escape.{between_quotes};
 ghost use Rattle.ion_text_out.specs.Text.{end_text, opener};
-ghost use Rattle.ion_text_out.specs.Lane.{are_said_simple, front_text, is_said_simple, notes_in, plain_scalar, spelled_by, spelling, symbol_in, text_in};
+ghost use Rattle.ion_text_out.specs.Lane.{PutsScalar, are_said_simple, front_text, is_said_simple, notes_in, spelling, symbol_in, text_in};
 
 use crate::between::{before, behind, behind_end, closing, opener};
 use crate::front::{Front, front_of, has_room, put_front};
@@ -96,11 +96,8 @@ pub fn put_scalar<O: Output, A: Allocator + Copy, const SPELLS: bool>(
     note: &[u8],
     text: &[u8],
 ) -> bool
-    ensures declines { result ≡ false → sink.new ≡ sink.old }
-    ensures puts { result ≡ true → sink.new ≡ record sink.old {
-      pending = sink.old.pending ++ plain_scalar (shown kinds.now empty)
-          (spelled_by SPELLS name.now) (spelled_by SPELLS note.now) text.now;
-    } }
+    ensures { PutsScalar sink.old sink.new result (shown kinds.now empty)
+        SPELLS name.now note.now text.now }
 {
     let Some(front) = front_of::<SPELLS>(name, note) else {
         return false;
@@ -134,12 +131,9 @@ pub fn put_int<O: Output, A: Allocator + Copy, const SPELLS: bool>(
     negative: bool,
     magnitude: u64,
 ) -> bool
-    ensures declines { result ≡ false → sink.new ≡ sink.old }
-    ensures puts { result ≡ true → sink.new ≡ record sink.old {
-      pending = sink.old.pending ++ plain_scalar (shown kinds.now empty)
-          (spelled_by SPELLS name.now) (spelled_by SPELLS note.now)
-          (int_text (record { negative = negative; magnitude = magnitude }));
-    } }
+    ensures { PutsScalar sink.old sink.new result (shown kinds.now empty)
+        SPELLS name.now note.now
+        (int_text (record { negative = negative; magnitude = magnitude })) }
 {
     let Some(front) = front_of::<SPELLS>(name, note) else {
         return false;
@@ -168,12 +162,8 @@ fn put_between<O: Output, A: Allocator + Copy, const SPELLS: bool>(
     quote: u8,
     text: &[u8],
 ) -> bool
-    ensures declines { result ≡ false → sink.new ≡ sink.old }
-    ensures puts { result ≡ true → sink.new ≡ record sink.old {
-      pending = sink.old.pending ++ plain_scalar (shown kinds.now empty)
-          (spelled_by SPELLS name.now) (spelled_by SPELLS note.now)
-          (quote ∷ (text.now ++ quote ∷ []));
-    } }
+    ensures { PutsScalar sink.old sink.new result (shown kinds.now empty)
+        SPELLS name.now note.now (quote ∷ (text.now ++ quote ∷ [])) }
 {
     let Some(front) = front_of::<SPELLS>(name, note) else {
         return false;
@@ -200,12 +190,8 @@ pub fn put_string<O: Output, A: Allocator + Copy, const SPELLS: bool>(
     note: &[u8],
     text: &[u8],
 ) -> bool
-    ensures declines { result ≡ false → sink.new ≡ sink.old }
-    ensures puts { result ≡ true → sink.new ≡ record sink.old {
-      pending = sink.old.pending ++ plain_scalar (shown kinds.now empty)
-          (spelled_by SPELLS name.now) (spelled_by SPELLS note.now)
-          (between_quotes 34 256 text.now);
-    } }
+    ensures { PutsScalar sink.old sink.new result (shown kinds.now empty)
+        SPELLS name.now note.now (between_quotes 34 256 text.now) }
 {
     if !stands_in_string(text) {
         return false;
@@ -223,12 +209,8 @@ pub fn put_quoted_symbol<O: Output, A: Allocator + Copy, const SPELLS: bool>(
     note: &[u8],
     text: &[u8],
 ) -> bool
-    ensures declines { result ≡ false → sink.new ≡ sink.old }
-    ensures puts { result ≡ true → sink.new ≡ record sink.old {
-      pending = sink.old.pending ++ plain_scalar (shown kinds.now empty)
-          (spelled_by SPELLS name.now) (spelled_by SPELLS note.now)
-          (between_quotes 39 256 text.now);
-    } }
+    ensures { PutsScalar sink.old sink.new result (shown kinds.now empty)
+        SPELLS name.now note.now (between_quotes 39 256 text.now) }
 {
     if !stands_in_symbol(text) {
         return false;

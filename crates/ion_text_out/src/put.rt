@@ -1,6 +1,7 @@
 //! Bytes that are put in parts.
-ghost use Rattle.std.specs.Prelude.{◌≡◌, None, Some, OnOk, IfErr};
+ghost use Rattle.std.specs.Prelude.{◌≡◌, None};
 ghost use Rattle.ion_meter.specs.Sinks.{IsPut};
+ghost use Rattle.ion_text_out.specs.Steps.{PutsUnlessFailed};
 
 use ion_meter::device::Output;
 use ion_meter::fault::Fault;
@@ -22,11 +23,7 @@ pub fn put_mark<O: Output, A: Allocator + Copy>(
     sink: &mut Sink<O, A>,
     mark: &[u8],
 ) -> Result<(), Fault>
-    ensures well { OnOk result (sink.old.fault ≡ None) }
-    ensures cause { IfErr result (λ f. f ≡ Fault.WriteFault) }
-    ensures passed { (f : Fault) → sink.old.fault ≡ Some f → sink.new ≡ sink.old }
-    ensures puts { sink.old.fault ≡ None
-        → IsPut O.Output sink.old sink.new result mark.now }
+    ensures { PutsUnlessFailed O.Output sink.old sink.new result mark.now }
 {
     match mark {
         [] => sink.put(b""),

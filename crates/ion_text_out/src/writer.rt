@@ -1,5 +1,5 @@
 //! The writer of text.
-ghost use Rattle.std.specs.Prelude.{◌≡◌, ◌*◌, ◌≤◌, ◌<◌, ◌-◌, ◌++◌, ◌∷◌, ℕ, [], length, drop, true, false, None, Err, OnOk, OnErr, IfErr, IfSome};
+ghost use Rattle.std.specs.Prelude.{◌≡◌, ◌*◌, ◌≤◌, ◌<◌, ◌-◌, ◌∷◌, ℕ, length, drop, true, false, None, Err, OnOk, OnErr, IfErr, IfSome};
 ghost use Rattle.ion_meter.specs.declared.fault.Reason.{Reason};
 ghost use Rattle.ion_meter.specs.declared.fault.Fault.TheVariants.{Refused};
 ghost use Rattle.ion_meter.specs.Limits.{AreChecked};
@@ -13,11 +13,10 @@ ghost use Rattle.ion_value.specs.PlainItems.{IsTextOf};
 ghost use Rattle.ion_value.specs.Shares.{MemoryCauses, WriteCauses, fault_of};
 ghost use Rattle.ion_text_out.specs.Escape.{between_quotes};
 ghost use Rattle.ion_text_out.specs.Text.{end_text, head_text, open_after, opener, symbol_text, with_member};
-ghost use Rattle.ion_text_out.specs.Lane.{plain_begin, plain_front, plain_scalar, spelled_by, spelling};
+ghost use Rattle.ion_text_out.specs.Lane.{plain_begin, plain_front, spelled_by, spelling};
 ghost use Rattle.ion_text_out.specs.Writing.{text_puts, text_adds, text_refusal};
 ghost use Rattle.ion_value.specs.Value.{user_symbol, user_symbol_at};
-ghost use Rattle.ion_value.specs.Standing.{HeadInRange};
-ghost use Rattle.ion_text_out.specs.Steps.{CanStep, HasPutNothing, HasRoomFor, HasShown, IsSound, MayCome, PutsText, Stepped, failed_of, held_by, limits_of, opened_in, share_of, text_of};
+ghost use Rattle.ion_text_out.specs.Steps.{CanStep, HasPutNothing, HasRoomFor, HasShown, IsSound, MayCome, PutsText, Stepped, TakesHead, TakesScalar, failed_of, held_by, limits_of, opened_in, share_of, text_of};
 ghost use Rattle.ion_text_out.specs.Written.{text_grows, text-within};
 
 use crate::bare::is_bare;
@@ -159,13 +158,8 @@ impl<A: Allocator + Copy> TextWriter<A> {
         note: &[u8],
         text: &[u8],
     ) -> bool
-        ensures declines { result ≡ false → (self.new ≡ self.old) × (sink.new ≡ sink.old) }
-        ensures puts { result ≡ true → sink.new ≡ record sink.old {
-          pending = sink.old.pending
-              ++ plain_scalar (opened_in self.old)
-              (spelled_by SPELLS name.now) (spelled_by SPELLS note.now) text.now;
-        } }
-        ensures behind { result ≡ true → self.new ≡ record self.old { empty = false } }
+        ensures { TakesScalar self.old self.new sink.old sink.new result
+            SPELLS name.now note.now text.now }
     {
         if !put_scalar::<O, A, SPELLS>(sink, self.kinds.as_slice(), self.empty, name, note, text) {
             return false;
@@ -183,13 +177,8 @@ impl<A: Allocator + Copy> TextWriter<A> {
         note: &[u8],
         symbol: Sym<'_>,
     ) -> bool
-        ensures declines { result ≡ false → (self.new ≡ self.old) × (sink.new ≡ sink.old) }
-        ensures puts { result ≡ true → sink.new ≡ record sink.old {
-          pending = sink.old.pending ++ plain_scalar (opened_in self.old)
-              (spelled_by SPELLS name.now) (spelled_by SPELLS note.now)
-              (symbol_text (user_symbol (symbol_of symbol.entry)));
-        } }
-        ensures behind { result ≡ true → self.new ≡ record self.old { empty = false } }
+        ensures { TakesScalar self.old self.new sink.old sink.new result
+            SPELLS name.now note.now (symbol_text (user_symbol (symbol_of symbol.entry))) }
     {
         let Sym::Text(text) = symbol else {
             return false;
@@ -206,13 +195,8 @@ impl<A: Allocator + Copy> TextWriter<A> {
         note: &[u8],
         text: &[u8],
     ) -> bool
-        ensures declines { result ≡ false → (self.new ≡ self.old) × (sink.new ≡ sink.old) }
-        ensures puts { result ≡ true → sink.new ≡ record sink.old {
-          pending = sink.old.pending ++ plain_scalar (opened_in self.old)
-              (spelled_by SPELLS name.now) (spelled_by SPELLS note.now)
-              (symbol_text (Known text.now));
-        } }
-        ensures behind { result ≡ true → self.new ≡ record self.old { empty = false } }
+        ensures { TakesScalar self.old self.new sink.old sink.new result
+            SPELLS name.now note.now (symbol_text (Known text.now)) }
     {
         if is_bare(text) {
             self.take_text::<O, SPELLS>(sink, name, note, text)
@@ -230,13 +214,8 @@ impl<A: Allocator + Copy> TextWriter<A> {
         note: &[u8],
         text: &[u8],
     ) -> bool
-        ensures declines { result ≡ false → (self.new ≡ self.old) × (sink.new ≡ sink.old) }
-        ensures puts { result ≡ true → sink.new ≡ record sink.old {
-          pending = sink.old.pending ++ plain_scalar (opened_in self.old)
-              (spelled_by SPELLS name.now) (spelled_by SPELLS note.now)
-              (between_quotes 39 256 text.now);
-        } }
-        ensures behind { result ≡ true → self.new ≡ record self.old { empty = false } }
+        ensures { TakesScalar self.old self.new sink.old sink.new result
+            SPELLS name.now note.now (between_quotes 39 256 text.now) }
     {
         if !put_quoted_symbol::<O, A, SPELLS>(
             sink,
@@ -261,13 +240,8 @@ impl<A: Allocator + Copy> TextWriter<A> {
         note: &[u8],
         int: Int,
     ) -> bool
-        ensures declines { result ≡ false → (self.new ≡ self.old) × (sink.new ≡ sink.old) }
-        ensures puts { result ≡ true → sink.new ≡ record sink.old {
-          pending = sink.old.pending ++ plain_scalar (opened_in self.old)
-              (spelled_by SPELLS name.now) (spelled_by SPELLS note.now)
-              (int_text int);
-        } }
-        ensures behind { result ≡ true → self.new ≡ record self.old { empty = false } }
+        ensures { TakesScalar self.old self.new sink.old sink.new result
+            SPELLS name.now note.now (int_text int) }
     {
         if int.magnitude > u64::MAX as u128 {
             return false;
@@ -285,13 +259,9 @@ impl<A: Allocator + Copy> TextWriter<A> {
         negative: bool,
         magnitude: u64,
     ) -> bool
-        ensures declines { result ≡ false → (self.new ≡ self.old) × (sink.new ≡ sink.old) }
-        ensures puts { result ≡ true → sink.new ≡ record sink.old {
-          pending = sink.old.pending ++ plain_scalar (opened_in self.old)
-              (spelled_by SPELLS name.now) (spelled_by SPELLS note.now)
-              (int_text (record { negative = negative; magnitude = magnitude }));
-        } }
-        ensures behind { result ≡ true → self.new ≡ record self.old { empty = false } }
+        ensures { TakesScalar self.old self.new sink.old sink.new result
+            SPELLS name.now note.now
+            (int_text (record { negative = negative; magnitude = magnitude })) }
     {
         if !put_int::<O, A, SPELLS>(
             sink,
@@ -319,13 +289,8 @@ impl<A: Allocator + Copy> TextWriter<A> {
         decimal: Decimal,
     ) -> bool
         requires { IsDecimal decimal }
-        ensures declines { result ≡ false → (self.new ≡ self.old) × (sink.new ≡ sink.old) }
-        ensures puts { result ≡ true → sink.new ≡ record sink.old {
-          pending = sink.old.pending ++ plain_scalar (opened_in self.old)
-              (spelled_by SPELLS name.now) (spelled_by SPELLS note.now)
-              (decimal_text decimal);
-        } }
-        ensures behind { result ≡ true → self.new ≡ record self.old { empty = false } }
+        ensures { TakesScalar self.old self.new sink.old sink.new result
+            SPELLS name.now note.now (decimal_text decimal) }
     {
         let text = decimal_to_text(decimal);
         self.take_text::<O, SPELLS>(sink, name, note, text.as_str().as_bytes())
@@ -342,13 +307,8 @@ impl<A: Allocator + Copy> TextWriter<A> {
         moment: Timestamp,
     ) -> bool
         requires { IsTimestamp moment }
-        ensures declines { result ≡ false → (self.new ≡ self.old) × (sink.new ≡ sink.old) }
-        ensures puts { result ≡ true → sink.new ≡ record sink.old {
-          pending = sink.old.pending ++ plain_scalar (opened_in self.old)
-              (spelled_by SPELLS name.now) (spelled_by SPELLS note.now)
-              (timestamp_text moment);
-        } }
-        ensures behind { result ≡ true → self.new ≡ record self.old { empty = false } }
+        ensures { TakesScalar self.old self.new sink.old sink.new result
+            SPELLS name.now note.now (timestamp_text moment) }
     {
         self.take_timestamp_text::<O, SPELLS>(sink, name, note, moment)
     }
@@ -363,13 +323,8 @@ impl<A: Allocator + Copy> TextWriter<A> {
         moment: Timestamp,
     ) -> bool
         requires { IsTimestamp moment }
-        ensures declines { result ≡ false → (self.new ≡ self.old) × (sink.new ≡ sink.old) }
-        ensures puts { result ≡ true → sink.new ≡ record sink.old {
-          pending = sink.old.pending ++ plain_scalar (opened_in self.old)
-              (spelled_by SPELLS name.now) (spelled_by SPELLS note.now)
-              (timestamp_text moment);
-        } }
-        ensures behind { result ≡ true → self.new ≡ record self.old { empty = false } }
+        ensures { TakesScalar self.old self.new sink.old sink.new result
+            SPELLS name.now note.now (timestamp_text moment) }
     {
         let text = timestamp_to_text(moment);
         self.take_text::<O, SPELLS>(sink, name, note, text.as_str().as_bytes())
@@ -384,13 +339,8 @@ impl<A: Allocator + Copy> TextWriter<A> {
         note: &[u8],
         text: &[u8],
     ) -> bool
-        ensures declines { result ≡ false → (self.new ≡ self.old) × (sink.new ≡ sink.old) }
-        ensures puts { result ≡ true → sink.new ≡ record sink.old {
-          pending = sink.old.pending ++ plain_scalar (opened_in self.old)
-              (spelled_by SPELLS name.now) (spelled_by SPELLS note.now)
-              (between_quotes 34 256 text.now);
-        } }
-        ensures behind { result ≡ true → self.new ≡ record self.old { empty = false } }
+        ensures { TakesScalar self.old self.new sink.old sink.new result
+            SPELLS name.now note.now (between_quotes 34 256 text.now) }
     {
         if !put_string::<O, A, SPELLS>(sink, self.kinds.as_slice(), self.empty, name, note, text) {
             return false;
@@ -411,17 +361,10 @@ impl<A: Allocator + Copy> TextWriter<A> {
     ) -> bool
         requires can_step { CanStep self.old meter.old }
         requires deep { length self.old.kinds < self.old.limits.depth }
-        ensures declines { result ≡ false
-            → (self.new ≡ self.old) × (sink.new ≡ sink.old) × (meter.new ≡ meter.old) }
-        ensures puts { result ≡ true → sink.new ≡ record sink.old {
-          pending = sink.old.pending
-              ++ plain_begin (opened_in self.old)
-              (spelled_by SPELLS name.now) (spelled_by SPELLS note.now) (opener kind);
-        } }
-        ensures opens { result ≡ true
-            → opened_in self.new ≡ (kind, true) ∷ with_member (opened_in self.old) }
-        ensures counted { meter.new.refused ≡ meter.old.refused }
-        ensures stepped { Stepped self.old self.new meter.old meter.new }
+        ensures { TakesHead self.old self.new meter.old meter.new sink.old sink.new result
+            (plain_begin (opened_in self.old)
+            (spelled_by SPELLS name.now) (spelled_by SPELLS note.now) (opener kind))
+            ((kind, true) ∷ with_member (opened_in self.old)) }
     {
         let Some(front) = front_of::<SPELLS>(name, note) else {
             return false;
@@ -442,14 +385,8 @@ impl<A: Allocator + Copy> TextWriter<A> {
     #[inline(never)]
     fn take_end<O: Output>(&mut self, meter: &mut Meter<A>, sink: &mut Sink<O, A>) -> bool
         requires can_step { CanStep self.old meter.old }
-        ensures declines { result ≡ false
-            → (self.new ≡ self.old) × (sink.new ≡ sink.old) × (meter.new ≡ meter.old) }
-        ensures puts { result ≡ true → sink.new ≡ record sink.old {
-          pending = sink.old.pending ++ end_text (opened_in self.old);
-        } }
-        ensures opens { result ≡ true → opened_in self.new ≡ drop 1 (opened_in self.old) }
-        ensures counted { meter.new.refused ≡ meter.old.refused }
-        ensures stepped { Stepped self.old self.new meter.old meter.new }
+        ensures { TakesHead self.old self.new meter.old meter.new sink.old sink.new result
+            (end_text (opened_in self.old)) (drop 1 (opened_in self.old)) }
     {
         if !put_end(sink, self.kinds.as_slice(), self.empty) {
             return false;
@@ -473,17 +410,11 @@ impl<A: Allocator + Copy> TextWriter<A> {
         requires can_step { CanStep self.old meter.old }
         requires comes { MayCome self.old (raw_head head) }
         requires spelled { IfSome spelled (λ text. IsTextOf text.now (raw_head head)) }
-        ensures declines { result ≡ false
-            → (self.new ≡ self.old) × (sink.new ≡ sink.old) × (meter.new ≡ meter.old) }
-        ensures puts { result ≡ true → sink.new ≡ record sink.old {
-          pending = sink.old.pending ++ head_text (opened_in self.old)
-              (plain_front (spelled_by SPELLS name.now) (spelled_by SPELLS note.now))
-              (map_head user_symbol_at (raw_head head.entry));
-        } }
-        ensures opens { result ≡ true → opened_in self.new
-            ≡ open_after (opened_in self.old) (map_head user_symbol_at (raw_head head.entry)) }
-        ensures counted { meter.new.refused ≡ meter.old.refused }
-        ensures stepped { Stepped self.old self.new meter.old meter.new }
+        ensures { TakesHead self.old self.new meter.old meter.new sink.old sink.new result
+            (head_text (opened_in self.old)
+            (plain_front (spelled_by SPELLS name.now) (spelled_by SPELLS note.now))
+            (map_head user_symbol_at (raw_head head.entry)))
+            (open_after (opened_in self.old) (map_head user_symbol_at (raw_head head.entry))) }
     {
         if let Some(text) = spelled {
             return self.take_text::<O, SPELLS>(sink, name, note, text);
@@ -518,17 +449,11 @@ impl<A: Allocator + Copy> TextWriter<A> {
         requires can_step { CanStep self.old meter.old }
         requires comes { MayCome self.old (raw_head head) }
         requires spelled { IfSome spelled (λ text. IsTextOf text.now (raw_head head)) }
-        ensures declines { result ≡ false
-            → (self.new ≡ self.old) × (sink.new ≡ sink.old) × (meter.new ≡ meter.old) }
-        ensures puts { result ≡ true → sink.new ≡ record sink.old {
-          pending = sink.old.pending ++ head_text (opened_in self.old)
-              (plain_front (spelling name.now) (spelling note.now))
-              (map_head user_symbol_at (raw_head head.entry));
-        } }
-        ensures opens { result ≡ true → opened_in self.new
-            ≡ open_after (opened_in self.old) (map_head user_symbol_at (raw_head head.entry)) }
-        ensures counted { meter.new.refused ≡ meter.old.refused }
-        ensures stepped { Stepped self.old self.new meter.old meter.new }
+        ensures { TakesHead self.old self.new meter.old meter.new sink.old sink.new result
+            (head_text (opened_in self.old)
+            (plain_front (spelling name.now) (spelling note.now))
+            (map_head user_symbol_at (raw_head head.entry)))
+            (open_after (opened_in self.old) (map_head user_symbol_at (raw_head head.entry))) }
     {
         self.take_head::<O, true>(meter, sink, name, note, head, spelled)
     }

@@ -5,6 +5,9 @@ use Rattle.ion_text_out.specs.Writing.{shown}
 use Rattle.ion_text_out.proofs.Plain.{before-short, behind-short, minus-short}
 use Rattle.ion_text_out.proofs.lane.put_int.Goals as goal
 
+pub returns : goal.returns
+returns g c = grind (arith, common_steps)
+
 pub put_mark-requires-3 : goal.put_mark-requires-3
 put_mark-requires-3 g c =
     let cs = shown c.args.kinds.now c.args.empty in
@@ -35,23 +38,5 @@ put_front-requires g c = grind (arith, common_steps)
 pub put_mark-requires-2 : goal.put_mark-requires-2
 put_mark-requires-2 g c = grind (arith, common_steps)
 
-pub returns-clause-puts : goal.returns-clause-puts
-returns-clause-puts g c = grind (arith, common_steps)
-
-pub returns-clause-declines : goal.returns-clause-declines
-returns-clause-declines g c = grind (arith, common_steps)
-
 pub put_mark-requires : goal.put_mark-requires
 put_mark-requires g c = grind (arith, common_steps)
-
-pub returns-then-not-has_room-clause-puts : goal.returns-then-not-has_room-clause-puts
-returns-then-not-has_room-clause-puts g c = grind (arith, common_steps)
-
-pub returns-in_default-clause-puts : goal.returns-in_default-clause-puts
-returns-in_default-clause-puts g c = grind (arith, common_steps)
-
-pub returns-then-not-has_room-clause-declines : goal.returns-then-not-has_room-clause-declines
-returns-then-not-has_room-clause-declines g c = grind (arith, common_steps)
-
-pub returns-in_default-clause-declines : goal.returns-in_default-clause-declines
-returns-in_default-clause-declines g c = grind (arith, common_steps)

@@ -353,7 +353,7 @@ def in_sentences(page, counted):
 
 
 def in_row(row, homes):
-    """The same for each file in a row of the table of files, and for its sums."""
+    """For each file in a row of the table, and for the sums of the row: as `in_sentences`."""
     right = {home.name: share(home, there) for home, there in homes.items()}
     crate, files = row[1], row[0][:row.end(2) - row.start()]
     for item in re.finditer(r"(, )?`(\w+)` \d+(?:[,/]\d+)*(?: \([^()]* alone\))?", files):
@@ -367,7 +367,7 @@ def in_row(row, homes):
 
 
 def in_table(page, promised):
-    """The same for the table of files."""
+    """For each row of the table of files: as `in_sentences`."""
     rows = {row[1]: row for row in re.finditer(r"^\| `(\w+)` \| (.*) \| ([\d,/]+) \|$", page, re.M)}
     found = {crate: {} for crate in rows}
     for home, there in homes_of(promised).items():
@@ -380,7 +380,7 @@ def in_table(page, promised):
 
 
 def places_in(page, promised):
-    """The same for all that the page counts."""
+    """All that the page counts: as `in_sentences`."""
     return [*in_sentences(page, figures(page, promised)), *in_table(page, promised)]
 
 

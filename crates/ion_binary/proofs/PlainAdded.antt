@@ -200,7 +200,7 @@ member-noted {A} w v before after item result name notes x c some whole kf ka kh
     ∙ scalar-added (held_in w) item v.octets known whole (put e ∙ ap (λ (y : List ℕ). w.open_value.octets ++ y) octets))
     opened declines s
 
--- the same where it has one annotation at most
+-- a scalar in a container, behind one annotation at most
 pub member-plain : {A : Type 0} (w : BinWriter A) (v : OpenValue A) (before after : Counts) (item : PlacedItem) (result : Bool) (name note : ℕ) (x : List ℕ)
     → CanTake w before → 0 < length w.open_value.headers → IsWhole item.head
     → HaveIds w.symbols.texts (field_symbols item.field) → HaveIds w.symbols.texts item.annotations → HaveIds w.symbols.texts (head_symbols item.head)

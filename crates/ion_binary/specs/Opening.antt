@@ -88,7 +88,7 @@ name_octets id = if nat_eq id 0 then [] else var_uint_octets id
 abbrev pub noted_by : ℕ → List ℕ → List ℕ → List ℕ
 noted_by name notes x = name_octets name ++ wrapped (counted_ids notes) x
 
--- the same where there is one annotation at most: its id, 0 where there is none
+-- a value behind its field and in the wrapper of one annotation at most: its id, 0 where there is none
 abbrev pub noted : ℕ → ℕ → List ℕ → List ℕ
 noted name note x = noted_by name (name_octets note) x
 

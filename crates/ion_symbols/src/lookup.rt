@@ -14,44 +14,24 @@ use std::alloc::Allocator;
 /// order.
 const MOST_PASSED: u32 = 32;
 
-/// The number of a text, if it is there, and with how many texts it was compared.
-#[inline(always)]
-pub(crate) fn find<A: Allocator + Copy>(probe: Probe<'_, A>, text: &[u8]) -> (Option<u32>, u32)
-    requires kept { AreKept probe.kept.now }
-    requires none { probe.probes ≡ 0 }
-    ensures finds { result.0 ≡ position (texts_of probe.entry.kept.now) text.now }
-    ensures probes { result.1 ≤ 32 + binary_digits (length (texts_of probe.entry.kept.now)) }
+/// The number of a text, if it is there. It is compared with the first of its bucket at once.
+#[inline]
+pub(crate) fn find<A: Allocator + Copy>(probe: &mut Probe<'_, A>, text: &[u8]) -> Option<u32>
+    requires kept { AreKept probe.old.kept.now }
+    requires none { probe.old.probes ≡ 0 }
+    ensures finds { result ≡ position (texts_of probe.old.kept.now) text.now }
+    ensures probes { probe.new.probes
+        ≤ 32 + binary_digits (length (texts_of probe.old.kept.now)) }
 {
     let hash = hash(text);
     let front = probe.front(bucket(hash));
     if front == 0 || text.len() > SHORT {
-        return find_apart(probe, text, hash);
+        return find_onward(probe, text, hash);
     }
-    let mut probe = probe;
     if probe.is_same(front - 1, text) {
-        return (Some(front - 1), probe.probes());
+        return Some(front - 1);
     }
-    find_apart(probe, text, hash)
-}
-
-// As `find`, by the links or by halving. `find_onward` takes the probe's address; it does so here, so
-// that the probe needs no memory where `find` returns without it.
-#[inline(always)]
-fn find_apart<A: Allocator + Copy>(
-    probe: Probe<'_, A>,
-    text: &[u8],
-    hash: u64,
-) -> (Option<u32>, u32)
-    requires kept { AreKept probe.kept.now }
-    requires hash { hash ≡ hash_of text.now }
-    requires few { probe.probes ≤ 1 }
-    requires some { probe.probes ≤ binary_digits (length (texts_of probe.kept.now)) }
-    ensures finds { result.0 ≡ position (texts_of probe.entry.kept.now) text.now }
-    ensures probes { result.1 ≤ 32 + binary_digits (length (texts_of probe.entry.kept.now)) }
-{
-    let mut probe = probe;
-    let found = find_onward(&mut probe, text, hash);
-    (found, probe.probes())
+    find_onward(probe, text, hash)
 }
 
 // The number of a text, if it is there, by the links or by halving.

@@ -149,7 +149,9 @@ impl<A: Allocator + Copy> OutSymbols<A> {
         ensures known { result.0 ≡ known_id self.now.texts text.now }
         ensures probes { result.1 ≤ 32 + binary_digits (length self.now.texts) }
     {
-        let (found, probes) = find(self.kept.probe(), text);
+        let mut probe = self.kept.probe();
+        let found = find(&mut probe, text);
+        let probes = probe.probes();
         match found {
             Some(number) => (Some(FIRST_ID + number), probes),
             None => (system_id(text), probes),

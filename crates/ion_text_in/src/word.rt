@@ -122,7 +122,8 @@ fn begun_word(limit: u64, bytes: &[u8]) -> Option<usize>
     Some(count)
 }
 
-// What a slice shows of a null with the name of a type.
+// What a slice shows of a null with the name of a type. `scan_word` is a call, whose result has a place
+// in memory: here in line, so that only this path clears it, and not each word.
 #[inline(always)]
 fn typed_null(limit: u64, bytes: &[u8]) -> Scanned<Word>
     ensures shows { Shows (word_token_of (shown_text bytes.now result)) bytes.now result

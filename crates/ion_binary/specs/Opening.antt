@@ -1,5 +1,5 @@
 -- What contracts see of the value at top level that a writer has open.
-use Rattle.std.specs.Prelude.{◌≡◌, ℕ, List, [], ◌++◌, nat_eq, if◌then◌else◌, None, ◌+◌, ◌-◌, ◌*◌, ◌^◌, ◌<◌, ◌≤◌, length, max, Option, Some, Bool, true, false, Result, Ok}
+use Rattle.std.specs.Prelude.{◌≡◌, ℕ, List, [], ◌++◌, nat_eq, if◌then◌else◌, None, ◌+◌, ◌-◌, ◌*◌, ◌^◌, ◌<◌, ◌≤◌, length, max, Option, Some}
 use Rattle.std.specs.List.{AllByRecursion}
 use Rattle.ion_meter.specs.Counts.{Counts}
 use Rattle.ion_meter.specs.Limits.{AreChecked}
@@ -15,7 +15,7 @@ use Rattle.ion_value.specs.Value.{Head, Item, PlacedItem}
 use Rattle.ion_binary.specs.declared.scalar.Octets.{Octets}
 use Rattle.ion_binary.specs.declared.scalar.Spelled.{Spelled}
 use Rattle.ion_binary.specs.Canonical.{wrapped}
-use Rattle.ion_binary.specs.Held.{counted_ids, size_of, whole_at}
+use Rattle.ion_binary.specs.Held.{counted_ids, size_of}
 use Rattle.ion_binary.specs.ItemOctets.{opening}
 use Rattle.ion_binary.specs.Counting.{ArePlaced, AreReached}
 
@@ -68,13 +68,6 @@ pub record Stepped {A : Type 0} (limits : Limits) (old new : OpenValue A) (befor
   pub memory : MemoryCauses fault before after
   pub alone : (f : Fault) → fault ≡ Some f → f ≡ Memory
   pub charges : Charges before after (open_cost old) (open_cost new) (open_most limits)
-
--- a scalar of these octets is put behind what comes first of its item, unless the value would be too long
-pub record PutsScalar {A : Type 0} (limits : Limits) (place : ℕ) (scalar : List ℕ) (old new : OpenValue A) (result : Result Bool Fault) : Type 0 where
-  pub octets : result ≡ Ok true → new.octets ≡ whole_at place old.octets scalar
-  pub headers : new.headers ≡ old.headers
-  pub is_open : result ≡ Ok true → IsOpen limits new
-  pub over : result ≡ Ok false → limits.value < size_of (whole_at place old.octets scalar) old.headers
 
 -- both parts
 abbrev pub both_octets : Octets → List ℕ

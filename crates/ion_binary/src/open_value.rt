@@ -1,19 +1,17 @@
 //! The value at top level that is being written.
-ghost use Rattle.std.specs.Prelude.{◌≡◌, ◌+◌, ◌-◌, ◌*◌, ◌^◌, ◌<◌, ◌≤◌, ℕ, List, true, false, [], ◌∷◌, ◌++◌, if◌then◌else◌, length, drop, take, Ok, OnOk, OnErr, IfErr, None};
+ghost use Rattle.std.specs.Prelude.{◌≡◌, ◌+◌, ◌-◌, ◌*◌, ◌^◌, ◌<◌, ◌≤◌, ℕ, List, true, false, [], ◌∷◌, ◌++◌, length, drop, take, Ok, OnOk, OnErr, IfErr, None};
 ghost use Rattle.ion_meter.specs.Counts.{Grows, IsRefused, Shrinks};
 ghost use Rattle.ion_meter.specs.declared.limits.Limits.{Limits};
 ghost use Rattle.ion_value.specs.Items.{raw_head};
 ghost use Rattle.ion_value.specs.Shares.{fault_of};
 ghost use Rattle.ion_value.specs.Value.{UserSymbol};
 ghost use Rattle.ion_binary.specs.Counting.{IsCounted, IsCountedTo, AreReached, content_around, counted_length, cut, sizes_from};
-ghost use Rattle.ion_value.specs.Int.{IsInt};
-ghost use Rattle.ion_value.specs.Number.{uint_octets};
-ghost use Rattle.ion_binary.specs.Canonical.{headed, header};
+ghost use Rattle.ion_binary.specs.Canonical.{header};
 ghost use Rattle.ion_binary.specs.Grammar.{type_code};
 ghost use Rattle.ion_binary.specs.Held.{begun_at, begun_headers, closed_in, headers_around, innermost_in, moved_headers, moved_octets, size_of, whole_at, wrapper_headers, header_at};
 ghost use Rattle.ion_binary.specs.ItemOctets.{head_name, user_head};
 ghost use Rattle.ion_meter.specs.Limits.{AreChecked};
-ghost use Rattle.ion_binary.specs.Opening.{CanStep, IsOpen, IsOpenTo, IsWithin, MayFollow, PutsScalar, Raises, Stepped, both_octets, name_octets, open_cost, spelled_octets, wrapper_octets};
+ghost use Rattle.ion_binary.specs.Opening.{CanStep, IsOpen, IsOpenTo, IsWithin, MayFollow, Raises, Stepped, both_octets, name_octets, open_cost, wrapper_octets};
 
 mod ended;
 mod plain;
@@ -22,13 +20,12 @@ use crate::front::Front;
 use crate::header::header;
 use crate::headers::{HeaderPlace, Headers};
 use crate::opening::{LONGEST, opening};
-use crate::scalar::{Octets, Spelled, spell, spell_int, with_lent};
+use crate::scalar::{Octets, spell};
 use arrayvec::ArrayVec;
 use ion_meter::buf::Buf;
 use ion_meter::fault::Fault;
 use ion_meter::limits::Limits;
 use ion_meter::meter::Meter;
-use ion_value::int::Int;
 use ion_value::ion_type::Kind;
 use ion_value::item::Head;
 use ion_value::var::var_uint_write;
@@ -303,10 +300,7 @@ impl<A: Allocator + Copy> OpenValue<A> {
                 Err(fault) => Err(fault),
             },
             Head::Marker => Ok(true),
-            Head::Int(int) => self.int(meter, limits, front.ids, int),
-            Head::Symbol(_) => self.number(meter, limits, front.ids, 7, u64::from(front.name)),
-            Head::String(text) => self.text(meter, limits, front.ids, text),
-            scalar => self.spelled(meter, limits, front.ids, &spell(scalar, front.name)),
+            scalar => self.whole(meter, limits, front.ids, &spell(scalar, front.name).octets()),
         }
     }
 
@@ -456,114 +450,6 @@ impl<A: Allocator + Copy> OpenValue<A> {
         let _last = self.headers.pop(meter);
         self.octets.clear(meter);
         self.counts = [0; 5];
-    }
-
-    // Puts an int: one that 64 bits hold without an `ArrayVec` of its octets, which would be moved.
-    fn int(
-        &mut self,
-        meter: &mut Meter<A>,
-        limits: Limits,
-        place: usize,
-        int: Int,
-    ) -> Result<bool, Fault>
-        requires can_step { CanStep limits self.old meter.old }
-        requires open { IsOpenTo self.old place }
-        requires range { IsInt int }
-        ensures puts { PutsScalar limits place
-            (headed (if int.negative then 3 else 2) (uint_octets int.magnitude))
-            self.old self.new result }
-        ensures stepped { Stepped limits self.old self.new meter.old meter.new (fault_of result) }
-    {
-        let code = if int.negative { 3 } else { 2 };
-        match u64::try_from(int.magnitude) {
-            Ok(n) => self.number(meter, limits, place, code, n),
-            Err(_) => self.spelled(meter, limits, place, &spell_int(int)),
-        }
-    }
-
-    // Puts a scalar whose body is a number of 64 bits.
-    fn number(
-        &mut self,
-        meter: &mut Meter<A>,
-        limits: Limits,
-        place: usize,
-        code: u8,
-        n: u64,
-    ) -> Result<bool, Fault>
-        requires can_step { CanStep limits self.old meter.old }
-        requires open { IsOpenTo self.old place }
-        requires code { code < 16 }
-        ensures puts { PutsScalar limits place (headed code (uint_octets n))
-            self.old self.new result }
-        ensures stepped { Stepped limits self.old self.new meter.old meter.new (fault_of result) }
-    {
-        let octets = n.to_be_bytes();
-        let zeros = n.leading_zeros() as usize / 8;
-        self.short(meter, limits, place, code, &octets[zeros..])
-    }
-
-    // Puts a string.
-    fn text(
-        &mut self,
-        meter: &mut Meter<A>,
-        limits: Limits,
-        place: usize,
-        text: &[u8],
-    ) -> Result<bool, Fault>
-        requires can_step { CanStep limits self.old meter.old }
-        requires open { IsOpenTo self.old place }
-        ensures puts { PutsScalar limits place (headed 8 text.now) self.old self.new result }
-        ensures stepped { Stepped limits self.old self.new meter.old meter.new (fault_of result) }
-    {
-        if text.len() < 14 {
-            return self.short(meter, limits, place, 8, text);
-        }
-        self.spelled(meter, limits, place, &with_lent(8, text))
-    }
-
-    // Puts a scalar whose body has fewer than fourteen octets: its header is one.
-    fn short(
-        &mut self,
-        meter: &mut Meter<A>,
-        limits: Limits,
-        place: usize,
-        code: u8,
-        body: &[u8],
-    ) -> Result<bool, Fault>
-        requires can_step { CanStep limits self.old meter.old }
-        requires open { IsOpenTo self.old place }
-        requires code { code < 16 }
-        requires short { length body.now < 14 }
-        ensures puts { PutsScalar limits place (headed code body.now) self.old self.new result }
-        ensures stepped { Stepped limits self.old self.new meter.old meter.new (fault_of result) }
-    {
-        let header = [16 * code + body.len() as u8];
-        let octets = Octets {
-            front: &header,
-            rest: body,
-        };
-        self.whole(meter, limits, place, &octets)
-    }
-
-    // Puts a scalar that is spelled.
-    fn spelled(
-        &mut self,
-        meter: &mut Meter<A>,
-        limits: Limits,
-        place: usize,
-        scalar: &Spelled<'_>,
-    ) -> Result<bool, Fault>
-        requires can_step { CanStep limits self.old meter.old }
-        requires open { IsOpenTo self.old place }
-        ensures puts { PutsScalar limits place (spelled_octets scalar.now)
-            self.old self.new result }
-        ensures stepped { Stepped limits self.old self.new meter.old meter.new (fault_of result) }
-    {
-        let octets = Octets {
-            front: scalar.front.as_slice(),
-            rest: scalar.lent,
-        };
-        self.whole(meter, limits, place, &octets)
     }
 
     // Puts the length of annotations before their ids, where there are any, which begin at a place.

@@ -1,14 +1,12 @@
 //! Plain scalars with a text that is new, added at once to a value that is open.
-ghost use Rattle.std.specs.Prelude.{◌≡◌, ◌<◌, ℕ, true, None, length, map, option_map, IfSome};
-ghost use Rattle.ion_symbols.specs.Output.{known_id};
+ghost use Rattle.std.specs.Prelude.{◌≡◌, ◌<◌, ℕ, true, None, option_map, IfSome};
 ghost use Rattle.ion_value.specs.Items.{raw_head};
 ghost use Rattle.ion_value.specs.Number.{uint_octets};
-ghost use Rattle.ion_value.specs.PlainItems.{listed, placed_text};
+ghost use Rattle.ion_value.specs.PlainItems.{placed_text};
 ghost use Rattle.ion_value.specs.Value.{UserSymbol, user_symbol_at};
 ghost use Rattle.ion_value.specs.Writable.{field_symbols};
-ghost use Rattle.ion_binary.specs.Canonical.{annotation_octets, field_octets, headed, id_in};
+ghost use Rattle.ion_binary.specs.Canonical.{field_octets, headed, id_in};
 ghost use Rattle.ion_binary.specs.Fresh.{AreFresh, CanPutFresh, MayBeFresh};
-ghost use Rattle.ion_binary.specs.Held.{counted_ids};
 ghost use Rattle.ion_binary.specs.ItemOctets.{head_name, head_octets, user_head};
 ghost use Rattle.ion_binary.specs.Opening.{MayCome, both_octets, name_octets};
 ghost use Rattle.ion_binary.specs.Plain.{AddsPlain, HaveIds, IsWhole, as_item};
@@ -100,10 +98,7 @@ impl<A: Allocator + Copy> BinWriter<A> {
             (as_item item.now) result }
     {
         let spelled = spell(item.head, fresh.symbol);
-        let scalar = Octets {
-            front: spelled.front.as_slice(),
-            rest: spelled.lent,
-        };
+        let scalar = spelled.octets();
         let notes = id_octets(note);
         let Some(front) = noted_scalar(&self.limits, fresh.name, notes.as_slice(), &scalar) else {
             return false;

@@ -2,7 +2,6 @@
 ghost use Rattle.std.specs.Prelude.{◌≡◌, ◌<◌, ◌∷◌, [], length, true, false, map, option_map, IfSome};
 ghost use Rattle.ion_value.specs.Items.{raw_head, symbol_at};
 ghost use Rattle.ion_value.specs.PlainItems.{listed, placed_text};
-ghost use Rattle.ion_value.specs.Standing.{HeadInRange};
 ghost use Rattle.ion_value.specs.Writable.{field_symbols};
 ghost use Rattle.ion_value.specs.Number.{uint_octets, var_int_octets};
 ghost use Rattle.ion_value.specs.Value.{begin, decimal, end, int, string, symbol, user_symbol_at, whole};
@@ -190,10 +189,7 @@ impl<A: Allocator + Copy> BinWriter<A> {
             return self.add_fresh(meter, *item);
         };
         let spelled = spell(item.head, name);
-        let octets = Octets {
-            front: spelled.front.as_slice(),
-            rest: spelled.lent,
-        };
+        let octets = spelled.octets();
         self.add_scalar(meter, item, &octets)
     }
 
@@ -213,20 +209,16 @@ impl<A: Allocator + Copy> BinWriter<A> {
         }
     }
 
-    // Adds an int that 64 bits do not hold.
+    // Adds an int that 64 bits do not hold. `add_spelled` would have the item stored for each int.
     #[inline(always)]
     fn add_wide(&mut self, meter: &mut Meter<A>, item: &SingleItem<'_, '_>, number: Int) -> bool
         requires can_take { CanTake self.old meter.old }
         requires comes { MayCome self.old.limits self.old.open_value (as_item item.now) }
         requires head { raw_head item.now.head ≡ whole (int number) }
-        ensures { AddsPlain self.old self.new meter.old meter.new
-            (as_item item.now) result }
+        ensures { AddsPlain self.old self.new meter.old meter.new (as_item item.now) result }
     {
         let spelled = spell_int(number);
-        let octets = Octets {
-            front: spelled.front.as_slice(),
-            rest: spelled.lent,
-        };
+        let octets = spelled.octets();
         self.add_scalar(meter, item, &octets)
     }
 

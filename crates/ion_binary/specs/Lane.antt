@@ -23,9 +23,9 @@ use Rattle.ion_binary.specs.declared.shown.Shown.{Shown}
 use Rattle.ion_binary.specs.Descriptor.{Region}
 use Rattle.ion_meter.specs.declared.limits.Limits.{Limits}
 use Rattle.ion_binary.specs.declared.reader.BinReader.{BinReader}
-use Rattle.ion_binary.specs.declared.reader.lane.Around.{Around}
-use Rattle.ion_binary.specs.declared.reader.lane.Level.{Level}
-use Rattle.ion_binary.specs.declared.reader.lane.Level.TheVariants as level
+use Rattle.ion_binary.specs.declared.reader.front.Around.{Around}
+use Rattle.ion_binary.specs.declared.reader.front.Level.{Level}
+use Rattle.ion_binary.specs.declared.reader.front.Level.TheVariants as level
 use Rattle.ion_binary.specs.Reader.{IsInnermost}
 use Rattle.ion_binary.specs.Steps.{IsSized, held_by, left_to, opened_in, share_of, to_come_by}
 

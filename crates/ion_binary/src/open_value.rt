@@ -11,7 +11,7 @@ ghost use Rattle.ion_binary.specs.Grammar.{type_code};
 ghost use Rattle.ion_binary.specs.Held.{begun_at, begun_headers, closed_in, headers_around, innermost_in, moved_headers, moved_octets, size_of, whole_at, wrapper_headers, header_at};
 ghost use Rattle.ion_binary.specs.ItemOctets.{head_name, user_head};
 ghost use Rattle.ion_meter.specs.Limits.{AreChecked};
-ghost use Rattle.ion_binary.specs.Opening.{CanStep, IsOpen, IsOpenTo, IsWithin, MayFollow, Raises, Stepped, both_octets, name_octets, open_cost, wrapper_octets};
+ghost use Rattle.ion_binary.specs.Opening.{CanStep, IsOpen, IsOpenTo, IsWithin, MayFollow, Raises, Stepped, both_octets, name_octets, open_cost};
 
 mod ended;
 mod plain;
@@ -19,9 +19,8 @@ mod plain;
 use crate::front::Front;
 use crate::header::header;
 use crate::headers::{HeaderPlace, Headers};
-use crate::opening::{LONGEST, opening};
+use crate::opening::{WRAPPER, wrapper};
 use crate::scalar::{Octets, spell};
-use arrayvec::ArrayVec;
 use ion_meter::buf::Buf;
 use ion_meter::fault::Fault;
 use ion_meter::limits::Limits;
@@ -36,9 +35,6 @@ const THRESHOLDS: [u64; 5] = [14, 128, 16_384, 2_097_152, 268_435_456];
 
 /// From so many octets on a container's header waits where it ends, and goes in with others.
 pub(crate) const LONG: usize = 4096;
-
-/// The type code of annotations.
-pub(crate) const WRAPPER: u8 = 14;
 
 /// The value at top level that is open: its octets without the headers of its open containers, and
 /// these headers.
@@ -300,7 +296,12 @@ impl<A: Allocator + Copy> OpenValue<A> {
                 Err(fault) => Err(fault),
             },
             Head::Marker => Ok(true),
-            scalar => self.whole(meter, limits, front.ids, &spell(scalar, front.name).octets()),
+            scalar => self.whole(
+                meter,
+                limits,
+                front.ids,
+                &spell(scalar, front.name).octets(),
+            ),
         }
     }
 
@@ -582,20 +583,6 @@ fn extend_some<A: Allocator + Copy>(
         return Ok(());
     }
     octets.extend(meter, more)
-}
-
-/// What stands before the ids of annotations of so many octets and a value of so many: the header of
-/// all of it, and the length of the ids. Where there are none, nothing does.
-pub(crate) fn wrapper(ids: u64, value: u64) -> ArrayVec<u8, LONGEST>
-    requires ids { ids ≤ 2 ^ 32 }
-    requires value { value ≤ 2 ^ 32 }
-    ensures octets { result.items ≡ wrapper_octets ids value }
-    ensures few { length result.items ≤ 20 }
-{
-    if ids == 0 {
-        return ArrayVec::new();
-    }
-    opening(WRAPPER, var_uint_write(ids).as_slice(), ids + value)
 }
 
 // The type code of a container.

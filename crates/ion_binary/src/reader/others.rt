@@ -6,8 +6,9 @@ ghost use Rattle.ion_binary.specs.Lane.{CanHand, GoesOn, Handed, HandsOn, IsArou
 ghost use Rattle.ion_binary.specs.Steps.{IsSound, held_by, left_to, opened_in};
 ghost use Rattle.ion_binary.specs.Wrappers.{as_frames};
 
-use super::lane::{Around, around_in, ends_here, noted_front, other_front, shown_field};
-use super::{BinReader, values_behind};
+use super::BinReader;
+use super::front::{Around, around_in, ends_here, noted_front, shown_field};
+use super::lane::values_behind;
 use crate::descriptor::Shape;
 use ion_meter::device::{Input, Output};
 use ion_meter::meter::Meter;
@@ -126,36 +127,5 @@ impl<I: Input, A: Allocator + Copy> BinReader<I, A> {
             writer.old writer.new sink.old sink.new meter.old meter.new values result }
     {
         self.hand_all::<N, W, O, true>(values, meter, names, writer, sink)
-    }
-
-    // Hands the next member on, or value at top level, where it has an annotation or a name that is not known
-    // to be simple, and that is possible.
-    #[inline(always)]
-    pub(super) fn hand_other<N: Names, W: ValueWriter<O, A>, O: Output>(
-        &mut self,
-        around: &mut Around,
-        meter: &mut Meter<A>,
-        names: &N,
-        writer: &mut W,
-        sink: &mut Sink<O, A>,
-    ) -> bool
-        requires can_hand { CanHand W.ValueWriter self.old writer.old sink.old meter.old }
-        requires around { IsAround (as_frames self.old.frames) around.old }
-        requires goes_on { GoesOn (frame_in around.old) self.old.source.place }
-        ensures handed { Handed I.Input W.ValueWriter (named_item (N.text names.now))
-            self.old self.new writer.old writer.new sink.old sink.new
-            meter.old meter.new result }
-        ensures around { result ≡ true → IsAround (as_frames self.new.frames) around.new }
-    {
-        let here = self.source.place();
-        let octets = self.source.buffer();
-        let Some((field, at)) = shown_field(octets, here, *around, names, true) else {
-            return false;
-        };
-        let limits = self.limits;
-        let Some(front) = other_front(octets, here, *around, field, at, limits, names) else {
-            return false;
-        };
-        self.hand_head::<N, W, O, true>(around, front, meter, names, writer, sink)
     }
 }

@@ -1,6 +1,5 @@
 //! Plain scalars with a text that is new, added at once to a value that is open.
-ghost use Rattle.std.specs.Prelude.{◌≡◌, ◌<◌, ℕ, true, None, option_map, IfSome};
-ghost use Rattle.ion_value.specs.Items.{raw_head};
+ghost use Rattle.std.specs.Prelude.{◌≡◌, ◌<◌, ℕ, None, option_map, IfSome};
 ghost use Rattle.ion_value.specs.Number.{uint_octets};
 ghost use Rattle.ion_value.specs.PlainItems.{placed_text};
 ghost use Rattle.ion_value.specs.Value.{UserSymbol, user_symbol_at};
@@ -9,11 +8,11 @@ ghost use Rattle.ion_binary.specs.Canonical.{field_octets, headed, id_in};
 ghost use Rattle.ion_binary.specs.Fresh.{AreFresh, CanPutFresh, MayBeFresh};
 ghost use Rattle.ion_binary.specs.ItemOctets.{head_name, head_octets, user_head};
 ghost use Rattle.ion_binary.specs.Opening.{MayCome, both_octets, name_octets};
-ghost use Rattle.ion_binary.specs.Plain.{AddsPlain, HaveIds, IsWhole, as_item};
+ghost use Rattle.ion_binary.specs.Plain.{AddsPlain, HaveIds, as_item};
 ghost use Rattle.ion_binary.specs.Writer.{CanTake};
 
 use super::BinWriter;
-use super::plain::SingleItem;
+use super::single::{SingleItem, is_scalar};
 use crate::few::{few_number, noted_front};
 use crate::noted::{id_octets, noted_scalar};
 use crate::scalar::{Octets, spell};
@@ -226,12 +225,4 @@ fn small_of(head: Head<'_>, symbol: u32) -> Option<Small>
         }),
         _ => None,
     }
-}
-
-/// Whether a head is a scalar.
-#[inline(always)]
-pub(super) fn is_scalar(head: Head<'_>) -> bool
-    ensures { result ≡ true → IsWhole (raw_head head.entry) }
-{
-    !matches!(head, Head::Begin(_) | Head::End | Head::Marker)
 }

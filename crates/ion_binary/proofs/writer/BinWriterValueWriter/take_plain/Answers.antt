@@ -8,7 +8,7 @@ use Rattle.ion_binary.specs.Opening.{MayCome}
 use Rattle.ion_binary.specs.Plain.{AddsPlain, EndsPlain, as_item, as_pair}
 use Rattle.ion_binary.specs.Writer.{ComesAt}
 use Rattle.ion_binary.specs.Writing.{written_behind}
-use Rattle.ion_binary.specs.declared.writer.plain.SingleItem.{SingleItem}
+use Rattle.ion_binary.specs.declared.writer.single.SingleItem.{SingleItem}
 use Rattle.ion_binary.proofs.PlainAdded.{ended-single, ends-follows, ends-puts, plain-adds, plain-comes, plain-follows}
 use Rattle.ion_binary.proofs.WriterFollows.{may-come, stands-behind}
 use Rattle.ion_binary.proofs.writer.BinWriterValueWriter.take_plain.Goals as goal

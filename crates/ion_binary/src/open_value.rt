@@ -1,5 +1,5 @@
 //! The value at top level that is being written.
-ghost use Rattle.std.specs.Prelude.{◌≡◌, ◌+◌, ◌-◌, ◌*◌, ◌^◌, ◌<◌, ◌≤◌, ℕ, List, true, false, [], ◌∷◌, ◌++◌, length, drop, take, Ok, OnOk, OnErr, IfErr, None};
+ghost use Rattle.std.specs.Prelude.{◌≡◌, ◌+◌, ◌-◌, ◌*◌, ◌^◌, ◌<◌, ◌≤◌, ℕ, List, true, false, [], ◌++◌, length, drop, take, Ok, OnOk, OnErr, IfErr, None};
 ghost use Rattle.ion_meter.specs.Counts.{Grows, IsRefused, Shrinks};
 ghost use Rattle.ion_meter.specs.declared.limits.Limits.{Limits};
 ghost use Rattle.ion_value.specs.Items.{raw_head};
@@ -8,10 +8,10 @@ ghost use Rattle.ion_value.specs.Value.{UserSymbol};
 ghost use Rattle.ion_binary.specs.Counting.{IsCounted, IsCountedTo, AreReached, content_around, counted_length, cut, sizes_from};
 ghost use Rattle.ion_binary.specs.Canonical.{header};
 ghost use Rattle.ion_binary.specs.Grammar.{type_code};
-ghost use Rattle.ion_binary.specs.Held.{begun_at, begun_headers, closed_in, headers_around, innermost_in, moved_headers, moved_octets, size_of, whole_at, wrapper_headers, header_at};
+ghost use Rattle.ion_binary.specs.Held.{begun_at, begun_headers, closed_in, headers_around, innermost_in, moved_headers, moved_octets, size_of, whole_at, wrapper_headers};
 ghost use Rattle.ion_binary.specs.ItemOctets.{head_name, user_head};
 ghost use Rattle.ion_meter.specs.Limits.{AreChecked};
-ghost use Rattle.ion_binary.specs.Opening.{CanStep, IsOpen, IsOpenTo, IsWithin, MayFollow, Raises, Stepped, both_octets, name_octets, open_cost};
+ghost use Rattle.ion_binary.specs.Opening.{AddsOctets, Begins, CanAdd, CanStep, IsOpen, IsOpenTo, IsWithin, MayFollow, Raises, Stepped, both_octets, name_octets, open_cost};
 
 mod ended;
 mod plain;
@@ -331,14 +331,9 @@ impl<A: Allocator + Copy> OpenValue<A> {
         limits: Limits,
         octets: &Octets<'_>,
     ) -> bool
-        requires can_step { CanStep limits self.old meter.old }
-        requires open { IsOpen limits self.old }
-        ensures octets { result ≡ true
-            → self.new.octets ≡ self.old.octets ++ both_octets octets.now }
-        ensures headers { self.new.headers ≡ self.old.headers }
-        ensures open { result ≡ true → IsOpen limits self.new }
-        ensures declines { result ≡ false → (self.new ≡ self.old) × (meter.new ≡ meter.old) }
-        ensures stepped { Stepped limits self.old self.new meter.old meter.new None }
+        requires { CanAdd limits self.old meter.old }
+        ensures { AddsOctets limits (both_octets octets.now)
+            self.old self.new meter.old meter.new result }
     {
         if !self.surely_fits(limits, octets.front.len() + octets.rest.len(), 0) {
             return false;
@@ -355,16 +350,10 @@ impl<A: Allocator + Copy> OpenValue<A> {
         name: u32,
         kind: Kind,
     ) -> bool
-        requires can_step { CanStep limits.now self.old meter.old }
-        requires open { IsOpen limits.now self.old }
+        requires can_add { CanAdd limits.now self.old meter.old }
         requires deep { length self.old.headers + 1 ≤ 2 * limits.now.depth }
-        ensures octets { result ≡ true → self.new.octets ≡ self.old.octets ++ name_octets name }
-        ensures headers { result ≡ true → self.new.headers
-            ≡ header_at (length self.old.octets + length (name_octets name)) (type_code kind)
-            ∷ self.old.headers }
-        ensures open { result ≡ true → IsOpen limits.now self.new }
-        ensures declines { result ≡ false → (self.new ≡ self.old) × (meter.new ≡ meter.old) }
-        ensures stepped { Stepped limits.now self.old self.new meter.old meter.new None }
+        ensures { Begins limits.now (name_octets name) kind
+            self.old self.new meter.old meter.new result }
     {
         if name == 0 {
             return self.begin_if_room(meter, *limits, &[], kind);
@@ -386,16 +375,9 @@ impl<A: Allocator + Copy> OpenValue<A> {
         front: &[u8],
         kind: Kind,
     ) -> bool
-        requires can_step { CanStep limits self.old meter.old }
-        requires open { IsOpen limits self.old }
+        requires can_add { CanAdd limits self.old meter.old }
         requires deep { length self.old.headers + 1 ≤ 2 * limits.depth }
-        ensures octets { result ≡ true → self.new.octets ≡ self.old.octets ++ front.now }
-        ensures headers { result ≡ true → self.new.headers
-            ≡ header_at (length self.old.octets + length front.now) (type_code kind)
-            ∷ self.old.headers }
-        ensures open { result ≡ true → IsOpen limits self.new }
-        ensures declines { result ≡ false → (self.new ≡ self.old) × (meter.new ≡ meter.old) }
-        ensures stepped { Stepped limits self.old self.new meter.old meter.new None }
+        ensures { Begins limits front.now kind self.old self.new meter.old meter.new result }
     {
         if !self.surely_fits(limits, front.len(), 1) {
             return false;

@@ -3,10 +3,9 @@ ghost use Rattle.std.specs.Prelude.{◌≡◌, ◌+◌, ◌*◌, ◌-◌, ◌^�
 ghost use Rattle.ion_value.specs.Items.{named_at, named_item, raw_head};
 ghost use Rattle.ion_value.specs.PlainItems.{IsKnownHead, IsTextOf};
 ghost use Rattle.ion_binary.specs.Reader.{kinds_of};
-ghost use Rattle.ion_binary.specs.Lane.{CanHand, EndsHere, GoesOn, Handed, HandsOn, IsAround, FillsTo, ShowsFront, frame_in, inner_region};
-ghost use Rattle.ion_value.specs.Feeding.{CanTake};
+ghost use Rattle.ion_binary.specs.Lane.{CanHand, CanHandFront, CanHandMember, CanHandOn, CanHandShape, HandsAt, EndsHere, HandsOn, IsAround, FillsTo, frame_in, inner_region};
 ghost use Rattle.ion_value.specs.Outcome.{one_if_closed};
-ghost use Rattle.ion_binary.specs.Steps.{IsSized, IsSound, held_by, left_to, opened_in};
+ghost use Rattle.ion_binary.specs.Steps.{IsSized, opened_in};
 ghost use Rattle.ion_binary.specs.Positions.{placed_scalar};
 ghost use Rattle.ion_binary.specs.Reading.{region_of, top_of};
 ghost use Rattle.ion_binary.specs.Descriptor.{body, shape_of};
@@ -187,14 +186,7 @@ impl<I: Input, A: Allocator + Copy> BinReader<I, A> {
         writer: &mut W,
         sink: &mut Sink<O, A>,
     ) -> u64
-        requires room { meter.old.held ≤ 2 ^ 61 + (held_by self.old + W.own writer.old) }
-        requires held { held_by self.old + W.own writer.old ≤ meter.old.held }
-        requires countable { meter.old.refused < 2 ^ 64 - 1 }
-        requires sound { IsSound self.old }
-        requires fresh { self.old.failed ≡ None }
-        requires writer { CanTake W.ValueWriter self.old.limits.depth (opened_in self.old)
-            writer.old sink.old }
-        requires few { values + left_to self.old < 2 ^ 64 - 1 }
+        requires { CanHandOn W.ValueWriter self.old writer.old sink.old meter.old values }
         ensures { HandsOn I.Input W.ValueWriter (named_item (N.text names.now)) self.old self.new
             writer.old writer.new sink.old sink.new meter.old meter.new values result }
     {
@@ -220,10 +212,8 @@ impl<I: Input, A: Allocator + Copy> BinReader<I, A> {
     ) -> bool
         requires can_hand { CanHand W.ValueWriter self.old writer.old sink.old meter.old }
         requires around { IsAround (as_frames self.old.frames) around.old }
-        ensures handed { Handed I.Input W.ValueWriter (named_item (N.text names.now))
-            self.old self.new writer.old writer.new sink.old sink.new
-            meter.old meter.new result }
-        ensures around { result ≡ true → IsAround (as_frames self.new.frames) around.new }
+        ensures { HandsAt I.Input W.ValueWriter (named_item (N.text names.now)) self.old self.new
+            writer.old writer.new sink.old sink.new meter.old meter.new around.new result }
     {
         if ends_here(*around, self.source.place()) {
             if OTHERS {
@@ -250,10 +240,8 @@ impl<I: Input, A: Allocator + Copy> BinReader<I, A> {
         requires can_hand { CanHand W.ValueWriter self.old writer.old sink.old meter.old }
         requires around { IsAround (as_frames self.old.frames) around.old }
         requires ends { EndsHere (frame_in around.old) self.old.source.place }
-        ensures handed { Handed I.Input W.ValueWriter (named_item (N.text _names.now))
-            self.old self.new writer.old writer.new sink.old sink.new
-            meter.old meter.new result }
-        ensures around { result ≡ true → IsAround (as_frames self.new.frames) around.new }
+        ensures { HandsAt I.Input W.ValueWriter (named_item (N.text _names.now)) self.old
+            self.new writer.old writer.new sink.old sink.new meter.old meter.new around.new result }
     {
         let item = PlainItem {
             field: None,
@@ -303,13 +291,9 @@ impl<I: Input, A: Allocator + Copy> BinReader<I, A> {
         writer: &mut W,
         sink: &mut Sink<O, A>,
     ) -> bool
-        requires can_hand { CanHand W.ValueWriter self.old writer.old sink.old meter.old }
-        requires around { IsAround (as_frames self.old.frames) around.old }
-        requires goes_on { GoesOn (frame_in around.old) self.old.source.place }
-        ensures handed { Handed I.Input W.ValueWriter (named_item (N.text names.now))
-            self.old self.new writer.old writer.new sink.old sink.new
-            meter.old meter.new result }
-        ensures around { result ≡ true → IsAround (as_frames self.new.frames) around.new }
+        requires { CanHandMember W.ValueWriter self.old around.old writer.old sink.old meter.old }
+        ensures { HandsAt I.Input W.ValueWriter (named_item (N.text names.now)) self.old self.new
+            writer.old writer.new sink.old sink.new meter.old meter.new around.new result }
     {
         let here = self.source.place();
         let octets = self.source.buffer();
@@ -331,13 +315,9 @@ impl<I: Input, A: Allocator + Copy> BinReader<I, A> {
         writer: &mut W,
         sink: &mut Sink<O, A>,
     ) -> bool
-        requires can_hand { CanHand W.ValueWriter self.old writer.old sink.old meter.old }
-        requires around { IsAround (as_frames self.old.frames) around.old }
-        requires goes_on { GoesOn (frame_in around.old) self.old.source.place }
-        ensures handed { Handed I.Input W.ValueWriter (named_item (N.text names.now))
-            self.old self.new writer.old writer.new sink.old sink.new
-            meter.old meter.new result }
-        ensures around { result ≡ true → IsAround (as_frames self.new.frames) around.new }
+        requires { CanHandMember W.ValueWriter self.old around.old writer.old sink.old meter.old }
+        ensures { HandsAt I.Input W.ValueWriter (named_item (N.text names.now)) self.old self.new
+            writer.old writer.new sink.old sink.new meter.old meter.new around.new result }
     {
         let here = self.source.place();
         let octets = self.source.buffer();
@@ -364,16 +344,10 @@ impl<I: Input, A: Allocator + Copy> BinReader<I, A> {
         writer: &mut W,
         sink: &mut Sink<O, A>,
     ) -> bool
-        requires can_hand { CanHand W.ValueWriter self.old writer.old sink.old meter.old }
-        requires around { IsAround (as_frames self.old.frames) around.old }
-        requires goes_on { GoesOn (frame_in around.old) self.old.source.place }
-        requires front { ShowsFront (N.text names.now) self.old.limits (lent self.old.source)
-            self.old.source.place (innermost (frame_in around.old))
-            front.field front.annotation front.at front.head front.wrapper }
-        ensures handed { Handed I.Input W.ValueWriter (named_item (N.text names.now))
-            self.old self.new writer.old writer.new sink.old sink.new
-            meter.old meter.new result }
-        ensures around { result ≡ true → IsAround (as_frames self.new.frames) around.new }
+        requires { CanHandFront W.ValueWriter (N.text names.now) self.old around.old front
+            writer.old sink.old meter.old }
+        ensures { HandsAt I.Input W.ValueWriter (named_item (N.text names.now)) self.old self.new
+            writer.old writer.new sink.old sink.new meter.old meter.new around.new result }
     {
         let octets = self.source.buffer();
         if front.head >= octets.len() {
@@ -428,19 +402,10 @@ impl<I: Input, A: Allocator + Copy> BinReader<I, A> {
         writer: &mut W,
         sink: &mut Sink<O, A>,
     ) -> bool
-        requires can_hand { CanHand W.ValueWriter self.old writer.old sink.old meter.old }
-        requires around { IsAround (as_frames self.old.frames) around.old }
-        requires goes_on { GoesOn (frame_in around.old) self.old.source.place }
-        requires front { ShowsFront (N.text names.now) self.old.limits (lent self.old.source)
-            self.old.source.place (innermost (frame_in around.old))
-            front.field front.annotation front.at front.head front.wrapper }
-        requires within { front.head < length (lent self.old.source) }
-        requires shape { body type_code length_code
-            ≡ shape_of (get_or (lent self.old.source) front.head 0) }
-        ensures handed { Handed I.Input W.ValueWriter (named_item (N.text names.now))
-            self.old self.new writer.old writer.new sink.old sink.new
-            meter.old meter.new result }
-        ensures around { result ≡ true → IsAround (as_frames self.new.frames) around.new }
+        requires { CanHandShape W.ValueWriter (N.text names.now) self.old around.old front
+            (body type_code length_code) writer.old sink.old meter.old }
+        ensures { HandsAt I.Input W.ValueWriter (named_item (N.text names.now)) self.old self.new
+            writer.old writer.new sink.old sink.new meter.old meter.new around.new result }
     {
         match type_code {
             2 => {
@@ -534,18 +499,10 @@ impl<I: Input, A: Allocator + Copy> BinReader<I, A> {
         writer: &mut W,
         sink: &mut Sink<O, A>,
     ) -> bool
-        requires can_hand { CanHand W.ValueWriter self.old writer.old sink.old meter.old }
-        requires around { IsAround (as_frames self.old.frames) around.old }
-        requires goes_on { GoesOn (frame_in around.old) self.old.source.place }
-        requires front { ShowsFront (N.text names.now) self.old.limits (lent self.old.source)
-            self.old.source.place (innermost (frame_in around.old))
-            front.field front.annotation front.at front.head front.wrapper }
-        requires within { front.head < length (lent self.old.source) }
-        requires shape { as_shape shape ≡ shape_of (get_or (lent self.old.source) front.head 0) }
-        ensures handed { Handed I.Input W.ValueWriter (named_item (N.text names.now))
-            self.old self.new writer.old writer.new sink.old sink.new
-            meter.old meter.new result }
-        ensures around { result ≡ true → IsAround (as_frames self.new.frames) around.new }
+        requires { CanHandShape W.ValueWriter (N.text names.now) self.old around.old front
+            (as_shape shape) writer.old sink.old meter.old }
+        ensures { HandsAt I.Input W.ValueWriter (named_item (N.text names.now)) self.old self.new
+            writer.old writer.new sink.old sink.new meter.old meter.new around.new result }
     {
         let Some((found, behind)) = self.shown_behind(shape, *around, front) else {
             return false;

@@ -1,10 +1,7 @@
 //! Items that the loop over most leaves, handed to a writer.
-ghost use Rattle.std.specs.Prelude.{◌≡◌, ◌+◌, ◌-◌, ◌^◌, ◌<◌, ◌≤◌, true, false, None};
+ghost use Rattle.std.specs.Prelude.{◌+◌, true, false};
 ghost use Rattle.ion_value.specs.Items.{named_item};
-ghost use Rattle.ion_value.specs.Feeding.{CanTake};
-ghost use Rattle.ion_binary.specs.Lane.{CanHand, GoesOn, Handed, HandsOn, IsAround, frame_in};
-ghost use Rattle.ion_binary.specs.Steps.{IsSound, held_by, left_to, opened_in};
-ghost use Rattle.ion_binary.specs.Wrappers.{as_frames};
+ghost use Rattle.ion_binary.specs.Lane.{CanHand, CanHandMember, CanHandOn, HandsAt, Handed, HandsOn};
 
 use super::BinReader;
 use super::front::{Around, around_in, ends_here, noted_front, shown_field};
@@ -30,14 +27,7 @@ impl<I: Input, A: Allocator + Copy> BinReader<I, A> {
         writer: &mut W,
         sink: &mut Sink<O, A>,
     ) -> u64
-        requires room { meter.old.held ≤ 2 ^ 61 + (held_by self.old + W.own writer.old) }
-        requires held { held_by self.old + W.own writer.old ≤ meter.old.held }
-        requires countable { meter.old.refused < 2 ^ 64 - 1 }
-        requires sound { IsSound self.old }
-        requires fresh { self.old.failed ≡ None }
-        requires writer { CanTake W.ValueWriter self.old.limits.depth (opened_in self.old)
-            writer.old sink.old }
-        requires few { values + left_to self.old < 2 ^ 64 - 1 }
+        requires { CanHandOn W.ValueWriter self.old writer.old sink.old meter.old values }
         ensures { HandsOn I.Input W.ValueWriter (named_item (N.text names.now)) self.old self.new
             writer.old writer.new sink.old sink.new meter.old meter.new values result }
     {
@@ -80,13 +70,9 @@ impl<I: Input, A: Allocator + Copy> BinReader<I, A> {
         writer: &mut W,
         sink: &mut Sink<O, A>,
     ) -> bool
-        requires can_hand { CanHand W.ValueWriter self.old writer.old sink.old meter.old }
-        requires around { IsAround (as_frames self.old.frames) around.old }
-        requires goes_on { GoesOn (frame_in around.old) self.old.source.place }
-        ensures handed { Handed I.Input W.ValueWriter (named_item (N.text names.now))
-            self.old self.new writer.old writer.new sink.old sink.new
-            meter.old meter.new result }
-        ensures around { result ≡ true → IsAround (as_frames self.new.frames) around.new }
+        requires { CanHandMember W.ValueWriter self.old around.old writer.old sink.old meter.old }
+        ensures { HandsAt I.Input W.ValueWriter (named_item (N.text names.now)) self.old self.new
+            writer.old writer.new sink.old sink.new meter.old meter.new around.new result }
     {
         let here = self.source.place();
         let octets = self.source.buffer();
@@ -115,14 +101,7 @@ impl<I: Input, A: Allocator + Copy> BinReader<I, A> {
         writer: &mut W,
         sink: &mut Sink<O, A>,
     ) -> u64
-        requires room { meter.old.held ≤ 2 ^ 61 + (held_by self.old + W.own writer.old) }
-        requires held { held_by self.old + W.own writer.old ≤ meter.old.held }
-        requires countable { meter.old.refused < 2 ^ 64 - 1 }
-        requires sound { IsSound self.old }
-        requires fresh { self.old.failed ≡ None }
-        requires writer { CanTake W.ValueWriter self.old.limits.depth (opened_in self.old)
-            writer.old sink.old }
-        requires few { values + left_to self.old < 2 ^ 64 - 1 }
+        requires { CanHandOn W.ValueWriter self.old writer.old sink.old meter.old values }
         ensures { HandsOn I.Input W.ValueWriter (named_item (N.text names.now)) self.old self.new
             writer.old writer.new sink.old sink.new meter.old meter.new values result }
     {

@@ -37,8 +37,7 @@ impl<A: Allocator + Copy> BinWriter<A> {
     pub(super) fn add_fresh(&mut self, meter: &mut Meter<A>, item: SingleItem<'_, '_>) -> bool
         requires can_take { CanTake self.old meter.old }
         requires comes { MayCome self.old.limits self.old.open_value (as_item item) }
-        ensures { AddsPlain self.old self.new meter.old meter.new
-            (as_item item.entry) result }
+        ensures { AddsPlain self.old self.new meter.old meter.new (as_item item.entry) result }
     {
         if self.open_value.headers.len() == 0 {
             return false;
@@ -65,8 +64,7 @@ impl<A: Allocator + Copy> BinWriter<A> {
         note: u32,
     ) -> bool
         requires can_put { CanPutFresh self.old meter.old (as_item item.now) fresh note }
-        ensures { AddsPlain self.old self.new meter.old meter.new
-            (as_item item.now) result }
+        ensures { AddsPlain self.old self.new meter.old meter.new (as_item item.now) result }
     {
         let Some(small) = small_of(item.head, fresh.symbol) else {
             return self.put_spelled(meter, item, fresh, note);
@@ -93,8 +91,7 @@ impl<A: Allocator + Copy> BinWriter<A> {
         note: u32,
     ) -> bool
         requires can_put { CanPutFresh self.old meter.old (as_item item.now) fresh note }
-        ensures { AddsPlain self.old self.new meter.old meter.new
-            (as_item item.now) result }
+        ensures { AddsPlain self.old self.new meter.old meter.new (as_item item.now) result }
     {
         let spelled = spell(item.head, fresh.symbol);
         let scalar = spelled.octets();
@@ -122,8 +119,7 @@ impl<A: Allocator + Copy> BinWriter<A> {
         requires can_put { CanPutFresh self.old meter.old (as_item item.now) fresh note }
         requires octets { AreFresh self.old.symbols.texts (as_item item.now) fresh note
             (both_octets octets.now) }
-        ensures { AddsPlain self.old self.new meter.old meter.new
-            (as_item item.now) result }
+        ensures { AddsPlain self.old self.new meter.old meter.new (as_item item.now) result }
     {
         let _item = item;
         let _note = note;

@@ -66,8 +66,7 @@ impl<A: Allocator + Copy> BinWriter<A> {
         requires can_take { CanTake self.old meter.old }
         requires comes { MayCome self.old.limits self.old.open_value (as_item item.now) }
         requires head { raw_head item.now.head ≡ begin kind }
-        ensures { AddsPlain self.old self.new meter.old meter.new
-            (as_item item.now) result }
+        ensures { AddsPlain self.old self.new meter.old meter.new (as_item item.now) result }
     {
         let begins = self.open_value.headers.len() == 0;
         if begins && self.symbols.cost() > self.limits.symbols / 2 {
@@ -89,8 +88,7 @@ impl<A: Allocator + Copy> BinWriter<A> {
         requires can_take { CanTake self.old meter.old }
         requires comes { MayCome self.old.limits self.old.open_value (as_item item.now) }
         requires head { raw_head item.now.head ≡ end }
-        ensures { AddsPlain self.old self.new meter.old meter.new
-            (as_item item.now) result }
+        ensures { AddsPlain self.old self.new meter.old meter.new (as_item item.now) result }
     {
         let _item = item;
         self.open_value.end_if_room(meter, self.limits)
@@ -142,8 +140,7 @@ impl<A: Allocator + Copy> BinWriter<A> {
         requires can_take { CanTake self.old meter.old }
         requires comes { MayCome self.old.limits self.old.open_value (as_item item.now) }
         requires whole { IsWhole (raw_head item.now.head) }
-        ensures { AddsPlain self.old self.new meter.old meter.new
-            (as_item item.now) result }
+        ensures { AddsPlain self.old self.new meter.old meter.new (as_item item.now) result }
     {
         let Some(name) = self.name_of(item.head) else {
             return self.add_fresh(meter, *item);
@@ -159,8 +156,7 @@ impl<A: Allocator + Copy> BinWriter<A> {
         requires can_take { CanTake self.old meter.old }
         requires comes { MayCome self.old.limits self.old.open_value (as_item item.now) }
         requires head { raw_head item.now.head ≡ whole (int number) }
-        ensures { AddsPlain self.old self.new meter.old meter.new
-            (as_item item.now) result }
+        ensures { AddsPlain self.old self.new meter.old meter.new (as_item item.now) result }
     {
         let code = if number.negative { 3 } else { 2 };
         match u64::try_from(number.magnitude) {
@@ -188,8 +184,7 @@ impl<A: Allocator + Copy> BinWriter<A> {
         requires can_take { CanTake self.old meter.old }
         requires comes { MayCome self.old.limits self.old.open_value (as_item item.now) }
         requires head { raw_head item.now.head ≡ whole (symbol (symbol_at at)) }
-        ensures { AddsPlain self.old self.new meter.old meter.new
-            (as_item item.now) result }
+        ensures { AddsPlain self.old self.new meter.old meter.new (as_item item.now) result }
     {
         let Sym::Text(text) = at.sym else {
             return false;
@@ -206,8 +201,7 @@ impl<A: Allocator + Copy> BinWriter<A> {
         requires can_take { CanTake self.old meter.old }
         requires comes { MayCome self.old.limits self.old.open_value (as_item item.now) }
         requires head { raw_head item.now.head ≡ whole (string text.now) }
-        ensures { AddsPlain self.old self.new meter.old meter.new
-            (as_item item.now) result }
+        ensures { AddsPlain self.old self.new meter.old meter.new (as_item item.now) result }
     {
         let Some(ids) = self.ids_of(item) else {
             return self.add_fresh(meter, *item);
@@ -228,8 +222,7 @@ impl<A: Allocator + Copy> BinWriter<A> {
         requires can_take { CanTake self.old meter.old }
         requires comes { MayCome self.old.limits self.old.open_value (as_item item.now) }
         requires head { raw_head item.now.head ≡ whole (decimal number) }
-        ensures { AddsPlain self.old self.new meter.old meter.new
-            (as_item item.now) result }
+        ensures { AddsPlain self.old self.new meter.old meter.new (as_item item.now) result }
     {
         let magnitude = number.coefficient;
         if magnitude == 0 || magnitude >= 1 << 63 {
@@ -269,8 +262,7 @@ impl<A: Allocator + Copy> BinWriter<A> {
         requires code { code < 16 }
         requires octets { headed code (uint_octets n)
             ≡ head_octets (id_in self.old.symbols.texts) (user_head item.now.head) }
-        ensures { AddsPlain self.old self.new meter.old meter.new
-            (as_item item.now) result }
+        ensures { AddsPlain self.old self.new meter.old meter.new (as_item item.now) result }
     {
         let Some(ids) = self.ids_of(item) else {
             return self.add_fresh(meter, *item);
@@ -288,8 +280,7 @@ impl<A: Allocator + Copy> BinWriter<A> {
         requires known { HaveIds self.old.symbols.texts (head_symbols (raw_head item.now.head)) }
         requires octets { octet ∷ []
             ≡ head_octets (id_in self.old.symbols.texts) (user_head item.now.head) }
-        ensures { AddsPlain self.old self.new meter.old meter.new
-            (as_item item.now) result }
+        ensures { AddsPlain self.old self.new meter.old meter.new (as_item item.now) result }
     {
         let Some(ids) = self.ids_of(item) else {
             return self.add_fresh(meter, *item);
@@ -312,8 +303,7 @@ impl<A: Allocator + Copy> BinWriter<A> {
         requires known { HaveIds self.old.symbols.texts (head_symbols (raw_head item.now.head)) }
         requires octets { both_octets scalar.now
             ≡ head_octets (id_in self.old.symbols.texts) (user_head item.now.head) }
-        ensures { AddsPlain self.old self.new meter.old meter.new
-            (as_item item.now) result }
+        ensures { AddsPlain self.old self.new meter.old meter.new (as_item item.now) result }
     {
         let Some(ids) = self.ids_of(item) else {
             return self.add_fresh(meter, *item);

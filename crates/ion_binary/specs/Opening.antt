@@ -17,11 +17,12 @@ use Rattle.ion_binary.specs.declared.scalar.Spelled.{Spelled}
 use Rattle.ion_binary.specs.Canonical.{wrapped}
 use Rattle.ion_binary.specs.Held.{counted_ids, size_of, whole_at}
 use Rattle.ion_binary.specs.ItemOctets.{opening}
+use Rattle.ion_binary.specs.Late.{IsCosted}
 use Rattle.ion_binary.specs.Counting.{ArePlaced, AreReached}
 
 -- the counted bytes that it holds
 abbrev pub open_cost : {A : Type 0} → OpenValue A → ℕ
-open_cost v = 8 * length v.headers + length v.octets
+open_cost v = 8 * length v.headers + v.octets.cost
 
 -- the most counted bytes that an open value may hold under limits
 abbrev pub open_most : Limits → ℕ
@@ -29,20 +30,21 @@ open_most limits = 16 * limits.depth + limits.value
 
 -- it stays within its limits
 pub record IsWithin {A : Type 0} (limits : Limits) (v : OpenValue A) : Type 0 where
-  pub octets : length v.octets ≤ limits.value
-  pub headers : length v.headers ≤ 2 * limits.depth
+  pub octets : length v.octets.all ≤ limits.value
+  pub headers : length v.headers + 2 * v.octets.late ≤ 2 * limits.depth
+  pub costed : IsCosted v.octets
 
 -- the headers that are missing are right, no count of them is too high, and the closed value is not too long. A count may be too low: whoever
 -- asks for the closed size raises it first
 pub record IsOpen {A : Type 0} (limits : Limits) (v : OpenValue A) : Type 0 where
-  pub placed : ArePlaced (length v.octets) v.headers
+  pub placed : ArePlaced (length v.octets.all) v.headers
   pub codes : AllByRecursion (λ h. h.code < 16) v.headers
-  pub reached : AreReached v.counts (length v.octets) v.headers
-  pub fits : size_of v.octets v.headers ≤ limits.value
+  pub reached : AreReached v.counts (length v.octets.all) v.headers
+  pub fits : size_of v.octets.all v.headers ≤ limits.value
 
 -- the same before a place behind which there are more octets
 pub record IsOpenTo {A : Type 0} (v : OpenValue A) (place : ℕ) : Type 0 where
-  pub within : place ≤ length v.octets
+  pub within : place ≤ length v.octets.all
   pub placed : ArePlaced place v.headers
   pub codes : AllByRecursion (λ h. h.code < 16) v.headers
   pub reached : AreReached v.counts place v.headers
@@ -71,10 +73,10 @@ pub record Stepped {A : Type 0} (limits : Limits) (old new : OpenValue A) (befor
 
 -- a scalar of these octets is put behind what comes first of its item, unless the value would be too long
 pub record PutsScalar {A : Type 0} (limits : Limits) (place : ℕ) (scalar : List ℕ) (old new : OpenValue A) (result : Result Bool Fault) : Type 0 where
-  pub octets : result ≡ Ok true → new.octets ≡ whole_at place old.octets scalar
+  pub octets : result ≡ Ok true → new.octets.all ≡ whole_at place old.octets.all scalar
   pub headers : new.headers ≡ old.headers
   pub is_open : result ≡ Ok true → IsOpen limits new
-  pub over : result ≡ Ok false → limits.value < size_of (whole_at place old.octets scalar) old.headers
+  pub over : result ≡ Ok false → limits.value < size_of (whole_at place old.octets.all scalar) old.headers
 
 -- both parts
 abbrev pub both_octets : Octets → List ℕ

@@ -28,8 +28,8 @@ impl<A: Allocator + Copy> OpenValue<A> {
     ) -> bool
         requires can_step { CanStep limits.now self.old meter.old }
         requires open { IsOpen limits.now self.old }
-        ensures octets { result ≡ true → self.new.octets
-            ≡ self.old.octets ++ noted name note (both_octets scalar.now) }
+        ensures octets { result ≡ true → self.new.octets.all
+            ≡ self.old.octets.all ++ noted name note (both_octets scalar.now) }
         ensures headers { self.new.headers ≡ self.old.headers }
         ensures open { result ≡ true → IsOpen limits.now self.new }
         ensures declines { result ≡ false → (self.new ≡ self.old) × (meter.new ≡ meter.old) }
@@ -56,8 +56,8 @@ impl<A: Allocator + Copy> OpenValue<A> {
         requires can_step { CanStep limits.now self.old meter.old }
         requires open { IsOpen limits.now self.old }
         requires few { length notes.now ≤ 20 }
-        ensures octets { result ≡ true → self.new.octets
-            ≡ self.old.octets ++ noted_by name notes.now (both_octets scalar.now) }
+        ensures octets { result ≡ true → self.new.octets.all
+            ≡ self.old.octets.all ++ noted_by name notes.now (both_octets scalar.now) }
         ensures headers { self.new.headers ≡ self.old.headers }
         ensures open { result ≡ true → IsOpen limits.now self.new }
         ensures declines { result ≡ false → (self.new ≡ self.old) × (meter.new ≡ meter.old) }
@@ -85,8 +85,8 @@ impl<A: Allocator + Copy> OpenValue<A> {
     ) -> bool
         requires can_step { CanStep limits.now self.old meter.old }
         requires open { IsOpen limits.now self.old }
-        ensures octets { result ≡ true → self.new.octets
-            ≡ self.old.octets ++ noted name note (octet ∷ []) }
+        ensures octets { result ≡ true → self.new.octets.all
+            ≡ self.old.octets.all ++ noted name note (octet ∷ []) }
         ensures headers { self.new.headers ≡ self.old.headers }
         ensures open { result ≡ true → IsOpen limits.now self.new }
         ensures declines { result ≡ false → (self.new ≡ self.old) × (meter.new ≡ meter.old) }
@@ -110,8 +110,8 @@ impl<A: Allocator + Copy> OpenValue<A> {
         requires can_step { CanStep limits.now self.old meter.old }
         requires open { IsOpen limits.now self.old }
         requires code { code < 16 }
-        ensures octets { result ≡ true → self.new.octets
-            ≡ self.old.octets ++ noted name note (headed code (uint_octets n)) }
+        ensures octets { result ≡ true → self.new.octets.all
+            ≡ self.old.octets.all ++ noted name note (headed code (uint_octets n)) }
         ensures headers { self.new.headers ≡ self.old.headers }
         ensures open { result ≡ true → IsOpen limits.now self.new }
         ensures declines { result ≡ false → (self.new ≡ self.old) × (meter.new ≡ meter.old) }
@@ -145,7 +145,7 @@ impl<A: Allocator + Copy> OpenValue<A> {
         requires open { IsOpen limits.now self.old }
         requires some { 0 < coefficient }
         requires most { coefficient < 2 ^ 63 }
-        ensures octets { result ≡ true → self.new.octets ≡ self.old.octets
+        ensures octets { result ≡ true → self.new.octets.all ≡ self.old.octets.all
             ++ noted name note (headed 5 (exponent ∷ coefficient_octets negative coefficient)) }
         ensures headers { self.new.headers ≡ self.old.headers }
         ensures open { result ≡ true → IsOpen limits.now self.new }
@@ -172,8 +172,8 @@ impl<A: Allocator + Copy> OpenValue<A> {
     ) -> bool
         requires can_step { CanStep limits.now self.old meter.old }
         requires open { IsOpen limits.now self.old }
-        ensures octets { result ≡ true → self.new.octets
-            ≡ self.old.octets ++ noted name note (headed 8 text.now) }
+        ensures octets { result ≡ true → self.new.octets.all
+            ≡ self.old.octets.all ++ noted name note (headed 8 text.now) }
         ensures headers { self.new.headers ≡ self.old.headers }
         ensures open { result ≡ true → IsOpen limits.now self.new }
         ensures declines { result ≡ false → (self.new ≡ self.old) × (meter.new ≡ meter.old) }
@@ -205,8 +205,8 @@ impl<A: Allocator + Copy> OpenValue<A> {
     ) -> bool
         requires can_step { CanStep limits.now self.old meter.old }
         requires open { IsOpen limits.now self.old }
-        ensures octets { result ≡ true → self.new.octets
-            ≡ self.old.octets ++ noted name note (headed 8 text.now) }
+        ensures octets { result ≡ true → self.new.octets.all
+            ≡ self.old.octets.all ++ noted name note (headed 8 text.now) }
         ensures headers { self.new.headers ≡ self.old.headers }
         ensures open { result ≡ true → IsOpen limits.now self.new }
         ensures declines { result ≡ false → (self.new ≡ self.old) × (meter.new ≡ meter.old) }
@@ -236,8 +236,8 @@ impl<A: Allocator + Copy> OpenValue<A> {
         requires open { IsOpen limits.now self.old }
         requires few { length front.now ≤ 2 }
         requires size { size ≤ 8 }
-        ensures octets { result ≡ true → self.new.octets
-            ≡ self.old.octets ++ noted name note (front.now ++ take size body) }
+        ensures octets { result ≡ true → self.new.octets.all
+            ≡ self.old.octets.all ++ noted name note (front.now ++ take size body) }
         ensures headers { self.new.headers ≡ self.old.headers }
         ensures open { result ≡ true → IsOpen limits.now self.new }
         ensures declines { result ≡ false → (self.new ≡ self.old) × (meter.new ≡ meter.old) }
@@ -270,8 +270,8 @@ impl<A: Allocator + Copy> OpenValue<A> {
         requires open { IsOpen limits.now self.old }
         requires few { length front.now ≤ 2 }
         requires size { size ≤ 8 }
-        ensures octets { result ≡ true → self.new.octets
-            ≡ self.old.octets ++ noted name note (front.now ++ take size body) }
+        ensures octets { result ≡ true → self.new.octets.all
+            ≡ self.old.octets.all ++ noted name note (front.now ++ take size body) }
         ensures headers { self.new.headers ≡ self.old.headers }
         ensures open { result ≡ true → IsOpen limits.now self.new }
         ensures declines { result ≡ false → (self.new ≡ self.old) × (meter.new ≡ meter.old) }

@@ -1,5 +1,6 @@
 use Rattle.std.proofs.Common.{arith}
 use Rattle.std.proofs.lemmas.Grind.{common_steps}
+use Rattle.ion_binary.proofs.Contents.{adds-by}
 use Rattle.ion_binary.proofs.front.put_id.Goals as goal
 
 pub returns-in-Ok-clause-charges : goal.returns-in-Ok-clause-charges
@@ -22,3 +23,6 @@ extend-requires-clause-countable g c = grind (arith, common_steps) steps 400000
 
 pub extend-requires-clause-room : goal.extend-requires-clause-room
 extend-requires-clause-room g c = grind (arith, common_steps) steps 400000
+
+pub returns-in-Ok-clause-adds : goal.returns-in-Ok-clause-adds
+returns-in-Ok-clause-adds g c = adds-by c.args.buffer.now c.extend.new.self c.as_slice.result.now c.in-Ok.ensures.ok

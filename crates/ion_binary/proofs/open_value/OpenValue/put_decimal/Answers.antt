@@ -46,7 +46,7 @@ returns-clause-octets g c is =
     let whole : c.behind-front.result ++ body ≡ headed 5 (c.args.exponent ∷ coefficient_octets c.args.negative n) =
     ap (λ (os : List ℕ). os ++ body) front
     ∙ (ap (λ (k : ℕ). k ∷ b) head ∙ (few-headed 5 b few ∙ ap (λ (os : List ℕ). headed 5 (c.args.exponent ∷ os)) spelled)) in
-    c.put_few.ensures.octets is ∙ ap (λ (y : List ℕ). c.args.self.now.octets ++ noted c.args.name c.args.note y) whole
+    c.put_few.ensures.octets is ∙ ap (λ (y : List ℕ). c.args.self.now.octets.all ++ noted c.args.name c.args.note y) whole
 
 pub put_few-requires-clause-few : goal.put_few-requires-clause-few
 put_few-requires-clause-few g c = grind (arith, common_steps) steps 400000

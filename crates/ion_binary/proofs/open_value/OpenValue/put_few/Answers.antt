@@ -1,6 +1,8 @@
-use Rattle.std.proofs.Common.{rules, ◌≡◌, ◌+◌, ◌++◌, List, ℕ, length, take, refl, ap, sym, ◌∙◌, arith, length-append}
+use Rattle.std.proofs.Common.{rules, ◌≡◌, ◌+◌, ◌++◌, List, ℕ, length, take, refl, ap, sym, subst, ◌∙◌, arith, length-append}
 use Rattle.std.proofs.lemmas.Grind.{common_steps}
 use Rattle.std.proofs.lemmas.List.{length-take-le}
+use Rattle.ion_meter.specs.Counts.{Grows}
+use Rattle.ion_binary.specs.Late.{Content}
 use Rattle.ion_binary.proofs.OpenSteps.{room-open}
 use Rattle.ion_binary.proofs.PutInRoom.{room-stepped}
 use Rattle.ion_binary.proofs.open_value.OpenValue.put_few.Goals as goal
@@ -19,7 +21,7 @@ returns-clause-open g c is =
     let few = c.len.ensures.few in
     let s = c.surely_fits.ensures c.if-not-surely_fits.false in
     room-open c.args.limits.now v (record { octets = c.extend_blocks_if_room.new.self; headers = v.headers; counts = v.counts }) (first ++ rest) c.requires.can_step.checked
-    c.requires.open (c.extend_blocks_if_room.ensures.bytes is) refl refl (omega (arith, l, f, r, z, few, s))
+    c.requires.open (ap (λ (c : Content). c.all) (c.extend_blocks_if_room.ensures.octets is)) refl refl (omega (arith, l, f, r, z, few, s))
 
 pub returns-clause-stepped : goal.returns-clause-stepped
 returns-clause-stepped g c =
@@ -34,11 +36,11 @@ returns-clause-stepped g c =
     let r : length rest ≡ c.args.size = length-take-le c.args.size c.args.body (omega (arith, all, z)) in
     let few = c.len.ensures.few in
     let s = c.surely_fits.ensures c.if-not-surely_fits.false in
-    let a = length-append v.octets (first ++ rest) in
+    let sum : c.len.result + c.args.size ≡ length (first ++ rest) = omega (arith, l, f, r) in
     room-stepped c.args.limits.now v (record { octets = c.extend_blocks_if_room.new.self; headers = v.headers; counts = v.counts }) c.args.meter.now
-    c.extend_blocks_if_room.new.meter (c.len.result + c.args.size) c.extend_blocks_if_room.result c.requires.can_step refl
-    (λ is. ap (λ (os : List ℕ). length os) (c.extend_blocks_if_room.ensures.bytes is) ∙ omega (arith, a, l, f, r)) c.extend_blocks_if_room.ensures.cost
-    c.extend_blocks_if_room.ensures.declines (omega (arith, z, few, s))
+    c.extend_blocks_if_room.new.meter (first ++ rest) c.extend_blocks_if_room.result c.requires.can_step refl c.extend_blocks_if_room.ensures.octets
+    (λ is. subst (λ (k : ℕ). Grows c.args.meter.now c.extend_blocks_if_room.new.meter k) sum (c.extend_blocks_if_room.ensures.cost is))
+    c.extend_blocks_if_room.ensures.declines (omega (arith, sum, z, few, s))
 
 pub returns-clause-declines : goal.returns-clause-declines
 returns-clause-declines g c = grind (arith, common_steps) steps 400000

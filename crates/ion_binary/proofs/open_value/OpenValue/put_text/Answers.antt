@@ -1,5 +1,7 @@
-use Rattle.std.proofs.Common.{◌≡◌, ◌+◌, ◌++◌, List, ℕ, length, take, refl, ap, sym, ◌∙◌, arith, length-append}
+use Rattle.std.proofs.Common.{◌≡◌, ◌+◌, ◌++◌, List, ℕ, length, take, refl, ap, sym, subst, ◌∙◌, arith, length-append}
 use Rattle.std.proofs.lemmas.Grind.{common_steps}
+use Rattle.ion_meter.specs.Counts.{Grows}
+use Rattle.ion_binary.specs.Late.{Content}
 use Rattle.ion_binary.proofs.OpenSteps.{room-open}
 use Rattle.ion_binary.proofs.PutInRoom.{room-stepped}
 use Rattle.ion_binary.proofs.open_value.OpenValue.put_text.Goals as goal
@@ -14,7 +16,7 @@ returns-clause-open g c is =
     ap (λ (os : List ℕ). length os) (ap (λ (n : ℕ). take n c.block.result) c.len-2.ensures.len ∙ c.block.ensures) ∙ sym c.len.ensures.len in
     let s = c.surely_fits.ensures c.if-not-surely_fits.false in
     room-open c.args.limits.now v (record { octets = c.extend_block_if_room.new.self; headers = v.headers; counts = v.counts }) (first ++ text) c.requires.can_step.checked
-    c.requires.open (c.extend_block_if_room.ensures.bytes is) refl refl (omega (arith, l, f, s))
+    c.requires.open (ap (λ (c : Content). c.all) (c.extend_block_if_room.ensures.octets is)) refl refl (omega (arith, l, f, s))
 
 pub returns-clause-stepped : goal.returns-clause-stepped
 returns-clause-stepped g c =
@@ -26,11 +28,11 @@ returns-clause-stepped g c =
     ap (λ (os : List ℕ). length os) (ap (λ (n : ℕ). take n c.block.result) c.len-2.ensures.len ∙ c.block.ensures) ∙ sym c.len-2.ensures.len in
     let same : c.len-2.result ≡ c.len.result = c.len-2.ensures.len ∙ sym c.len.ensures.len in
     let s = c.surely_fits.ensures c.if-not-surely_fits.false in
-    let a = length-append v.octets (first ++ text) in
+    let sum : c.len-2.result + length text ≡ length (first ++ text) = omega (arith, l, f) in
     room-stepped c.args.limits.now v (record { octets = c.extend_block_if_room.new.self; headers = v.headers; counts = v.counts }) c.args.meter.now
-    c.extend_block_if_room.new.meter (c.len-2.result + length text) c.extend_block_if_room.result c.requires.can_step refl
-    (λ is. ap (λ (os : List ℕ). length os) (c.extend_block_if_room.ensures.bytes is) ∙ omega (arith, a, l, f)) c.extend_block_if_room.ensures.cost
-    c.extend_block_if_room.ensures.declines (omega (arith, same, s))
+    c.extend_block_if_room.new.meter (first ++ text) c.extend_block_if_room.result c.requires.can_step refl c.extend_block_if_room.ensures.octets
+    (λ is. subst (λ (k : ℕ). Grows c.args.meter.now c.extend_block_if_room.new.meter k) sum (c.extend_block_if_room.ensures.cost is))
+    c.extend_block_if_room.ensures.declines (omega (arith, same, sum, s))
 
 pub extend_block_if_room-requires-clause-room : goal.extend_block_if_room-requires-clause-room
 extend_block_if_room-requires-clause-room g c = grind (arith, common_steps) steps 400000

@@ -1,5 +1,6 @@
 -- What more octets change of what is held.
-use Rattle.std.proofs.Common.{◌≡◌, ℕ, suc, ◌+◌, ◌*◌, ◌<◌, ◌≤◌, ◌^◌, Bool, true, false, List, [], ◌∷◌, ◌++◌, length, Option, Some, None, Result, Ok, Err, OnOk, OnErr, refl, ap, subst, sym, ◌∙◌, arith, append-nil, length-append}
+use Rattle.std.proofs.Common.{◌≡◌, ◌==◌, ℕ, suc, ◌+◌, ◌*◌, ◌<◌, ◌≤◌, ◌^◌, Bool, true, false, List, [], ◌∷◌, ◌++◌, length, Option, Some, None, Result, Ok, Err, OnOk, OnErr, refl, ap, subst, sym, ◌∙◌, arith, append-nil, length-append}
+use Rattle.std.proofs.lemmas.Bool.{eqb-true}
 use Rattle.ion_meter.specs.Counts.{Counts, Grows, IsRefused, Shrinks}
 use Rattle.ion_meter.specs.declared.fault.Fault.{Fault}
 use Rattle.ion_meter.specs.declared.fault.Fault.TheVariants.{Memory}
@@ -148,6 +149,13 @@ moved-more old new m n least most fault v le =
       alone = v.alone;
       charges = record { held = v.charges.held; share = omega (arith, share, le); peak = omega (arith, peak, le); rises = v.charges.rises };
     }
+
+pub empty-list : (xs : List ℕ) → true ≡ (length xs == 0) → xs ≡ []
+empty-list xs e = none xs (eqb-true (length xs) 0 (sym e))
+  where
+    none : (xs : List ℕ) → length xs ≡ 0 → xs ≡ []
+    none [] e = refl
+    none (x ∷ xs) e = absurd (omega (arith, e))
 
 -- nothing was done
 pub same-moved : (c : Content) (m : Counts) (most : ℕ) → IsCosted c → c.cost ≤ most → Moved c c m m most None

@@ -1,5 +1,5 @@
 -- What moves what is held is a step of the open value, and so is what follows it.
-use Rattle.std.proofs.Common.{◌≡◌, ℕ, suc, ◌+◌, ◌-◌, ◌*◌, ◌<◌, ◌≤◌, List, ◌∷◌, length, map, Option, Some, None, refl, ap, sym, subst, ◌∙◌, arith}
+use Rattle.std.proofs.Common.{◌≡◌, ℕ, suc, ◌+◌, ◌-◌, ◌*◌, ◌<◌, ◌≤◌, List, ◌∷◌, length, map, Option, Some, None, Result, Ok, Err, refl, ap, sym, subst, ◌∙◌, arith}
 use Rattle.ion_meter.specs.Counts.{Counts, Grows, IsRefused, Shrinks}
 use Rattle.ion_meter.specs.declared.fault.Fault.{Fault}
 use Rattle.ion_meter.specs.declared.fault.Fault.TheVariants.{Memory}
@@ -8,6 +8,8 @@ use Rattle.ion_binary.specs.declared.headers.HeaderPlace.{HeaderPlace}
 use Rattle.ion_binary.specs.declared.open_value.OpenValue.{OpenValue}
 use Rattle.ion_binary.specs.Late.{Content, IsCosted, Moved, appended}
 use Rattle.std.specs.List.{AllByRecursion}
+use Rattle.std.specs.Result.{IsErr, IsErrAnd}
+use Rattle.ion_value.specs.Shares.{fault_of}
 use Rattle.ion_binary.specs.Canonical.{header}
 use Rattle.ion_binary.specs.Counting.{ArePlaced, AreReached, place_of_header}
 use Rattle.ion_binary.specs.Held.{size_of}
@@ -193,3 +195,8 @@ headed-stepped limits v w u m n o can s same more grows room =
         rises = omega (arith, r, gp);
       };
     }
+
+-- the fault that `?` returns
+pub fault-of : {T : Type 0} (r : Result T Fault) (e : Fault) → IsErr r × IsErrAnd r (λ y. y ≡ e) → Some e ≡ fault_of r
+fault-of (Ok x) e given = absurd (Prim.cc given.0)
+fault-of (Err y) e given = ap (λ (f : Fault). let x : Option Fault = Some f in x) (sym given.1)

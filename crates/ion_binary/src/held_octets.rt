@@ -230,7 +230,12 @@ impl<A: Allocator + Copy> HeldOctets<A> {
     }
 
     /// Puts octets in at an offset.
-    pub fn insert(&mut self, meter: &mut Meter<A>, offset: usize, octets: &[u8]) -> Result<(), Fault>
+    pub fn insert(
+        &mut self,
+        meter: &mut Meter<A>,
+        offset: usize,
+        octets: &[u8],
+    ) -> Result<(), Fault>
         requires within { offset ≤ length self.old.all }
         requires short { length self.old.all ≤ 2 ^ 32 }
         requires room { meter.old.held + (length self.old.all + length octets.now) < 2 ^ 63 }

@@ -118,8 +118,8 @@ const ROWS: &[Row] = &[
     (
         16_031,
         &[
-            LIST, LIST, TEXT, END, LIST, TRUE, END, LIST, TEXT, END, LIST, END, LIST, LIST, FEW, END, FEW, END,
-            TRUE, END,
+            LIST, LIST, TEXT, END, LIST, TRUE, END, LIST, TEXT, END, LIST, END, LIST, LIST, FEW,
+            END, FEW, END, TRUE, END,
         ],
         "BE 7D 9C BE 27 8B 8E 27 88 LONG B1 11 BE 27 8B 8E 27 88 LONG B0 BE 2E F9 BE 17 BB 8E 17 B8 SHORT \
          8E 17 B8 SHORT 11",
@@ -128,8 +128,8 @@ const ROWS: &[Row] = &[
     (
         15_054,
         &[
-            LIST, NAMED, NAMED, TEXT, END, TRUE, END, NAMED_TRUE, NAMED, TEXT, END, LIST, NAMED, TRUE, END,
-            LIST, TEXT, END, TRUE, END, TRUE, END,
+            LIST, NAMED, NAMED, TEXT, END, TRUE, END, NAMED_TRUE, NAMED, TEXT, END, LIST, NAMED,
+            TRUE, END, LIST, TEXT, END, TRUE, END, TRUE, END,
         ],
         "BE 75 CB EE 27 99 81 84 BE 27 94 EE 27 90 81 84 BE 27 8B 8E 27 88 LONG 11 E3 81 84 11 EE 27 90 81 84 \
          BE 27 8B 8E 27 88 LONG BE 27 94 E4 81 84 B1 11 BE 27 8B 8E 27 88 LONG 11 11",
@@ -138,8 +138,8 @@ const ROWS: &[Row] = &[
     (
         35_056,
         &[
-            LIST, LIST, LIST, LIST, TEXT, END, LIST, TEXT, END, LIST, TEXT, END, LIST, TEXT, END, TRUE, END,
-            LIST, TEXT, END, LIST, TEXT, END, LIST, TEXT, END, END, TRUE, END,
+            LIST, LIST, LIST, LIST, TEXT, END, LIST, TEXT, END, LIST, TEXT, END, LIST, TEXT, END,
+            TRUE, END, LIST, TEXT, END, LIST, TEXT, END, LIST, TEXT, END, END, TRUE, END,
         ],
         "BE 02 11 EC BE 02 11 E7 BE 01 1C B9 BE 27 8B 8E 27 88 LONG BE 27 8B 8E 27 88 LONG BE 27 8B 8E 27 88 LONG \
          BE 27 8B 8E 27 88 LONG 11 BE 27 8B 8E 27 88 LONG BE 27 8B 8E 27 88 LONG BE 27 8B 8E 27 88 LONG 11",
@@ -163,7 +163,11 @@ fn row_octets(rt: &impl Abort, alloc: Global, text: &str) -> Vec<u8> {
 // one octet less is too few.
 fn expect_row(rt: &impl Abort, alloc: Global, row: &Row, depth: u32) {
     let (value, steps, text) = *row;
-    let limits = Limits { value, depth, ..LIMITS };
+    let limits = Limits {
+        value,
+        depth,
+        ..LIMITS
+    };
     let written = put(rt, alloc, limits, steps, Ok(()), Vec::new(alloc));
     let want = row_octets(rt, alloc, text);
     same(rt, written.as_slice(), want.as_slice());

@@ -1,10 +1,13 @@
-use Rattle.std.proofs.Common.{◌≡◌, ◌≢◌, ◌<◌, ◌-◌, ◌++◌, List, ℕ, suc, None, length, refl, sym, ap, ◌∙◌, rules, arith}
+use Rattle.std.proofs.Common.{◌≡◌, ◌≢◌, ◌<◌, ◌-◌, ◌++◌, List, ℕ, suc, Option, Some, None, length, refl, sym, ap, subst, ◌∙◌, rules, arith}
 use Rattle.std.proofs.lemmas.Grind.{common_steps}
+use Rattle.ion_meter.specs.declared.fault.Fault.{Fault}
 use Rattle.ion_value.specs.Number.{var_uint_octets}
+use Rattle.ion_value.specs.Shares.{fault_of}
 use Rattle.ion_binary.specs.declared.headers.HeaderPlace.{HeaderPlace}
 use Rattle.ion_binary.specs.Held.{put_at}
+use Rattle.ion_binary.specs.Opening.{Stepped}
 use Rattle.ion_binary.proofs.LateHeaders.{put-length}
-use Rattle.ion_binary.proofs.MovedSteps.{headed-stepped, put-stepped, refused-stepped}
+use Rattle.ion_binary.proofs.MovedSteps.{fault-of, headed-stepped, put-stepped, refused-stepped}
 use Rattle.ion_binary.proofs.OpenSteps.{begun-length, begun-octets, wrapper-begun}
 use Rattle.ion_binary.proofs.open_value.OpenValue.begin_wrapper.Goals as goal
 
@@ -66,8 +69,9 @@ returns-in_err-insert-clause-stepped g c =
     let t = c.if-octets-len.false in
     let same : length c.insert.new.self.all ≡ length v.octets.all = ap (λ (os : List ℕ). length os) c.in_err-insert.ensures.err in
     let short = c.requires.can_step.within.octets in
-    put-stepped c.args.limits v w c.args.meter.now c.insert.new.meter (length c.as_slice.result.now) _ c.requires.can_step refl c.in_err-insert.ensures.moved c.in_err-insert.ensures.late
-    (omega (arith, same, short)) (omega (arith, e, k, t))
+    subst (λ (f : Option Fault). Stepped c.args.limits v w c.args.meter.now c.insert.new.meter f) (fault-of c.from_residual.result c.in_err-insert.field-0.0 c.from_residual.ensures)
+    (put-stepped c.args.limits v w c.args.meter.now c.insert.new.meter (length c.as_slice.result.now) (Some c.in_err-insert.field-0.0) c.requires.can_step refl c.in_err-insert.ensures.moved c.in_err-insert.ensures.late
+    (omega (arith, same, short)) (omega (arith, e, k, t)))
 
 pub returns-in_err-push-clause-stepped : goal.returns-in_err-push-clause-stepped
 returns-in_err-push-clause-stepped g c =
@@ -80,7 +84,9 @@ returns-in_err-push-clause-stepped g c =
     let sum = put-length c.args.place c.as_slice.result.now v.octets.all c.requires.open.within in
     let s = put-stepped c.args.limits v w c.args.meter.now c.insert.new.meter (length c.as_slice.result.now) None c.requires.can_step refl c.in_ok-insert.ensures.moved c.in_ok-insert.ensures.late
     (omega (arith, e, k, t, long, sum)) (omega (arith, e, k, t)) in
-    refused-stepped c.args.limits v w c.args.meter.now c.insert.new.meter c.push.new.meter _ s c.in_err-push.ensures.memory c.in_err-push.ensures.refused
+    subst (λ (hs : List HeaderPlace). Stepped c.args.limits v (record w { headers = hs }) c.args.meter.now c.push.new.meter (fault_of c.from_residual-in_err-push.result)) (sym c.in_err-push.ensures.err)
+    (subst (λ (f : Option Fault). Stepped c.args.limits v w c.args.meter.now c.push.new.meter f) (fault-of c.from_residual-in_err-push.result c.in_err-push.field-0.0 c.from_residual-in_err-push.ensures)
+    (refused-stepped c.args.limits v w c.args.meter.now c.insert.new.meter c.push.new.meter c.in_err-push.field-0.0 s c.in_err-push.ensures.memory c.in_err-push.ensures.refused))
 
 pub returns-clause-stepped : goal.returns-clause-stepped
 returns-clause-stepped g c =

@@ -1,11 +1,13 @@
-use Rattle.std.proofs.Common.{◌≡◌, ◌+◌, ◌-◌, ◌*◌, ◌≤◌, ◌++◌, ℕ, List, None, length, map, refl, ap, sym, subst, ◌∙◌, rules, append_assoc, arith, length-append}
+use Rattle.std.proofs.Common.{◌≡◌, ◌+◌, ◌-◌, ◌*◌, ◌≤◌, ◌++◌, ℕ, List, Option, Some, None, length, map, refl, ap, sym, subst, ◌∙◌, rules, append_assoc, arith, length-append}
 use Rattle.std.proofs.lemmas.Grind.{common_steps}
+use Rattle.ion_meter.specs.declared.fault.Fault.{Fault}
+use Rattle.ion_value.specs.Shares.{fault_of}
 use Rattle.ion_binary.specs.declared.headers.HeaderPlace.{HeaderPlace}
 use Rattle.ion_binary.specs.Counting.{IsCounted, counted_length, place_of_header}
 use Rattle.ion_binary.specs.Held.{put_at, whole_at}
 use Rattle.ion_binary.specs.Late.{Content, Moved, appended}
 use Rattle.ion_binary.proofs.LateHeaders.{put-length}
-use Rattle.ion_binary.proofs.MovedSteps.{grows-raises, put-stepped, raised-stepped, refused-stepped}
+use Rattle.ion_binary.proofs.MovedSteps.{fault-of, grows-raises, put-stepped, raised-stepped, refused-stepped}
 use Rattle.ion_binary.specs.Opening.{Stepped, both_octets, wrapper_octets}
 use Rattle.ion_binary.specs.Places.{closed_length}
 use Rattle.ion_binary.proofs.CountedHeaders.{reached-more}
@@ -125,12 +127,13 @@ returns-in_err-insert_some-clause-stepped g c =
     let octets = c.closed_size.ensures.octets in
     let headers = c.closed_size.ensures.headers in
     let w = record { octets = c.insert_some.new.octets; headers = c.closed_size.new.self.headers; counts = c.closed_size.new.self.counts } in
-    let M : Content → Type 0 = λ x. Moved x c.insert_some.new.octets c.args.meter.now c.insert_some.new.meter (length x.all + k + 16 * x.late) _ in
+    let M : Content → Type 0 = λ x. Moved x c.insert_some.new.octets c.args.meter.now c.insert_some.new.meter (length x.all + k + 16 * x.late) (Some c.in_err-insert_some.field-0.0) in
     let moved = subst M octets c.in_err-insert_some.ensures.moved in
     let late : c.insert_some.new.octets.late ≤ v.octets.late = subst (λ (x : Content). c.insert_some.new.octets.late ≤ x.late) octets c.in_err-insert_some.ensures.late in
     let same : length c.insert_some.new.octets.all ≡ length v.octets.all = ap (λ (os : List ℕ). length os) (c.in_err-insert_some.ensures.err ∙ ap (λ (x : Content). x.all) octets) in
     let short = c.requires.can_step.within.octets in
-    put-stepped c.args.limits v w c.args.meter.now c.insert_some.new.meter k _ c.requires.can_step headers moved late (omega (arith, same, short)) (omega (arith, e, l, t, size))
+    subst (λ (f : Option Fault). Stepped c.args.limits v w c.args.meter.now c.insert_some.new.meter f) (fault-of c.from_residual.result c.in_err-insert_some.field-0.0 c.from_residual.ensures)
+    (put-stepped c.args.limits v w c.args.meter.now c.insert_some.new.meter k (Some c.in_err-insert_some.field-0.0) c.requires.can_step headers moved late (omega (arith, same, short)) (omega (arith, e, l, t, size)))
 
 pub extend-requires-clause-room : goal.extend-requires-clause-room
 extend-requires-clause-room g c =
@@ -190,9 +193,10 @@ returns-in_err-extend-clause-stepped g c =
     let long : length c.insert_some.new.octets.all ≡ length (put_at c.args.place c.as_slice.result.now v.octets.all) = ap (λ (os : List ℕ). length os) first in
     let put = put-length c.args.place c.as_slice.result.now v.octets.all c.requires.open.within in
     let s = put-stepped c.args.limits v w c.args.meter.now c.insert_some.new.meter k None c.requires.can_step headers moved late (omega (arith, e, l, t, size, long, put)) (omega (arith, e, l, t, size)) in
-    let u = record { octets = c.extend.new.self; headers = c.closed_size.new.self.headers; counts = c.closed_size.new.self.counts } in
-    let U : Content → Type 0 = λ x. Stepped c.args.limits v (record w { octets = x }) c.args.meter.now c.extend.new.meter _ in
-    subst U (sym c.in_err-extend.ensures.err) (refused-stepped c.args.limits v w c.args.meter.now c.insert_some.new.meter c.extend.new.meter _ s c.in_err-extend.ensures.memory c.in_err-extend.ensures.refused)
+    let U : Content → Type 0 = λ x. Stepped c.args.limits v (record w { octets = x }) c.args.meter.now c.extend.new.meter (fault_of c.from_residual-in_err-extend.result) in
+    subst U (sym c.in_err-extend.ensures.err)
+    (subst (λ (f : Option Fault). Stepped c.args.limits v w c.args.meter.now c.extend.new.meter f) (fault-of c.from_residual-in_err-extend.result c.in_err-extend.field-0.0 c.from_residual-in_err-extend.ensures)
+    (refused-stepped c.args.limits v w c.args.meter.now c.insert_some.new.meter c.extend.new.meter c.in_err-extend.field-0.0 s c.in_err-extend.ensures.memory c.in_err-extend.ensures.refused))
 
 pub extend_some-requires-clause-room : goal.extend_some-requires-clause-room
 extend_some-requires-clause-room g c =
@@ -263,8 +267,10 @@ returns-in_err-extend_some-clause-stepped g c =
     let a = length-append c.insert_some.new.octets.all front in
     let r = raised-stepped c.args.limits v w u c.args.meter.now c.insert_some.new.meter c.extend.new.meter front c.requires.can_step s c.in_ok-extend.ensures.ok refl
     (grows-raises c.insert_some.new.meter c.extend.new.meter (length front) c.in_ok-extend.ensures.cost) (omega (arith, e, l, t, size, long, put, more, a, sum, j)) in
-    let U : Content → Type 0 = λ x. Stepped c.args.limits v (record u { octets = x }) c.args.meter.now c.extend_some.new.meter _ in
-    subst U (sym c.in_err-extend_some.ensures.err) (refused-stepped c.args.limits v u c.args.meter.now c.extend.new.meter c.extend_some.new.meter _ r c.in_err-extend_some.ensures.memory c.in_err-extend_some.ensures.refused)
+    let U : Content → Type 0 = λ x. Stepped c.args.limits v (record u { octets = x }) c.args.meter.now c.extend_some.new.meter (fault_of c.from_residual-in_err-extend_some.result) in
+    subst U (sym c.in_err-extend_some.ensures.err)
+    (subst (λ (f : Option Fault). Stepped c.args.limits v u c.args.meter.now c.extend_some.new.meter f) (fault-of c.from_residual-in_err-extend_some.result c.in_err-extend_some.field-0.0 c.from_residual-in_err-extend_some.ensures)
+    (refused-stepped c.args.limits v u c.args.meter.now c.extend.new.meter c.extend_some.new.meter c.in_err-extend_some.field-0.0 r c.in_err-extend_some.ensures.memory c.in_err-extend_some.ensures.refused))
 
 pub returns-clause-stepped : goal.returns-clause-stepped
 returns-clause-stepped g c =

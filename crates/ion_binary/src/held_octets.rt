@@ -8,7 +8,7 @@ ghost use Rattle.ion_symbols.specs.Output.{known_id, texts_cost};
 ghost use Rattle.ion_value.specs.Shares.{fault_of};
 ghost use Rattle.ion_binary.specs.Canonical.{header};
 ghost use Rattle.ion_binary.specs.Held.{put_at};
-ghost use Rattle.ion_binary.specs.Late.{AreLate, FitsAt, IsLate, Moved, appended, late_octets, missing_of, nothing, spread};
+ghost use Rattle.ion_binary.specs.Late.{AreLate, FitsAt, Moved, appended, late_octets, missing_of, nothing, spread};
 
 use crate::header::header;
 use crate::headers::{HeaderPlace, Headers};

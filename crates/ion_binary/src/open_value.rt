@@ -1,6 +1,6 @@
 //! The value at top level that is being written.
-ghost use Rattle.std.specs.Prelude.{◌≡◌, ◌+◌, ◌-◌, ◌*◌, ◌^◌, ◌<◌, ◌≤◌, ℕ, List, true, false, [], ◌∷◌, ◌++◌, if◌then◌else◌, length, drop, slice_index, take, Ok, OnOk, OnErr, IfErr, None};
-ghost use Rattle.ion_meter.specs.Counts.{Grows, IsRefused, Shrinks};
+ghost use Rattle.std.specs.Prelude.{◌≡◌, ◌≢◌, ◌+◌, ◌-◌, ◌*◌, ◌^◌, ◌<◌, ◌≤◌, ℕ, List, true, false, [], ◌∷◌, ◌++◌, if◌then◌else◌, length, drop, slice_index, take, Ok, OnOk, OnErr, IfErr, None};
+ghost use Rattle.ion_meter.specs.Counts.{IsRefused, Shrinks};
 ghost use Rattle.ion_meter.specs.declared.limits.Limits.{Limits};
 ghost use Rattle.ion_value.specs.Items.{raw_head};
 ghost use Rattle.ion_value.specs.Shares.{fault_of};
@@ -454,6 +454,31 @@ impl<A: Allocator + Copy> OpenValue<A> {
         if name < 128 {
             return self.begin_if_room(meter, *limits, &[128 + name as u8], kind);
         }
+        self.begin_after_long(meter, limits, name, kind)
+    }
+
+    // Begins such a container after a long id.
+    #[inline(never)]
+    fn begin_after_long(
+        &mut self,
+        meter: &mut Meter<A>,
+        limits: &Limits,
+        name: u32,
+        kind: Kind,
+    ) -> bool
+        requires can_step { CanStep limits.now self.old meter.old }
+        requires open { IsOpen limits.now self.old }
+        requires deep { length self.old.headers + 1 ≤ 2 * limits.now.depth }
+        requires some { name ≢ 0 }
+        ensures octets { result ≡ true
+            → self.new.octets.all ≡ self.old.octets.all ++ name_octets name }
+        ensures headers { result ≡ true → self.new.headers
+            ≡ header_at (length self.old.octets.all + length (name_octets name)) (type_code kind)
+            ∷ self.old.headers }
+        ensures open { result ≡ true → IsOpen limits.now self.new }
+        ensures declines { result ≡ false → (self.new ≡ self.old) × (meter.new ≡ meter.old) }
+        ensures stepped { Stepped limits.now self.old self.new meter.old meter.new None }
+    {
         let front = var_uint_write(u64::from(name));
         self.begin_if_room(meter, *limits, front.as_slice(), kind)
     }

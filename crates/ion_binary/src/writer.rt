@@ -1,18 +1,17 @@
 //! The writer of binary.
-ghost use Rattle.std.specs.Prelude.{◌≡◌, ℕ, ◌+◌, ◌^◌, ◌<◌, ◌≤◌, true, false, length, List, [], None, Some, Ok, Err, OnOk, OnErr, IfErr, ◌≢◌};
+ghost use Rattle.std.specs.Prelude.{◌≡◌, ℕ, ◌+◌, ◌<◌, ◌≤◌, true, false, [], None, Some, Ok, Err, OnOk, OnErr, IfErr, ◌≢◌};
 ghost use Rattle.ion_meter.specs.Counts.{Shrinks};
 ghost use Rattle.ion_meter.specs.Limits.{AreChecked};
 ghost use Rattle.ion_meter.specs.Sinks.{IsPut};
 ghost use Rattle.ion_meter.specs.declared.fault.Fault.{Fault};
-ghost use Rattle.ion_meter.specs.declared.fault.Fault.TheVariants.{Memory, Refused, WriteFault};
+ghost use Rattle.ion_meter.specs.declared.fault.Fault.TheVariants.{Refused, WriteFault};
 ghost use Rattle.ion_meter.specs.declared.fault.Reason.{Reason};
 ghost use Rattle.ion_value.specs.Items.{item_of, raw_head};
 ghost use Rattle.ion_value.specs.Shares.{WriteCauses, fault_of};
-ghost use Rattle.ion_value.specs.Value.{end};
 ghost use Rattle.ion_binary.specs.Canonical.{is_over, marker_if};
-ghost use Rattle.ion_binary.specs.Held.{closed_in, headers_around, texts_forgotten, value_held, value_put};
+ghost use Rattle.ion_binary.specs.Held.{texts_forgotten, value_held, value_put};
 ghost use Rattle.ion_binary.specs.Opening.{IsOpen, MayCome};
-ghost use Rattle.ion_binary.specs.Writer.{CanPut, CanTake, ComesAt, Follows, IsNew, IsSound, PutsOctets, Stands, Taken, added, adds_at, failed_of, held_closed, held_in, item_refusal, limits_of, most_of, own_of};
+ghost use Rattle.ion_binary.specs.Writer.{CanPut, CanTake, ComesAt, Follows, IsNew, IsSound, PutsOctets, Stands, Taken, added, adds_at, failed_of, held_in, item_refusal, limits_of, most_of, own_of};
 ghost use Rattle.ion_binary.specs.Writing.{Written, binary_adds, binary_puts, binary_refusal};
 ghost use Rattle.ion_binary.specs.ItemPuts.{binary_grows, binary_silent};
 ghost use Rattle.ion_binary.specs.WriterWithin.{binary-within};

@@ -4,4 +4,4 @@ use Rattle.ion_binary.proofs.open_value.OpenValue.put_number.Goals as goal
 
 pub returns-clause-octets : goal.returns-clause-octets
 returns-clause-octets g c is =
-    c.put_few.ensures.octets is ∙ ap (λ (y : List ℕ). c.args.self.now.octets ++ noted c.args.name c.args.note y) c.few_number-number.ensures.octets
+    c.put_few.ensures.octets is ∙ ap (λ (y : List ℕ). c.args.self.now.octets.all ++ noted c.args.name c.args.note y) c.few_number-number.ensures.octets

@@ -1,8 +1,8 @@
 //! Plain scalars, which are put where there is room for them, the octets before a body as one block.
-ghost use Rattle.std.specs.Prelude.{◌≡◌, ◌^◌, ◌<◌, ◌≤◌, ◌∷◌, [], ◌++◌, false, if◌then◌else◌, length, take};
+ghost use Rattle.std.specs.Prelude.{◌≡◌, ◌^◌, ◌<◌, ◌≤◌, ◌∷◌, [], ◌++◌, true, false, if◌then◌else◌, length, take, None};
 ghost use Rattle.ion_value.specs.Number.{coefficient_octets, uint_octets};
 ghost use Rattle.ion_binary.specs.Canonical.{headed};
-ghost use Rattle.ion_binary.specs.Opening.{AddsOctets, CanAdd, both_octets, noted, noted_by};
+ghost use Rattle.ion_binary.specs.Opening.{CanStep, IsOpen, Stepped, both_octets, noted, noted_by};
 
 use super::OpenValue;
 use crate::few::{Few, few_header, few_number, noted_front};
@@ -26,9 +26,14 @@ impl<A: Allocator + Copy> OpenValue<A> {
         note: u32,
         scalar: &Octets<'_>,
     ) -> bool
-        requires { CanAdd limits.now self.old meter.old }
-        ensures { AddsOctets limits.now (noted name note (both_octets scalar.now))
-            self.old self.new meter.old meter.new result }
+        requires can_step { CanStep limits.now self.old meter.old }
+        requires open { IsOpen limits.now self.old }
+        ensures octets { result ≡ true → self.new.octets
+            ≡ self.old.octets ++ noted name note (both_octets scalar.now) }
+        ensures headers { self.new.headers ≡ self.old.headers }
+        ensures open { result ≡ true → IsOpen limits.now self.new }
+        ensures declines { result ≡ false → (self.new ≡ self.old) × (meter.new ≡ meter.old) }
+        ensures stepped { Stepped limits.now self.old self.new meter.old meter.new None }
     {
         if note == 0 {
             return self.put_behind(meter, limits, name, &[], scalar);
@@ -48,10 +53,15 @@ impl<A: Allocator + Copy> OpenValue<A> {
         notes: &[u8],
         scalar: &Octets<'_>,
     ) -> bool
-        requires can_add { CanAdd limits.now self.old meter.old }
+        requires can_step { CanStep limits.now self.old meter.old }
+        requires open { IsOpen limits.now self.old }
         requires few { length notes.now ≤ 20 }
-        ensures { AddsOctets limits.now (noted_by name notes.now (both_octets scalar.now))
-            self.old self.new meter.old meter.new result }
+        ensures octets { result ≡ true → self.new.octets
+            ≡ self.old.octets ++ noted_by name notes.now (both_octets scalar.now) }
+        ensures headers { self.new.headers ≡ self.old.headers }
+        ensures open { result ≡ true → IsOpen limits.now self.new }
+        ensures declines { result ≡ false → (self.new ≡ self.old) × (meter.new ≡ meter.old) }
+        ensures stepped { Stepped limits.now self.old self.new meter.old meter.new None }
     {
         let Some(front) = noted_scalar(limits, name, notes, scalar) else {
             return false;
@@ -73,9 +83,14 @@ impl<A: Allocator + Copy> OpenValue<A> {
         note: u32,
         octet: u8,
     ) -> bool
-        requires { CanAdd limits.now self.old meter.old }
-        ensures { AddsOctets limits.now (noted name note (octet ∷ []))
-            self.old self.new meter.old meter.new result }
+        requires can_step { CanStep limits.now self.old meter.old }
+        requires open { IsOpen limits.now self.old }
+        ensures octets { result ≡ true → self.new.octets
+            ≡ self.old.octets ++ noted name note (octet ∷ []) }
+        ensures headers { self.new.headers ≡ self.old.headers }
+        ensures open { result ≡ true → IsOpen limits.now self.new }
+        ensures declines { result ≡ false → (self.new ≡ self.old) × (meter.new ≡ meter.old) }
+        ensures stepped { Stepped limits.now self.old self.new meter.old meter.new None }
     {
         let front = Few::one(octet);
         self.put_few(meter, limits, name, note, &front, [0; 8], 0)
@@ -92,10 +107,15 @@ impl<A: Allocator + Copy> OpenValue<A> {
         code: u8,
         n: u64,
     ) -> bool
-        requires can_add { CanAdd limits.now self.old meter.old }
+        requires can_step { CanStep limits.now self.old meter.old }
+        requires open { IsOpen limits.now self.old }
         requires code { code < 16 }
-        ensures { AddsOctets limits.now (noted name note (headed code (uint_octets n)))
-            self.old self.new meter.old meter.new result }
+        ensures octets { result ≡ true → self.new.octets
+            ≡ self.old.octets ++ noted name note (headed code (uint_octets n)) }
+        ensures headers { self.new.headers ≡ self.old.headers }
+        ensures open { result ≡ true → IsOpen limits.now self.new }
+        ensures declines { result ≡ false → (self.new ≡ self.old) × (meter.new ≡ meter.old) }
+        ensures stepped { Stepped limits.now self.old self.new meter.old meter.new None }
     {
         let number = few_number(code, n);
         self.put_few(
@@ -121,12 +141,16 @@ impl<A: Allocator + Copy> OpenValue<A> {
         negative: bool,
         coefficient: u64,
     ) -> bool
-        requires can_add { CanAdd limits.now self.old meter.old }
+        requires can_step { CanStep limits.now self.old meter.old }
+        requires open { IsOpen limits.now self.old }
         requires some { 0 < coefficient }
         requires most { coefficient < 2 ^ 63 }
-        ensures { AddsOctets limits.now
-            (noted name note (headed 5 (exponent ∷ coefficient_octets negative coefficient)))
-            self.old self.new meter.old meter.new result }
+        ensures octets { result ≡ true → self.new.octets ≡ self.old.octets
+            ++ noted name note (headed 5 (exponent ∷ coefficient_octets negative coefficient)) }
+        ensures headers { self.new.headers ≡ self.old.headers }
+        ensures open { result ≡ true → IsOpen limits.now self.new }
+        ensures declines { result ≡ false → (self.new ≡ self.old) × (meter.new ≡ meter.old) }
+        ensures stepped { Stepped limits.now self.old self.new meter.old meter.new None }
     {
         let zeros = (coefficient.leading_zeros() - 1) / 8;
         let size = 8 - zeros as usize;
@@ -146,9 +170,14 @@ impl<A: Allocator + Copy> OpenValue<A> {
         note: u32,
         text: &[u8],
     ) -> bool
-        requires { CanAdd limits.now self.old meter.old }
-        ensures { AddsOctets limits.now (noted name note (headed 8 text.now))
-            self.old self.new meter.old meter.new result }
+        requires can_step { CanStep limits.now self.old meter.old }
+        requires open { IsOpen limits.now self.old }
+        ensures octets { result ≡ true → self.new.octets
+            ≡ self.old.octets ++ noted name note (headed 8 text.now) }
+        ensures headers { self.new.headers ≡ self.old.headers }
+        ensures open { result ≡ true → IsOpen limits.now self.new }
+        ensures declines { result ≡ false → (self.new ≡ self.old) × (meter.new ≡ meter.old) }
+        ensures stepped { Stepped limits.now self.old self.new meter.old meter.new None }
     {
         let Some(header) = few_header(8, text.len()) else {
             return self.put_long(meter, limits, name, note, text);
@@ -174,9 +203,14 @@ impl<A: Allocator + Copy> OpenValue<A> {
         note: u32,
         text: &[u8],
     ) -> bool
-        requires { CanAdd limits.now self.old meter.old }
-        ensures { AddsOctets limits.now (noted name note (headed 8 text.now))
-            self.old self.new meter.old meter.new result }
+        requires can_step { CanStep limits.now self.old meter.old }
+        requires open { IsOpen limits.now self.old }
+        ensures octets { result ≡ true → self.new.octets
+            ≡ self.old.octets ++ noted name note (headed 8 text.now) }
+        ensures headers { self.new.headers ≡ self.old.headers }
+        ensures open { result ≡ true → IsOpen limits.now self.new }
+        ensures declines { result ≡ false → (self.new ≡ self.old) × (meter.new ≡ meter.old) }
+        ensures stepped { Stepped limits.now self.old self.new meter.old meter.new None }
     {
         let before = header(8, text.len() as u64);
         let octets = Octets {
@@ -198,11 +232,16 @@ impl<A: Allocator + Copy> OpenValue<A> {
         body: [u8; 8],
         size: usize,
     ) -> bool
-        requires can_add { CanAdd limits.now self.old meter.old }
+        requires can_step { CanStep limits.now self.old meter.old }
+        requires open { IsOpen limits.now self.old }
         requires few { length front.now ≤ 2 }
         requires size { size ≤ 8 }
-        ensures { AddsOctets limits.now (noted name note (front.now ++ take size body))
-            self.old self.new meter.old meter.new result }
+        ensures octets { result ≡ true → self.new.octets
+            ≡ self.old.octets ++ noted name note (front.now ++ take size body) }
+        ensures headers { self.new.headers ≡ self.old.headers }
+        ensures open { result ≡ true → IsOpen limits.now self.new }
+        ensures declines { result ≡ false → (self.new ≡ self.old) × (meter.new ≡ meter.old) }
+        ensures stepped { Stepped limits.now self.old self.new meter.old meter.new None }
     {
         let Some(whole) = noted_front(front, size, name, note) else {
             return self.put_behind_long(meter, limits, name, note, front, body, size);
@@ -227,11 +266,16 @@ impl<A: Allocator + Copy> OpenValue<A> {
         body: [u8; 8],
         size: usize,
     ) -> bool
-        requires can_add { CanAdd limits.now self.old meter.old }
+        requires can_step { CanStep limits.now self.old meter.old }
+        requires open { IsOpen limits.now self.old }
         requires few { length front.now ≤ 2 }
         requires size { size ≤ 8 }
-        ensures { AddsOctets limits.now (noted name note (front.now ++ take size body))
-            self.old self.new meter.old meter.new result }
+        ensures octets { result ≡ true → self.new.octets
+            ≡ self.old.octets ++ noted name note (front.now ++ take size body) }
+        ensures headers { self.new.headers ≡ self.old.headers }
+        ensures open { result ≡ true → IsOpen limits.now self.new }
+        ensures declines { result ≡ false → (self.new ≡ self.old) × (meter.new ≡ meter.old) }
+        ensures stepped { Stepped limits.now self.old self.new meter.old meter.new None }
     {
         let first = front.block();
         let octets = Octets {

@@ -16,7 +16,7 @@ use Rattle.ion_value.specs.Standing.{WritesWithin}
 use Rattle.ion_value.specs.Value.{PlacedItem}
 use Rattle.ion_value.proofs.Handing.{feeds-then, feeds-under, stays-then, takes-more}
 use Rattle.ion_binary.specs.declared.reader.BinReader.{BinReader}
-use Rattle.ion_binary.specs.Lane.{CanHand, HandsItem, HandsNothing, HandsOn, KeepsOn, joint}
+use Rattle.ion_binary.specs.Lane.{CanHand, CanHandOn, HandsItem, HandsNothing, HandsOn, KeepsOn, joint}
 use Rattle.ion_binary.specs.Reader.{most_of}
 use Rattle.ion_binary.specs.Steps.{IsSound, held_by, left_to, opened_in, share_of, sound-within}
 use Rattle.ion_binary.proofs.ReaderParts.{charges-then}
@@ -31,10 +31,6 @@ falls-more kinds values counted now then most h e f = omega (arith, h, e, f, one
 
 pub held-again : {a b : Counts} (before after most : ℕ) → Charges a b before after most → before ≤ a.held → after ≤ b.held
 held-again before after most c held = omega (arith, c.held)
-
--- where items go on, one more has room
-pub room-here : {a b : Counts} (before after reader writer : ℕ) → Charges a b before after (reader + writer) → a.held ≤ 2 ^ 61 + before → reader ≤ 2 ^ 59 → writer ≤ 2 ^ 59 → b.held + 16 ≤ 2 ^ 62
-room-here before after reader writer c room r w = omega (arith, c.held, c.share, room, r, w)
 
 -- nothing is held in the beginning but what was
 pub charges-none : (a : Counts) (own reader writer reader_most writer_most : ℕ) → reader ≤ reader_most → writer ≤ writer_most → reader + writer ≤ a.held
@@ -66,6 +62,25 @@ nothing-left device s t further total none =
     empty (b ∷ l) few = absurd (omega (arith, few))
 
 -- ---- items that are handed on
+
+pub hands-begin : {I A W O : Type 0} (w : WriterOf W O A) {r : BinReader I A} {pen : W} {from : Outgoing O} {m : Counts} → m.held ≤ 2 ^ 61 → held_by r + w.own pen ≤ m.held
+    → m.refused < 2 ^ 64 - 1 → IsSound r → r.failed ≡ None → CanTake w r.limits.depth (opened_in r) pen from → CanHandOn w r pen from m 0
+hands-begin w {r} room held countable sound fresh writer =
+    let within = (sound-within r sound).few in
+    record { room = omega (arith, room); held = held; countable = countable; sound = sound; fresh = fresh; writer = writer; few = omega (arith, within) }
+
+-- one may be
+pub can-hand : {I A W O : Type 0} (w : WriterOf W O A) {r : BinReader I A} {pen : W} {from : Outgoing O} {m : Counts} {had : ℕ} → WritesWithin (w.own pen) (w.most pen) → CanHandOn w r pen from m had → CanHand w r pen from m
+can-hand w {r} within can =
+    let own = sound-within r can.sound in
+    record {
+      room = omega (arith, can.room, own.share, own.small, within.share, within.small);
+      held = can.held;
+      countable = can.countable;
+      sized = can.sound.sized;
+      stands = can.sound.stands can.fresh;
+      writer = can.writer;
+    }
 
 module _ {I A W O : Type 0} (device : InputOf I) (w : WriterOf W O A) (see : PlacedItem → PlacedItem) where
   -- none so far
@@ -167,14 +182,21 @@ module _ {I A W O : Type 0} (device : InputOf I) (w : WriterOf W O A) (see : Pla
         falls = omega (arith, same);
       }
 
-  -- another item may be handed on then
-  pub can_hand-then : (a b : BinReader I A) (p q : W) (x y : Outgoing O) (m n : Counts) (few some : ℕ) → IsSound a → WritesWithin (w.own p) (w.most p) → m.held ≤ 2 ^ 61 + (held_by a + w.own p)
-      → held_by a + w.own p ≤ m.held → m.refused < 2 ^ 64 - 1 → HandsOn device w see a b p q x y m n few some → CanHand w b q y n
-  can_hand-then a b p q x y m n few some sound writer room held countable h = record {
-    room = room-here (held_by a + w.own p) (held_by b + w.own q) (share_of a) (w.most p) h.keeps.charges room (sound-within a sound).small writer.small;
-    held = held-again (held_by a + w.own p) (held_by b + w.own q) (share_of a + w.most p) h.keeps.charges held;
-    countable = subst (λ r. r < 18446744073709551615) (sym h.keeps.writer.refused) countable;
-    sized = h.keeps.sized;
-    stands = h.keeps.stands;
-    writer = h.takes;
-  }
+  -- more may be handed on then
+  pub hands-again : {r new : BinReader I A} {pen then : W} {from to : Outgoing O} {m n : Counts} {had values : ℕ} → CanHandOn w r pen from m had
+      → HandsOn device w see r new pen then from to m n had values → CanHandOn w new then to n values
+  hands-again {r} {new} {pen} {then} {from} {to} {m} {n} can h =
+      let i = h.keeps in
+      let charged = i.charges.held in
+      let room = can.room in
+      let falls = h.falls in
+      let few = can.few in
+      record {
+        room = omega (arith, charged, room);
+        held = held-again (held_by r + w.own pen) (held_by new + w.own then) (share_of r + w.most pen) i.charges can.held;
+        countable = subst (λ k. k < 18446744073709551615) (sym i.writer.refused) can.countable;
+        sound = record { sized = i.sized; small = i.stands.small; stands = λ _. i.stands; one_ending = λ _. i.failed ∙ can.fresh };
+        fresh = i.failed ∙ can.fresh;
+        writer = h.takes;
+        few = omega (arith, falls, few);
+      }

@@ -45,8 +45,8 @@ use Rattle.ion_binary.proofs.ReaderParts.{as_frames-length, innermost-struct, la
 use Rattle.ion_binary.proofs.Termination.{step-shrinks}
 use Rattle.std.specs.Prelude.{reverse}
 use Rattle.ion_binary.specs.Lane.{EndsHere, GoesOn, IsAround, ShowsField, ShowsFront, frame_in, frame_of, kind_around}
-use Rattle.ion_binary.specs.declared.reader.lane.Level.TheVariants as level
-use Rattle.ion_binary.specs.declared.reader.lane.Around.{Around}
+use Rattle.ion_binary.specs.declared.reader.front.Level.TheVariants as level
+use Rattle.ion_binary.specs.declared.reader.front.Around.{Around}
 use Rattle.ion_binary.specs.Wrappers.{as_frame, as_frames, innermost}
 use Rattle.ion_binary.proofs.ReaderParts.{innermost-field, innermost-region, inside-member, member_at-field, top-member}
 

@@ -16,7 +16,8 @@ use Rattle.ion_binary.specs.declared.reader.BinReader.{BinReader}
 use Rattle.ion_binary.specs.declared.reader.ItemKind.{ItemKind}
 use Rattle.ion_binary.specs.declared.wrapper.Field.{Field}
 use Rattle.ion_binary.specs.declared.wrapper.Frame.{Frame}
-use Rattle.ion_binary.specs.Lane.{CanHand, Handed, KeepsOn}
+use Rattle.ion_binary.specs.declared.reader.front.Around.{Around}
+use Rattle.ion_binary.specs.Lane.{CanHand, Handed, HandsAt, KeepsOn}
 use Rattle.ion_binary.specs.Steps.{IsSized, held_by, left_to, share_of}
 
 -- a part that holds no more stands beside one that moves
@@ -179,6 +180,10 @@ module _ {I A W O : Type 0} (w : WriterOf W O A) where
         };
         goes = more-below (held_by r) (16 * (left_to r - left_to r));
       }
+
+  pub hands-none : {device : InputOf I} {see : PlacedItem → PlacedItem} {r : BinReader I A} {pen : W} {from : Outgoing O} {m : Counts} {a : Around} → CanHand w r pen from m → WritesWithin (w.own pen) (w.most pen)
+      → HandsAt device w see r r pen pen from from m m a false
+  hands-none {device} {see} {r} {pen} {from} {m} can writer = record { handed = handed-none device see r pen from m can writer; around = λ e. absurd (cc e) }
 
   -- nor is anything where a container was pushed and given back
   pub handed-undone : (device : InputOf I) (see : PlacedItem → PlacedItem) (r : BinReader I A) (pen : W) (from : Outgoing O) (m b c : Counts) → CanHand w r pen from m → WritesWithin (w.own pen) (w.most pen)

@@ -10,7 +10,7 @@ use Rattle.ion_value.specs.declared.plain_item.TextAt.{TextAt}
 use Rattle.ion_value.specs.Items.{raw_head}
 use Rattle.ion_value.specs.PlainItems.{listed, placed_item, placed_text, single_item, with_second}
 use Rattle.ion_value.specs.Value as value
-use Rattle.ion_value.specs.Value.{Head, Item, Known, PlacedItem, SymbolAt, UserSymbol, map_head, user_item, user_symbol_at}
+use Rattle.ion_value.specs.Value.{Head, Known, PlacedItem, SymbolAt, UserSymbol, map_head, user_item, user_symbol_at}
 use Rattle.ion_symbols.specs.Output.{known_id, or_given, position, system_texts, texts_cost}
 use Rattle.ion_binary.specs.declared.headers.HeaderPlace.{HeaderPlace}
 use Rattle.ion_binary.specs.declared.open_value.OpenValue.{OpenValue}
@@ -19,7 +19,7 @@ use Rattle.ion_value.specs.Number.{var_uint_octets}
 use Rattle.ion_binary.specs.Canonical.{annotation_octets, declaration, header, marker_if, field_octets, id_in, id_octets, member_octets, wrapped, with_symbol, with_symbols, with_text}
 use Rattle.ion_binary.specs.Held.{Held, closed_in, counted_ids, headed_at, headers_around, headers_with, held_forgotten, held_of, ids_place, moved_headers, moved_octets, octets_with, size_of, value_held, value_put, whole_at, with_front, with_names}
 use Rattle.ion_binary.specs.ItemOctets.{head_octets}
-use Rattle.ion_binary.specs.Opening.{IsOpen, MayAdd, MayCome, Stepped, name_octets, noted, noted_by}
+use Rattle.ion_binary.specs.Opening.{AddsOctets, IsOpen, MayAdd, MayCome, Stepped, name_octets, noted, noted_by}
 use Rattle.ion_binary.specs.Plain.{AddsPlain, EndsPlain, HaveIds, IsWhole}
 use Rattle.ion_binary.specs.Writer.{CanTake, ComesAt, Follows, Taken, added, adds_at, held_in, item_refusal}
 use Rattle.ion_value.specs.Writable.{field_symbols}
@@ -184,21 +184,20 @@ pub member-noted : {A : Type 0} (w : BinWriter A) (v : OpenValue A) (before afte
     → name_octets name ≡ field_octets (id_in w.symbols.texts) (user_item item).field
     → counted_ids notes ≡ annotation_octets (id_in w.symbols.texts) (user_item item).annotations
     → x ≡ head_octets (id_in w.symbols.texts) (user_item item).head
-    → (result ≡ true → v.octets ≡ w.open_value.octets ++ noted_by name notes x) → v.headers ≡ w.open_value.headers → (result ≡ true → IsOpen w.limits v)
-    → (result ≡ false → (v ≡ w.open_value) × (after ≡ before)) → Stepped w.limits w.open_value v before after None
+    → AddsOctets w.limits (noted_by name notes x) w.open_value v before after result
     → AddsPlain w (record w { open_value = v }) before after item result
-member-noted {A} w v before after item result name notes x c some whole kf ka kh ef ea eh put same opened declines s =
+member-noted {A} w v before after item result name notes x c some whole kf ka kh ef ea eh a =
     let texts : List (List ℕ) = w.symbols.texts in
     let known : HaveIds texts (item_symbols item) = have-append texts (field_symbols item.field) (item.annotations ++ head_symbols item.head) kf (have-append texts item.annotations (head_symbols item.head) ka kh) in
-    let long : length v.headers ≡ length w.open_value.headers = ap (λ (hs : List HeaderPlace). length hs) same in
+    let long : length v.headers ≡ length w.open_value.headers = ap (λ (hs : List HeaderPlace). length hs) a.headers in
     let octets : noted_by name notes x ≡ member_octets (id_in texts) (user_item item).field (user_item item).annotations (head_octets (id_in texts) (user_item item).head) =
     ap (λ (y : List ℕ). y ++ wrapped (counted_ids notes) x) ef
     ∙ ap (λ (y : List ℕ). field_octets (id_in texts) (user_item item).field ++ y) (ap (λ (y : List ℕ). wrapped y x) ea ∙ ap (wrapped (annotation_octets (id_in texts) (user_item item).annotations)) eh) in
     plain-added w v before after item result c known (inl some) (λ e. omega (arith, long, some))
     (λ e.
-    ap (λ (hs : List HeaderPlace). record (held_in w) { octets = v.octets; headers = hs }) same
-    ∙ scalar-added (held_in w) item v.octets known whole (put e ∙ ap (λ (y : List ℕ). w.open_value.octets ++ y) octets))
-    opened declines s
+    ap (λ (hs : List HeaderPlace). record (held_in w) { octets = v.octets; headers = hs }) a.headers
+    ∙ scalar-added (held_in w) item v.octets known whole (a.octets e ∙ ap (λ (y : List ℕ). w.open_value.octets ++ y) octets))
+    a.is_open a.declines a.stepped
 
 -- a scalar in a container, behind one annotation at most
 pub member-plain : {A : Type 0} (w : BinWriter A) (v : OpenValue A) (before after : Counts) (item : PlacedItem) (result : Bool) (name note : ℕ) (x : List ℕ)
@@ -207,8 +206,7 @@ pub member-plain : {A : Type 0} (w : BinWriter A) (v : OpenValue A) (before afte
     → name_octets name ≡ field_octets (id_in w.symbols.texts) (user_item item).field
     → counted_ids (name_octets note) ≡ annotation_octets (id_in w.symbols.texts) (user_item item).annotations
     → x ≡ head_octets (id_in w.symbols.texts) (user_item item).head
-    → (result ≡ true → v.octets ≡ w.open_value.octets ++ noted name note x) → v.headers ≡ w.open_value.headers → (result ≡ true → IsOpen w.limits v)
-    → (result ≡ false → (v ≡ w.open_value) × (after ≡ before)) → Stepped w.limits w.open_value v before after None
+    → AddsOctets w.limits (noted name note x) w.open_value v before after result
     → AddsPlain w (record w { open_value = v }) before after item result
 member-plain w v before after item result name note = member-noted w v before after item result name (name_octets note)
 

@@ -3,7 +3,7 @@
 use Rattle.std.proofs.Common.{◌≡◌, ℕ, zero, suc, ◌+◌, ◌-◌, ◌*◌, ◌/◌, ◌%◌, ◌^◌, ◌<◌, ◌≤◌, inl, inr, List, ◌∷◌, length, take, drop, refl, ap, sym, subst, ◌∙◌, arith}
 use Rattle.std.specs.Int.{byte_at, bytes_high_first, leading_zeros, w64}
 use Rattle.std.proofs.lemmas.Bool.{cases_lt}
-use Rattle.std.proofs.lemmas.List.{length-drop, get_or-drop, take_all}
+use Rattle.std.proofs.lemmas.List.{length-drop, get_or-drop}
 use Rattle.std.proofs.lemmas.List.Elements.{All-get_or, All-from_get_or}
 use Rattle.std.proofs.lemmas.Nat.{mod-pow-add, leading_length, pow-add, shl_whole, shl-shr}
 use Rattle.std.proofs.Math.Nat.{pow-zero, pow-suc, pow-le-pow_right, mod-eq_of_lt, div-div-eq-div-mul}
@@ -74,16 +74,7 @@ there-and-back n z m small few room =
     let up : (n * 2 ^ (8 * z % 64)) % 2 ^ 64 ≡ n * 2 ^ (8 * z) = ap (λ (i : ℕ). (n * 2 ^ i) % 2 ^ 64) e ∙ shl_whole n m (8 * z) 64 small room in
     ap (λ (x : ℕ). x / 256 ^ z) up ∙ (ap (λ (p : ℕ). n * 2 ^ (8 * z) / p) (pow-256 z) ∙ shl-shr n (8 * z))
 
-pub short-uint : (n : ℕ) (all : List ℕ) → n < 2 ^ 64 → all ≡ bytes_high_first 8 n → take (8 - leading_zeros w64 n / 8) (drop (leading_zeros w64 n / 8) all) ≡ uint_octets n
-short-uint n all small spelled =
-    let bits = leading_length 64 n small in
-    let zeros : ℕ = leading_zeros w64 n / 8 in
-    let long : length all ≡ 8 = ap length spelled ∙ length-bytes_high_first 8 n in
-    let rest : length (drop zeros all) ≤ 8 - zeros = rw (length-drop, long) (omega arith) in
-    take_all (8 - zeros) (drop zeros all) rest
-    ∙ (ap (drop zeros) spelled ∙ uint-spelled n (drop zeros (bytes_high_first 8 n)) (shortest-behind 8 n (leading_zeros w64 n) bits.0 bits.1 bits.2 bits.3))
-
--- the same where they were moved to the front
+-- the octets of a number that was moved to the front of eight
 pub shifted-uint : (n z : ℕ) (all : List ℕ) → n < 2 ^ 64 → z ≡ leading_zeros w64 n / 8 → all ≡ bytes_high_first 8 ((n * 2 ^ (8 * z % 64)) % 2 ^ 64) → take (8 - z) all ≡ uint_octets n
 shifted-uint n z all small is spelled =
     let bits = leading_length 64 n small in

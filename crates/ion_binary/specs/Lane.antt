@@ -1,7 +1,7 @@
 -- What a call that hands one item to a writer asks for, gives, keeps and moves.
-use Rattle.std.specs.Prelude.{◌≡◌, ℕ, ◌+◌, ◌*◌, ◌-◌, ◌^◌, ◌<◌, ◌≤◌, Bool, true, false, List, length, map, Option, Some, None, option_map, is_some, IfSome, Ok, ⊤}
+use Rattle.std.specs.Prelude.{◌≡◌, ℕ, ◌+◌, ◌*◌, ◌-◌, ◌^◌, ◌<◌, ◌≤◌, Bool, true, false, List, get_or, length, map, Option, Some, None, option_map, is_some, IfSome, Ok, ⊤}
 use Rattle.ion_meter.specs.Counts.{Counts}
-use Rattle.ion_meter.specs.Windows.{Outgoing, left}
+use Rattle.ion_meter.specs.Windows.{Outgoing, left, lent}
 use Rattle.ion_meter.specs.Sources.{BytesAreLeft, Stands, skip}
 use Rattle.ion_meter.specs.declared.device.Input.{Ghosts as InputOf}
 use Rattle.ion_value.specs.declared.writer.ValueWriter.{Ghosts as WriterOf}
@@ -20,14 +20,16 @@ use Rattle.ion_binary.specs.Positions.{Frame}
 use Rattle.ion_binary.specs.Reading.{field_at, region_of}
 use Rattle.ion_binary.specs.Shown.{Reaches, ShowsItem, ShowsValue, far_end, window}
 use Rattle.ion_binary.specs.declared.shown.Shown.{Shown}
-use Rattle.ion_binary.specs.Descriptor.{Region}
+use Rattle.ion_binary.specs.Descriptor.{Region, Shape, shape_of}
 use Rattle.ion_meter.specs.declared.limits.Limits.{Limits}
 use Rattle.ion_binary.specs.declared.reader.BinReader.{BinReader}
-use Rattle.ion_binary.specs.declared.reader.lane.Around.{Around}
-use Rattle.ion_binary.specs.declared.reader.lane.Level.{Level}
-use Rattle.ion_binary.specs.declared.reader.lane.Level.TheVariants as level
+use Rattle.ion_binary.specs.declared.reader.front.Around.{Around}
+use Rattle.ion_binary.specs.declared.reader.front.Front.{Front}
+use Rattle.ion_binary.specs.declared.reader.front.Level.{Level}
+use Rattle.ion_binary.specs.declared.reader.front.Level.TheVariants as level
 use Rattle.ion_binary.specs.Reader.{IsInnermost}
-use Rattle.ion_binary.specs.Steps.{IsSized, held_by, left_to, opened_in, share_of, to_come_by}
+use Rattle.ion_binary.specs.Wrappers.{as_frames, innermost}
+use Rattle.ion_binary.specs.Steps.{IsSized, IsSound, held_by, left_to, opened_in, share_of, to_come_by}
 
 -- a reader and a writer may hand an item on
 pub record CanHand {I A W O : Type 0} (w : WriterOf W O A) (r : BinReader I A) (pen : W) (sink : Outgoing O) (meter : Counts) : Type 0 where
@@ -87,6 +89,16 @@ pub record HandsOn {I A W O : Type 0} (device : InputOf I) (w : WriterOf W O A) 
   pub grows : had ≤ values
   pub falls : values + left_to new ≤ had + left_to old
 
+-- items may be handed on, behind so many values
+pub record CanHandOn {I A W O : Type 0} (w : WriterOf W O A) (r : BinReader I A) (pen : W) (sink : Outgoing O) (meter : Counts) (values : ℕ) : Type 0 where
+  pub room : meter.held ≤ 2 ^ 61 + (held_by r + w.own pen)
+  pub held : held_by r + w.own pen ≤ meter.held
+  pub countable : meter.refused < 2 ^ 64 - 1
+  pub sound : IsSound r
+  pub fresh : r.failed ≡ None
+  pub writer : CanTake w r.limits.depth (opened_in r) pen sink
+  pub few : values + left_to r < 2 ^ 64 - 1
+
 -- octets show what stands before a member: its field's name, which its id has, and how many octets the id has; or nothing outside structs
 pub record ShowsField (texts : ℕ → Option (List ℕ)) (octets : List ℕ) (here : ℕ) (frames : List Frame) (field : Option TextAt) (behind : ℕ) : Type 0 where
   pub raw : Option SymbolAt
@@ -144,3 +156,25 @@ GoesOn (Some f) place = place < f.end
 abbrev pub EndsHere : Option frame.Frame → ℕ → Type 0
 EndsHere None place = ⊥
 EndsHere (Some f) place = f.end ≤ place
+
+-- a member may be handed on, where members stand so
+pub record CanHandMember {I A W O : Type 0} (w : WriterOf W O A) (r : BinReader I A) (a : Around) (pen : W) (sink : Outgoing O) (meter : Counts) : Type 0 where
+  pub can_hand : CanHand w r pen sink meter
+  pub around : IsAround (as_frames r.frames) a
+  pub goes_on : GoesOn (frame_in a) r.source.place
+
+-- this stands in front of its head
+pub record CanHandFront {I A W O : Type 0} (w : WriterOf W O A) (texts : ℕ → Option (List ℕ)) (r : BinReader I A) (a : Around) (f : Front) (pen : W) (sink : Outgoing O) (meter : Counts) : Type 0 where
+  pub member : CanHandMember w r a pen sink meter
+  pub front : ShowsFront texts r.limits (lent r.source) r.source.place (innermost (frame_in a)) f.field f.annotation f.at f.head f.wrapper
+
+-- and its head has this shape
+pub record CanHandShape {I A W O : Type 0} (w : WriterOf W O A) (texts : ℕ → Option (List ℕ)) (r : BinReader I A) (a : Around) (f : Front) (shape : Shape) (pen : W) (sink : Outgoing O) (meter : Counts) : Type 0 where
+  pub item : CanHandFront w texts r a f pen sink meter
+  pub within : f.head < length (lent r.source)
+  pub is : shape ≡ shape_of (get_or (lent r.source) f.head 0)
+
+-- a call handed the next item on, or none, as it answers; after one the next member stands so
+pub record HandsAt {I A W O : Type 0} (device : InputOf I) (w : WriterOf W O A) (see : PlacedItem → PlacedItem) (old new : BinReader I A) (pen then : W) (from to : Outgoing O) (before after : Counts) (a : Around) (done : Bool) : Type 0 where
+  pub handed : Handed device w see old new pen then from to before after done
+  pub around : done ≡ true → IsAround (as_frames new.frames) a

@@ -1,5 +1,5 @@
 -- What contracts see of the value at top level that a writer has open.
-use Rattle.std.specs.Prelude.{◌≡◌, ℕ, List, [], ◌++◌, nat_eq, if◌then◌else◌, None, ◌+◌, ◌-◌, ◌*◌, ◌^◌, ◌<◌, ◌≤◌, length, max, Option, Some, Bool, true, false, Result, Ok}
+use Rattle.std.specs.Prelude.{◌≡◌, ℕ, List, [], ◌∷◌, ◌++◌, nat_eq, if◌then◌else◌, None, ◌+◌, ◌-◌, ◌*◌, ◌^◌, ◌<◌, ◌≤◌, length, max, Option, Some, Bool, true, false}
 use Rattle.std.specs.List.{AllByRecursion}
 use Rattle.ion_meter.specs.Counts.{Counts}
 use Rattle.ion_meter.specs.Limits.{AreChecked}
@@ -8,6 +8,7 @@ use Rattle.ion_meter.specs.declared.fault.Fault.TheVariants.{Memory}
 use Rattle.ion_meter.specs.declared.limits.Limits.{Limits}
 use Rattle.ion_value.specs.Shares.{Charges, MemoryCauses}
 use Rattle.ion_binary.specs.declared.open_value.OpenValue.{OpenValue}
+use Rattle.ion_value.specs.declared.ion_type.Kind.{Kind}
 use Rattle.ion_value.specs.Number.{var_uint_octets}
 use Rattle.ion_value.specs.Standing.{InRange}
 use Rattle.ion_value.specs.Value as value
@@ -15,7 +16,8 @@ use Rattle.ion_value.specs.Value.{Head, Item, PlacedItem}
 use Rattle.ion_binary.specs.declared.scalar.Octets.{Octets}
 use Rattle.ion_binary.specs.declared.scalar.Spelled.{Spelled}
 use Rattle.ion_binary.specs.Canonical.{wrapped}
-use Rattle.ion_binary.specs.Held.{counted_ids, size_of, whole_at}
+use Rattle.ion_binary.specs.Grammar.{type_code}
+use Rattle.ion_binary.specs.Held.{counted_ids, header_at, size_of}
 use Rattle.ion_binary.specs.ItemOctets.{opening}
 use Rattle.ion_binary.specs.Counting.{ArePlaced, AreReached}
 
@@ -69,12 +71,26 @@ pub record Stepped {A : Type 0} (limits : Limits) (old new : OpenValue A) (befor
   pub alone : (f : Fault) → fault ≡ Some f → f ≡ Memory
   pub charges : Charges before after (open_cost old) (open_cost new) (open_most limits)
 
--- a scalar of these octets is put behind what comes first of its item, unless the value would be too long
-pub record PutsScalar {A : Type 0} (limits : Limits) (place : ℕ) (scalar : List ℕ) (old new : OpenValue A) (result : Result Bool Fault) : Type 0 where
-  pub octets : result ≡ Ok true → new.octets ≡ whole_at place old.octets scalar
+-- octets may be added to it
+pub record CanAdd {A : Type 0} (limits : Limits) (v : OpenValue A) (meter : Counts) : Type 0 where
+  pub can_step : CanStep limits v meter
+  pub is_open : IsOpen limits v
+
+-- they were added after the others, or were not, and nothing is changed
+pub record AddsOctets {A : Type 0} (limits : Limits) (x : List ℕ) (old new : OpenValue A) (before after : Counts) (result : Bool) : Type 0 where
+  pub octets : result ≡ true → new.octets ≡ old.octets ++ x
   pub headers : new.headers ≡ old.headers
-  pub is_open : result ≡ Ok true → IsOpen limits new
-  pub over : result ≡ Ok false → limits.value < size_of (whole_at place old.octets scalar) old.headers
+  pub is_open : result ≡ true → IsOpen limits new
+  pub declines : result ≡ false → (new ≡ old) × (after ≡ before)
+  pub stepped : Stepped limits old new before after None
+
+-- a container begins after them, or nothing is changed
+pub record Begins {A : Type 0} (limits : Limits) (x : List ℕ) (kind : Kind) (old new : OpenValue A) (before after : Counts) (result : Bool) : Type 0 where
+  pub octets : result ≡ true → new.octets ≡ old.octets ++ x
+  pub headers : result ≡ true → new.headers ≡ header_at (length old.octets + length x) (type_code kind) ∷ old.headers
+  pub is_open : result ≡ true → IsOpen limits new
+  pub declines : result ≡ false → (new ≡ old) × (after ≡ before)
+  pub stepped : Stepped limits old new before after None
 
 -- both parts
 abbrev pub both_octets : Octets → List ℕ

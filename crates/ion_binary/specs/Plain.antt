@@ -7,7 +7,7 @@ use Rattle.ion_value.specs.Value as value
 use Rattle.ion_value.specs.Value.{SymbolAt, user_symbol_at, Head, PlacedItem}
 use Rattle.ion_value.specs.declared.plain_item.SecondAt.{SecondAt}
 use Rattle.ion_binary.specs.declared.writer.BinWriter.{BinWriter}
-use Rattle.ion_binary.specs.declared.writer.plain.SingleItem.{SingleItem}
+use Rattle.ion_binary.specs.declared.writer.single.SingleItem.{SingleItem}
 use Rattle.ion_symbols.specs.Output.{texts_cost}
 use Rattle.ion_binary.specs.Canonical.{with_symbol}
 use Rattle.ion_binary.specs.Held.{value_held, value_put}

@@ -15,6 +15,9 @@ use ion_meter::sink::Sink;
 use ion_symbols::output::Texts;
 use std::alloc::Allocator;
 
+/// The first id after the system table's.
+pub(crate) const FIRST_ID: u32 = 10;
+
 /// Puts the declaration of these texts, and nothing where there is none.
 ///
 /// It goes over them twice, for their lengths and for their octets, and takes no memory.

@@ -5,8 +5,7 @@ ghost use Rattle.ion_binary.specs.Canonical.{wrapped};
 ghost use Rattle.ion_binary.specs.Held.{counted_ids};
 ghost use Rattle.ion_binary.specs.Opening.{both_octets, name_octets, noted_by};
 
-use crate::open_value::wrapper;
-use crate::opening::LONGEST;
+use crate::opening::{LONGEST, wrapper};
 use crate::scalar::Octets;
 use arrayvec::ArrayVec;
 use ion_meter::limits::Limits;

@@ -1,19 +1,17 @@
 //! The value at top level that is being written.
-ghost use Rattle.std.specs.Prelude.{◌≡◌, ◌+◌, ◌-◌, ◌*◌, ◌^◌, ◌<◌, ◌≤◌, ℕ, List, true, false, [], ◌∷◌, ◌++◌, if◌then◌else◌, length, drop, take, Ok, OnOk, OnErr, IfErr, None};
+ghost use Rattle.std.specs.Prelude.{◌≡◌, ◌+◌, ◌-◌, ◌*◌, ◌^◌, ◌<◌, ◌≤◌, ℕ, List, true, false, [], ◌++◌, length, drop, take, Ok, OnOk, OnErr, IfErr, None};
 ghost use Rattle.ion_meter.specs.Counts.{Grows, IsRefused, Shrinks};
 ghost use Rattle.ion_meter.specs.declared.limits.Limits.{Limits};
 ghost use Rattle.ion_value.specs.Items.{raw_head};
 ghost use Rattle.ion_value.specs.Shares.{fault_of};
 ghost use Rattle.ion_value.specs.Value.{UserSymbol};
 ghost use Rattle.ion_binary.specs.Counting.{IsCounted, IsCountedTo, AreReached, content_around, counted_length, cut, sizes_from};
-ghost use Rattle.ion_value.specs.Int.{IsInt};
-ghost use Rattle.ion_value.specs.Number.{uint_octets};
-ghost use Rattle.ion_binary.specs.Canonical.{headed, header};
+ghost use Rattle.ion_binary.specs.Canonical.{header};
 ghost use Rattle.ion_binary.specs.Grammar.{type_code};
-ghost use Rattle.ion_binary.specs.Held.{begun_at, begun_headers, closed_in, headers_around, innermost_in, moved_headers, moved_octets, size_of, whole_at, wrapper_headers, header_at};
+ghost use Rattle.ion_binary.specs.Held.{begun_at, begun_headers, closed_in, headers_around, innermost_in, moved_headers, moved_octets, size_of, whole_at, wrapper_headers};
 ghost use Rattle.ion_binary.specs.ItemOctets.{head_name, user_head};
 ghost use Rattle.ion_meter.specs.Limits.{AreChecked};
-ghost use Rattle.ion_binary.specs.Opening.{CanStep, IsOpen, IsOpenTo, IsWithin, MayFollow, PutsScalar, Raises, Stepped, both_octets, name_octets, open_cost, spelled_octets, wrapper_octets};
+ghost use Rattle.ion_binary.specs.Opening.{AddsOctets, Begins, CanAdd, CanStep, IsOpen, IsOpenTo, IsWithin, MayFollow, Raises, Stepped, both_octets, name_octets, open_cost};
 
 mod ended;
 mod plain;
@@ -21,14 +19,12 @@ mod plain;
 use crate::front::Front;
 use crate::header::header;
 use crate::headers::{HeaderPlace, Headers};
-use crate::opening::{LONGEST, opening};
-use crate::scalar::{Octets, Spelled, spell, spell_int, with_lent};
-use arrayvec::ArrayVec;
+use crate::opening::{WRAPPER, wrapper};
+use crate::scalar::{Octets, spell};
 use ion_meter::buf::Buf;
 use ion_meter::fault::Fault;
 use ion_meter::limits::Limits;
 use ion_meter::meter::Meter;
-use ion_value::int::Int;
 use ion_value::ion_type::Kind;
 use ion_value::item::Head;
 use ion_value::var::var_uint_write;
@@ -39,9 +35,6 @@ const THRESHOLDS: [u64; 5] = [14, 128, 16_384, 2_097_152, 268_435_456];
 
 /// From so many octets on a container's header waits where it ends, and goes in with others.
 pub(crate) const LONG: usize = 4096;
-
-/// The type code of annotations.
-pub(crate) const WRAPPER: u8 = 14;
 
 /// The value at top level that is open: its octets without the headers of its open containers, and
 /// these headers.
@@ -303,10 +296,12 @@ impl<A: Allocator + Copy> OpenValue<A> {
                 Err(fault) => Err(fault),
             },
             Head::Marker => Ok(true),
-            Head::Int(int) => self.int(meter, limits, front.ids, int),
-            Head::Symbol(_) => self.number(meter, limits, front.ids, 7, u64::from(front.name)),
-            Head::String(text) => self.text(meter, limits, front.ids, text),
-            scalar => self.spelled(meter, limits, front.ids, &spell(scalar, front.name)),
+            scalar => self.whole(
+                meter,
+                limits,
+                front.ids,
+                &spell(scalar, front.name).octets(),
+            ),
         }
     }
 
@@ -336,14 +331,9 @@ impl<A: Allocator + Copy> OpenValue<A> {
         limits: Limits,
         octets: &Octets<'_>,
     ) -> bool
-        requires can_step { CanStep limits self.old meter.old }
-        requires open { IsOpen limits self.old }
-        ensures octets { result ≡ true
-            → self.new.octets ≡ self.old.octets ++ both_octets octets.now }
-        ensures headers { self.new.headers ≡ self.old.headers }
-        ensures open { result ≡ true → IsOpen limits self.new }
-        ensures declines { result ≡ false → (self.new ≡ self.old) × (meter.new ≡ meter.old) }
-        ensures stepped { Stepped limits self.old self.new meter.old meter.new None }
+        requires { CanAdd limits self.old meter.old }
+        ensures { AddsOctets limits (both_octets octets.now)
+            self.old self.new meter.old meter.new result }
     {
         if !self.surely_fits(limits, octets.front.len() + octets.rest.len(), 0) {
             return false;
@@ -360,16 +350,10 @@ impl<A: Allocator + Copy> OpenValue<A> {
         name: u32,
         kind: Kind,
     ) -> bool
-        requires can_step { CanStep limits.now self.old meter.old }
-        requires open { IsOpen limits.now self.old }
+        requires can_add { CanAdd limits.now self.old meter.old }
         requires deep { length self.old.headers + 1 ≤ 2 * limits.now.depth }
-        ensures octets { result ≡ true → self.new.octets ≡ self.old.octets ++ name_octets name }
-        ensures headers { result ≡ true → self.new.headers
-            ≡ header_at (length self.old.octets + length (name_octets name)) (type_code kind)
-            ∷ self.old.headers }
-        ensures open { result ≡ true → IsOpen limits.now self.new }
-        ensures declines { result ≡ false → (self.new ≡ self.old) × (meter.new ≡ meter.old) }
-        ensures stepped { Stepped limits.now self.old self.new meter.old meter.new None }
+        ensures { Begins limits.now (name_octets name) kind
+            self.old self.new meter.old meter.new result }
     {
         if name == 0 {
             return self.begin_if_room(meter, *limits, &[], kind);
@@ -391,16 +375,9 @@ impl<A: Allocator + Copy> OpenValue<A> {
         front: &[u8],
         kind: Kind,
     ) -> bool
-        requires can_step { CanStep limits self.old meter.old }
-        requires open { IsOpen limits self.old }
+        requires can_add { CanAdd limits self.old meter.old }
         requires deep { length self.old.headers + 1 ≤ 2 * limits.depth }
-        ensures octets { result ≡ true → self.new.octets ≡ self.old.octets ++ front.now }
-        ensures headers { result ≡ true → self.new.headers
-            ≡ header_at (length self.old.octets + length front.now) (type_code kind)
-            ∷ self.old.headers }
-        ensures open { result ≡ true → IsOpen limits self.new }
-        ensures declines { result ≡ false → (self.new ≡ self.old) × (meter.new ≡ meter.old) }
-        ensures stepped { Stepped limits self.old self.new meter.old meter.new None }
+        ensures { Begins limits front.now kind self.old self.new meter.old meter.new result }
     {
         if !self.surely_fits(limits, front.len(), 1) {
             return false;
@@ -456,114 +433,6 @@ impl<A: Allocator + Copy> OpenValue<A> {
         let _last = self.headers.pop(meter);
         self.octets.clear(meter);
         self.counts = [0; 5];
-    }
-
-    // Puts an int: one that 64 bits hold without an `ArrayVec` of its octets, which would be moved.
-    fn int(
-        &mut self,
-        meter: &mut Meter<A>,
-        limits: Limits,
-        place: usize,
-        int: Int,
-    ) -> Result<bool, Fault>
-        requires can_step { CanStep limits self.old meter.old }
-        requires open { IsOpenTo self.old place }
-        requires range { IsInt int }
-        ensures puts { PutsScalar limits place
-            (headed (if int.negative then 3 else 2) (uint_octets int.magnitude))
-            self.old self.new result }
-        ensures stepped { Stepped limits self.old self.new meter.old meter.new (fault_of result) }
-    {
-        let code = if int.negative { 3 } else { 2 };
-        match u64::try_from(int.magnitude) {
-            Ok(n) => self.number(meter, limits, place, code, n),
-            Err(_) => self.spelled(meter, limits, place, &spell_int(int)),
-        }
-    }
-
-    // Puts a scalar whose body is a number of 64 bits.
-    fn number(
-        &mut self,
-        meter: &mut Meter<A>,
-        limits: Limits,
-        place: usize,
-        code: u8,
-        n: u64,
-    ) -> Result<bool, Fault>
-        requires can_step { CanStep limits self.old meter.old }
-        requires open { IsOpenTo self.old place }
-        requires code { code < 16 }
-        ensures puts { PutsScalar limits place (headed code (uint_octets n))
-            self.old self.new result }
-        ensures stepped { Stepped limits self.old self.new meter.old meter.new (fault_of result) }
-    {
-        let octets = n.to_be_bytes();
-        let zeros = n.leading_zeros() as usize / 8;
-        self.short(meter, limits, place, code, &octets[zeros..])
-    }
-
-    // Puts a string.
-    fn text(
-        &mut self,
-        meter: &mut Meter<A>,
-        limits: Limits,
-        place: usize,
-        text: &[u8],
-    ) -> Result<bool, Fault>
-        requires can_step { CanStep limits self.old meter.old }
-        requires open { IsOpenTo self.old place }
-        ensures puts { PutsScalar limits place (headed 8 text.now) self.old self.new result }
-        ensures stepped { Stepped limits self.old self.new meter.old meter.new (fault_of result) }
-    {
-        if text.len() < 14 {
-            return self.short(meter, limits, place, 8, text);
-        }
-        self.spelled(meter, limits, place, &with_lent(8, text))
-    }
-
-    // Puts a scalar whose body has fewer than fourteen octets: its header is one.
-    fn short(
-        &mut self,
-        meter: &mut Meter<A>,
-        limits: Limits,
-        place: usize,
-        code: u8,
-        body: &[u8],
-    ) -> Result<bool, Fault>
-        requires can_step { CanStep limits self.old meter.old }
-        requires open { IsOpenTo self.old place }
-        requires code { code < 16 }
-        requires short { length body.now < 14 }
-        ensures puts { PutsScalar limits place (headed code body.now) self.old self.new result }
-        ensures stepped { Stepped limits self.old self.new meter.old meter.new (fault_of result) }
-    {
-        let header = [16 * code + body.len() as u8];
-        let octets = Octets {
-            front: &header,
-            rest: body,
-        };
-        self.whole(meter, limits, place, &octets)
-    }
-
-    // Puts a scalar that is spelled.
-    fn spelled(
-        &mut self,
-        meter: &mut Meter<A>,
-        limits: Limits,
-        place: usize,
-        scalar: &Spelled<'_>,
-    ) -> Result<bool, Fault>
-        requires can_step { CanStep limits self.old meter.old }
-        requires open { IsOpenTo self.old place }
-        ensures puts { PutsScalar limits place (spelled_octets scalar.now)
-            self.old self.new result }
-        ensures stepped { Stepped limits self.old self.new meter.old meter.new (fault_of result) }
-    {
-        let octets = Octets {
-            front: scalar.front.as_slice(),
-            rest: scalar.lent,
-        };
-        self.whole(meter, limits, place, &octets)
     }
 
     // Puts the length of annotations before their ids, where there are any, which begin at a place.
@@ -696,20 +565,6 @@ fn extend_some<A: Allocator + Copy>(
         return Ok(());
     }
     octets.extend(meter, more)
-}
-
-/// What stands before the ids of annotations of so many octets and a value of so many: the header of
-/// all of it, and the length of the ids. Where there are none, nothing does.
-pub(crate) fn wrapper(ids: u64, value: u64) -> ArrayVec<u8, LONGEST>
-    requires ids { ids ≤ 2 ^ 32 }
-    requires value { value ≤ 2 ^ 32 }
-    ensures octets { result.items ≡ wrapper_octets ids value }
-    ensures few { length result.items ≤ 20 }
-{
-    if ids == 0 {
-        return ArrayVec::new();
-    }
-    opening(WRAPPER, var_uint_write(ids).as_slice(), ids + value)
 }
 
 // The type code of a container.

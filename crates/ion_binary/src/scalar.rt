@@ -1,5 +1,5 @@
 //! The octets of scalars.
-ghost use Rattle.std.specs.Prelude.{◌≡◌, ℕ, ◌<◌, ◌≤◌, if◌then◌else◌, [], ◌∷◌, ◌++◌, length};
+ghost use Rattle.std.specs.Prelude.{◌≡◌, ℕ, ◌<◌, ◌≤◌, if◌then◌else◌, [], ◌∷◌, length};
 ghost use Rattle.ion_value.specs.Int.{IsInt};
 ghost use Rattle.ion_value.specs.Items.{raw_head};
 ghost use Rattle.ion_value.specs.Number.{uint_octets};
@@ -7,7 +7,7 @@ ghost use Rattle.ion_value.specs.Scalar.{type_code};
 ghost use Rattle.ion_value.specs.Value.{UserSymbol};
 ghost use Rattle.ion_value.specs.Standing.{HeadInRange};
 ghost use Rattle.ion_binary.specs.Canonical.{headed};
-ghost use Rattle.ion_binary.specs.Opening.{both_octets};
+ghost use Rattle.ion_binary.specs.Opening.{both_octets, spelled_octets};
 ghost use Rattle.ion_binary.specs.ItemOctets.{head_name, head_octets, user_head};
 
 use crate::opening::{LONGEST, opening};
@@ -25,6 +25,19 @@ pub(crate) struct Spelled<'a> {
     pub(crate) front: ArrayVec<u8, LONGEST>,
     /// The body that is lent, if any.
     pub(crate) lent: &'a [u8],
+}
+
+impl<'a> Spelled<'a> {
+    /// Both parts.
+    #[inline(always)]
+    pub(crate) fn octets(&self) -> Octets<'_>
+        ensures { both_octets result ≡ spelled_octets self.entry.now }
+    {
+        Octets {
+            front: self.front.as_slice(),
+            rest: self.lent,
+        }
+    }
 }
 
 /// Octets in two parts, as they are put.
@@ -50,7 +63,7 @@ impl<'a> Octets<'a> {
 pub(crate) fn spell<'a>(head: Head<'a>, name: u32) -> Spelled<'a>
     requires range { HeadInRange (raw_head head) }
     ensures { (ids : UserSymbol → ℕ) → name ≡ head_name ids (user_head head.entry)
-        → result.front.items ++ result.lent.now ≡ head_octets ids (user_head head.entry) }
+        → spelled_octets result ≡ head_octets ids (user_head head.entry) }
 {
     match head {
         Head::Null(of) => one(16 * type_code(of) + 15),
@@ -95,7 +108,7 @@ pub(crate) fn type_code(of: IonType) -> u8
 // One octet.
 #[inline]
 fn one<'a>(octet: u8) -> Spelled<'a>
-    ensures { result.front.items ++ result.lent.now ≡ octet ∷ [] }
+    ensures { spelled_octets result ≡ octet ∷ [] }
 {
     let mut front = ArrayVec::new();
     front.push(octet);
@@ -107,7 +120,7 @@ fn one<'a>(octet: u8) -> Spelled<'a>
 fn with_body<'a>(code: u8, body: &[u8]) -> Spelled<'a>
     requires code { code < 16 }
     requires short { length body.now ≤ 26 }
-    ensures { result.front.items ++ result.lent.now ≡ headed code body.now }
+    ensures { spelled_octets result ≡ headed code body.now }
 {
     Spelled {
         front: opening(code, body, 0),
@@ -115,11 +128,11 @@ fn with_body<'a>(code: u8, body: &[u8]) -> Spelled<'a>
     }
 }
 
-/// A header, and a body that is lent.
+// A header, and a body that is lent.
 #[inline]
-pub(crate) fn with_lent<'a>(code: u8, body: &'a [u8]) -> Spelled<'a>
+fn with_lent<'a>(code: u8, body: &'a [u8]) -> Spelled<'a>
     requires { code < 16 }
-    ensures { result.front.items ++ result.lent.now ≡ headed code body.now }
+    ensures { spelled_octets result ≡ headed code body.now }
 {
     Spelled {
         front: opening(code, &[], body.len() as u64),
@@ -131,7 +144,7 @@ pub(crate) fn with_lent<'a>(code: u8, body: &'a [u8]) -> Spelled<'a>
 #[inline]
 pub(crate) fn spell_int<'a>(int: Int) -> Spelled<'a>
     requires range { IsInt int }
-    ensures { result.front.items ++ result.lent.now
+    ensures { spelled_octets result
         ≡ headed (if int.negative then 3 else 2) (uint_octets int.magnitude) }
 {
     with_body(
@@ -143,7 +156,7 @@ pub(crate) fn spell_int<'a>(int: Int) -> Spelled<'a>
 // A symbol of this id.
 #[inline]
 fn spell_id<'a>(id: u32) -> Spelled<'a>
-    ensures { result.front.items ++ result.lent.now ≡ headed 7 (uint_octets id) }
+    ensures { spelled_octets result ≡ headed 7 (uint_octets id) }
 {
     let id = Int {
         negative: false,

@@ -2,10 +2,7 @@
 //! or rare, it shows nothing, and the item is read by `value`.
 ghost use Rattle.std.specs.Prelude.{◌≡◌, ◌+◌, ◌-◌, ◌*◌, ◌^◌, ◌<◌, ◌≤◌, get_or, length, Some, Ok, IfSome};
 ghost use Rattle.ion_value.specs.Int.{int_of_bytes};
-ghost use Rattle.ion_value.specs.Number.{uint};
 ghost use Rattle.ion_value.specs.Scalar.{scalar_of_body, with_value};
-ghost use Rattle.ion_value.specs.Decimal.{decimal_of_bytes};
-ghost use Rattle.ion_value.specs.Timestamp.{timestamp_of_bytes};
 ghost use Rattle.ion_value.specs.Value.{decimal, int, timestamp};
 ghost use Rattle.ion_value.specs.Standing.{InRange};
 ghost use Rattle.ion_binary.specs.Bodies.{IsBodyTypeCode};
@@ -104,15 +101,20 @@ fn shown_length(octets: &[u8], at: usize, length_code: u8) -> Option<(u64, usize
 #[inline(always)]
 fn shown_body(type_code: u8, octets: &[u8]) -> Option<ShownScalar<'_>>
     requires { IsBodyTypeCode type_code }
-    ensures gives { IfSome result
-        (λ s. scalar_of_body type_code octets.now ≡ Ok (shown_scalar s)) }
+    ensures gives { IfSome result (λ s. scalar_of_body type_code octets.now ≡ Ok (shown_scalar s)) }
     ensures range { IfSome result (λ s. InRange (shown_scalar s)) }
 {
     match type_code {
         2 => shown_int(false, octets),
         3 => shown_int(true, octets),
-        5 => shown_decimal(octets),
-        6 => shown_timestamp(octets),
+        5 => match decimal_from_bytes(octets) {
+            Ok(decimal) => Some(ShownScalar::Decimal(decimal)),
+            Err(_) => None,
+        },
+        6 => match timestamp_from_bytes(octets) {
+            Ok(moment) => Some(ShownScalar::Timestamp(moment)),
+            Err(_) => None,
+        },
         7 => Some(ShownScalar::Symbol(uint_id(octets))),
         8 if is_text(octets) => Some(ShownScalar::String(octets)),
         _ => None,
@@ -137,32 +139,6 @@ fn shown_int(negative: bool, octets: &[u8]) -> Option<ShownScalar<'_>>
         negative,
         magnitude: value as u128,
     }))
-}
-
-// A decimal of these octets.
-#[inline(always)]
-fn shown_decimal(octets: &[u8]) -> Option<ShownScalar<'_>>
-    ensures gives { IfSome result
-        (λ s. with_value decimal (decimal_of_bytes octets.now) ≡ Ok (shown_scalar s)) }
-    ensures range { IfSome result (λ s. InRange (shown_scalar s)) }
-{
-    match decimal_from_bytes(octets) {
-        Ok(decimal) => Some(ShownScalar::Decimal(decimal)),
-        Err(_) => None,
-    }
-}
-
-// A timestamp of these octets.
-#[inline(always)]
-fn shown_timestamp(octets: &[u8]) -> Option<ShownScalar<'_>>
-    ensures gives { IfSome result
-        (λ s. with_value timestamp (timestamp_of_bytes octets.now) ≡ Ok (shown_scalar s)) }
-    ensures range { IfSome result (λ s. InRange (shown_scalar s)) }
-{
-    match timestamp_from_bytes(octets) {
-        Ok(moment) => Some(ShownScalar::Timestamp(moment)),
-        Err(_) => None,
-    }
 }
 
 /// The value whose descriptor stands at a place of these octets, of which the first stands at `here` in the

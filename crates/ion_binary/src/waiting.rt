@@ -13,78 +13,55 @@ use ion_value::var::var_uint_read;
 pub(crate) fn shows_item(inside: Option<Kind>, octets: &[u8]) -> bool {
     let mut rest = octets;
     'passed: loop {
-        match behind_passed(inside, rest) {
-            None => return shows_value(inside, rest),
-            Some(behind) => rest = behind,
+        let Some([octet, others @ ..]) = after_field(inside, rest) else {
+            return false;
+        };
+        let shape = Shape::of(*octet);
+        let Some(length_code) = passed_over(shape, others) else {
+            return shows_value(shape, others);
+        };
+        match after_body(length_code, others) {
+            None => return false,
+            Some(after) => rest = after,
         }
     }
 }
 
-// The octets behind a NOP pad, a version marker or what may be a declaration of a symbol table, where
-// one stands here whole.
-fn behind_passed(inside: Option<Kind>, octets: &[u8]) -> Option<&[u8]>
-    ensures { IfSome result (λ rest. length rest.now < length octets.now) }
-{
-    match behind_field(inside, octets)? {
-        [] => None,
-        [octet, others @ ..] => match Shape::of(*octet) {
-            Shape::NopPad(length_code) => behind_body(length_code, others),
-            Shape::Marker => behind_marker(others),
-            Shape::Wrapper(length_code) => behind_declaration(length_code, others),
-            _ => None,
-        },
-    }
-}
-
-// Whether a value stands here whole that is nothing of these, or as much of a container as its
-// beginning needs.
-fn shows_value(inside: Option<Kind>, octets: &[u8]) -> bool {
-    let Some([octet, others @ ..]) = behind_field(inside, octets) else {
-        return false;
-    };
-    match Shape::of(*octet) {
-        Shape::Null(_) | Shape::Bool(_) | Shape::Float | Shape::Illegal => true,
-        Shape::NopPad(_) | Shape::Marker => false,
-        Shape::Sorted => behind_var_uint(others).is_some(),
-        Shape::Container(_, length_code) => sized(length_code, others).is_some(),
-        Shape::Body {
-            type_code: _,
-            length_code,
-        } => behind_body(length_code, others).is_some(),
-        Shape::Wrapper(length_code) => {
-            !may_declare(length_code, others) && behind_body(length_code, others).is_some()
-        }
-    }
-}
-
-// The octets behind the id of a field, where one must stand here.
-fn behind_field(inside: Option<Kind>, octets: &[u8]) -> Option<&[u8]>
-    ensures { IfSome result (λ rest. length rest.now ≤ length octets.now) }
-{
-    match inside {
-        Some(Kind::Struct) => behind_var_uint(octets),
-        _ => Some(octets),
-    }
-}
-
-// The octets behind those of a version marker that follow its first.
-fn behind_marker(octets: &[u8]) -> Option<&[u8]>
-    ensures { IfSome result (λ rest. length rest.now ≤ length octets.now) }
-{
-    match octets {
-        [_, _, _, rest @ ..] => Some(rest),
+// The length code of what is passed over before an item: of a NOP pad, of what may be a declaration of a
+// symbol table, and of the three octets after the first of a version marker.
+fn passed_over(shape: Shape, octets: &[u8]) -> Option<u8> {
+    match shape {
+        Shape::NopPad(length_code) => Some(length_code),
+        Shape::Marker => Some(3),
+        Shape::Wrapper(length_code) if may_declare(length_code, octets) => Some(length_code),
         _ => None,
     }
 }
 
-// The octets behind an annotation wrapper that may be a declaration, from behind its descriptor octet.
-fn behind_declaration(length_code: u8, octets: &[u8]) -> Option<&[u8]>
+// Whether what follows the descriptor octet of a value of this shape stands here whole, or as much of a
+// container as its beginning needs.
+fn shows_value(shape: Shape, octets: &[u8]) -> bool {
+    match shape {
+        Shape::Null(_) | Shape::Bool(_) | Shape::Float | Shape::Illegal => true,
+        Shape::Sorted => sized(14, octets).is_some(),
+        Shape::Container(_, length_code) => sized(length_code, octets).is_some(),
+        Shape::Body {
+            type_code: _,
+            length_code,
+        } => after_body(length_code, octets).is_some(),
+        Shape::Wrapper(length_code) => after_body(length_code, octets).is_some(),
+        Shape::NopPad(_) | Shape::Marker => false,
+    }
+}
+
+// The octets after the id of a field, where one must stand here.
+fn after_field(inside: Option<Kind>, octets: &[u8]) -> Option<&[u8]>
     ensures { IfSome result (λ rest. length rest.now ≤ length octets.now) }
 {
-    if may_declare(length_code, octets) {
-        return behind_body(length_code, octets);
+    match inside {
+        Some(Kind::Struct) => Some(sized(14, octets)?.1),
+        _ => Some(octets),
     }
-    None
 }
 
 // Whether the first annotation in a wrapper may be that of a declaration, whose id is 3.
@@ -92,21 +69,21 @@ fn may_declare(length_code: u8, octets: &[u8]) -> bool {
     let Some((_, wrapped)) = sized(length_code, octets) else {
         return false;
     };
-    matches!(behind_var_uint(wrapped), Some([0x83 | 0, ..]))
+    matches!(sized(14, wrapped), Some((_, [0x83 | 0, ..])))
 }
 
-// The octets behind a body, with its length before it.
-fn behind_body(length_code: u8, octets: &[u8]) -> Option<&[u8]>
+// The octets after a body, with its length before it.
+fn after_body(length_code: u8, octets: &[u8]) -> Option<&[u8]>
     ensures { IfSome result (λ rest. length rest.now ≤ length octets.now) }
 {
-    let (length, behind) = sized(length_code, octets)?;
-    if (behind.len() as u64) < length {
+    let (length, after) = sized(length_code, octets)?;
+    if (after.len() as u64) < length {
         return None;
     }
-    Some(&behind[length as usize..])
+    Some(&after[length as usize..])
 }
 
-// A length, and the octets behind it: 14 says that a VarUInt has it.
+// A length, and the octets after it: 14 says that a VarUInt has it.
 fn sized(length_code: u8, octets: &[u8]) -> Option<(u64, &[u8])>
     ensures { IfSome result (λ found. length found.1.now ≤ length octets.now) }
 {
@@ -115,12 +92,4 @@ fn sized(length_code: u8, octets: &[u8]) -> Option<(u64, &[u8])>
     }
     let (length, count) = var_uint_read(octets).ok()?;
     Some((length, &octets[count..]))
-}
-
-// The octets behind a VarUInt.
-fn behind_var_uint(octets: &[u8]) -> Option<&[u8]>
-    ensures { IfSome result (λ rest. length rest.now ≤ length octets.now) }
-{
-    let (_, count) = var_uint_read(octets).ok()?;
-    Some(&octets[count..])
 }

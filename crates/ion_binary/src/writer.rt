@@ -1,5 +1,5 @@
 //! The writer of binary.
-ghost use Rattle.std.specs.Prelude.{◌≡◌, ℕ, ◌+◌, ◌^◌, ◌<◌, ◌≤◌, true, false, length, List, [], None, Some, Ok, Err, OnOk, OnErr, IfErr, ◌≢◌};
+ghost use Rattle.std.specs.Prelude.{◌≡◌, ℕ, ◌+◌, ◌^◌, ◌<◌, ◌≤◌, true, false, length, [], None, Some, Ok, Err, OnOk, OnErr, IfErr, ◌≢◌};
 ghost use Rattle.ion_meter.specs.Counts.{Shrinks};
 ghost use Rattle.ion_meter.specs.Limits.{AreChecked};
 ghost use Rattle.ion_meter.specs.Sinks.{IsPut};
@@ -20,10 +20,12 @@ ghost use Rattle.ion_binary.specs.WriterWithin.{binary-within};
 mod fresh;
 mod pair;
 mod plain;
+mod single;
 
-use crate::declaration::put_declaration;
+use crate::declaration::{FIRST_ID, put_declaration};
 use crate::front::put_front;
-use crate::open_value::{LONG, OpenValue, WRAPPER};
+use crate::open_value::{LONG, OpenValue};
+use crate::opening::WRAPPER;
 use crate::put::put;
 use ion_meter::device::Output;
 use ion_meter::fault::{Fault, Reason};
@@ -35,14 +37,11 @@ use ion_value::item::{Head, Item};
 use ion_value::names::Names;
 use ion_value::plain_item::PlainItem;
 use ion_value::writer::ValueWriter;
-use plain::single_of;
+use single::single_of;
 use std::alloc::Allocator;
 
 /// The version marker of Ion 1.0.
 const MARKER: [u8; 4] = [0xE0, 0x01, 0x00, 0xEA];
-
-/// The first id behind the system table's.
-const FIRST_ID: u32 = 10;
 
 /// Writes values in the canonical binary form: a version marker, and each value behind a declaration
 /// of those of its texts that are new.

@@ -1,8 +1,8 @@
 //! Plain scalars, which are put where there is room for them, the octets before a body as one block.
-ghost use Rattle.std.specs.Prelude.{◌≡◌, ◌^◌, ◌<◌, ◌≤◌, ◌∷◌, [], ◌++◌, true, false, if◌then◌else◌, length, take, None};
+ghost use Rattle.std.specs.Prelude.{◌≡◌, ◌^◌, ◌<◌, ◌≤◌, ◌∷◌, [], ◌++◌, false, if◌then◌else◌, length, take};
 ghost use Rattle.ion_value.specs.Number.{coefficient_octets, uint_octets};
 ghost use Rattle.ion_binary.specs.Canonical.{headed};
-ghost use Rattle.ion_binary.specs.Opening.{CanStep, IsOpen, Stepped, both_octets, noted, noted_by};
+ghost use Rattle.ion_binary.specs.Opening.{AddsOctets, CanAdd, both_octets, noted, noted_by};
 
 use super::OpenValue;
 use crate::few::{Few, few_header, few_number, noted_front};
@@ -26,14 +26,9 @@ impl<A: Allocator + Copy> OpenValue<A> {
         note: u32,
         scalar: &Octets<'_>,
     ) -> bool
-        requires can_step { CanStep limits.now self.old meter.old }
-        requires open { IsOpen limits.now self.old }
-        ensures octets { result ≡ true → self.new.octets
-            ≡ self.old.octets ++ noted name note (both_octets scalar.now) }
-        ensures headers { self.new.headers ≡ self.old.headers }
-        ensures open { result ≡ true → IsOpen limits.now self.new }
-        ensures declines { result ≡ false → (self.new ≡ self.old) × (meter.new ≡ meter.old) }
-        ensures stepped { Stepped limits.now self.old self.new meter.old meter.new None }
+        requires { CanAdd limits.now self.old meter.old }
+        ensures { AddsOctets limits.now (noted name note (both_octets scalar.now))
+            self.old self.new meter.old meter.new result }
     {
         if note == 0 {
             return self.put_behind(meter, limits, name, &[], scalar);
@@ -53,15 +48,10 @@ impl<A: Allocator + Copy> OpenValue<A> {
         notes: &[u8],
         scalar: &Octets<'_>,
     ) -> bool
-        requires can_step { CanStep limits.now self.old meter.old }
-        requires open { IsOpen limits.now self.old }
+        requires can_add { CanAdd limits.now self.old meter.old }
         requires few { length notes.now ≤ 20 }
-        ensures octets { result ≡ true → self.new.octets
-            ≡ self.old.octets ++ noted_by name notes.now (both_octets scalar.now) }
-        ensures headers { self.new.headers ≡ self.old.headers }
-        ensures open { result ≡ true → IsOpen limits.now self.new }
-        ensures declines { result ≡ false → (self.new ≡ self.old) × (meter.new ≡ meter.old) }
-        ensures stepped { Stepped limits.now self.old self.new meter.old meter.new None }
+        ensures { AddsOctets limits.now (noted_by name notes.now (both_octets scalar.now))
+            self.old self.new meter.old meter.new result }
     {
         let Some(front) = noted_scalar(limits, name, notes, scalar) else {
             return false;
@@ -83,14 +73,9 @@ impl<A: Allocator + Copy> OpenValue<A> {
         note: u32,
         octet: u8,
     ) -> bool
-        requires can_step { CanStep limits.now self.old meter.old }
-        requires open { IsOpen limits.now self.old }
-        ensures octets { result ≡ true → self.new.octets
-            ≡ self.old.octets ++ noted name note (octet ∷ []) }
-        ensures headers { self.new.headers ≡ self.old.headers }
-        ensures open { result ≡ true → IsOpen limits.now self.new }
-        ensures declines { result ≡ false → (self.new ≡ self.old) × (meter.new ≡ meter.old) }
-        ensures stepped { Stepped limits.now self.old self.new meter.old meter.new None }
+        requires { CanAdd limits.now self.old meter.old }
+        ensures { AddsOctets limits.now (noted name note (octet ∷ []))
+            self.old self.new meter.old meter.new result }
     {
         let front = Few::one(octet);
         self.put_few(meter, limits, name, note, &front, [0; 8], 0)
@@ -107,15 +92,10 @@ impl<A: Allocator + Copy> OpenValue<A> {
         code: u8,
         n: u64,
     ) -> bool
-        requires can_step { CanStep limits.now self.old meter.old }
-        requires open { IsOpen limits.now self.old }
+        requires can_add { CanAdd limits.now self.old meter.old }
         requires code { code < 16 }
-        ensures octets { result ≡ true → self.new.octets
-            ≡ self.old.octets ++ noted name note (headed code (uint_octets n)) }
-        ensures headers { self.new.headers ≡ self.old.headers }
-        ensures open { result ≡ true → IsOpen limits.now self.new }
-        ensures declines { result ≡ false → (self.new ≡ self.old) × (meter.new ≡ meter.old) }
-        ensures stepped { Stepped limits.now self.old self.new meter.old meter.new None }
+        ensures { AddsOctets limits.now (noted name note (headed code (uint_octets n)))
+            self.old self.new meter.old meter.new result }
     {
         let number = few_number(code, n);
         self.put_few(
@@ -141,16 +121,12 @@ impl<A: Allocator + Copy> OpenValue<A> {
         negative: bool,
         coefficient: u64,
     ) -> bool
-        requires can_step { CanStep limits.now self.old meter.old }
-        requires open { IsOpen limits.now self.old }
+        requires can_add { CanAdd limits.now self.old meter.old }
         requires some { 0 < coefficient }
         requires most { coefficient < 2 ^ 63 }
-        ensures octets { result ≡ true → self.new.octets ≡ self.old.octets
-            ++ noted name note (headed 5 (exponent ∷ coefficient_octets negative coefficient)) }
-        ensures headers { self.new.headers ≡ self.old.headers }
-        ensures open { result ≡ true → IsOpen limits.now self.new }
-        ensures declines { result ≡ false → (self.new ≡ self.old) × (meter.new ≡ meter.old) }
-        ensures stepped { Stepped limits.now self.old self.new meter.old meter.new None }
+        ensures { AddsOctets limits.now
+            (noted name note (headed 5 (exponent ∷ coefficient_octets negative coefficient)))
+            self.old self.new meter.old meter.new result }
     {
         let zeros = (coefficient.leading_zeros() - 1) / 8;
         let size = 8 - zeros as usize;
@@ -170,14 +146,9 @@ impl<A: Allocator + Copy> OpenValue<A> {
         note: u32,
         text: &[u8],
     ) -> bool
-        requires can_step { CanStep limits.now self.old meter.old }
-        requires open { IsOpen limits.now self.old }
-        ensures octets { result ≡ true → self.new.octets
-            ≡ self.old.octets ++ noted name note (headed 8 text.now) }
-        ensures headers { self.new.headers ≡ self.old.headers }
-        ensures open { result ≡ true → IsOpen limits.now self.new }
-        ensures declines { result ≡ false → (self.new ≡ self.old) × (meter.new ≡ meter.old) }
-        ensures stepped { Stepped limits.now self.old self.new meter.old meter.new None }
+        requires { CanAdd limits.now self.old meter.old }
+        ensures { AddsOctets limits.now (noted name note (headed 8 text.now))
+            self.old self.new meter.old meter.new result }
     {
         let Some(header) = few_header(8, text.len()) else {
             return self.put_long(meter, limits, name, note, text);
@@ -203,14 +174,9 @@ impl<A: Allocator + Copy> OpenValue<A> {
         note: u32,
         text: &[u8],
     ) -> bool
-        requires can_step { CanStep limits.now self.old meter.old }
-        requires open { IsOpen limits.now self.old }
-        ensures octets { result ≡ true → self.new.octets
-            ≡ self.old.octets ++ noted name note (headed 8 text.now) }
-        ensures headers { self.new.headers ≡ self.old.headers }
-        ensures open { result ≡ true → IsOpen limits.now self.new }
-        ensures declines { result ≡ false → (self.new ≡ self.old) × (meter.new ≡ meter.old) }
-        ensures stepped { Stepped limits.now self.old self.new meter.old meter.new None }
+        requires { CanAdd limits.now self.old meter.old }
+        ensures { AddsOctets limits.now (noted name note (headed 8 text.now))
+            self.old self.new meter.old meter.new result }
     {
         let before = header(8, text.len() as u64);
         let octets = Octets {
@@ -232,16 +198,11 @@ impl<A: Allocator + Copy> OpenValue<A> {
         body: [u8; 8],
         size: usize,
     ) -> bool
-        requires can_step { CanStep limits.now self.old meter.old }
-        requires open { IsOpen limits.now self.old }
+        requires can_add { CanAdd limits.now self.old meter.old }
         requires few { length front.now ≤ 2 }
         requires size { size ≤ 8 }
-        ensures octets { result ≡ true → self.new.octets
-            ≡ self.old.octets ++ noted name note (front.now ++ take size body) }
-        ensures headers { self.new.headers ≡ self.old.headers }
-        ensures open { result ≡ true → IsOpen limits.now self.new }
-        ensures declines { result ≡ false → (self.new ≡ self.old) × (meter.new ≡ meter.old) }
-        ensures stepped { Stepped limits.now self.old self.new meter.old meter.new None }
+        ensures { AddsOctets limits.now (noted name note (front.now ++ take size body))
+            self.old self.new meter.old meter.new result }
     {
         let Some(whole) = noted_front(front, size, name, note) else {
             return self.put_behind_long(meter, limits, name, note, front, body, size);
@@ -266,16 +227,11 @@ impl<A: Allocator + Copy> OpenValue<A> {
         body: [u8; 8],
         size: usize,
     ) -> bool
-        requires can_step { CanStep limits.now self.old meter.old }
-        requires open { IsOpen limits.now self.old }
+        requires can_add { CanAdd limits.now self.old meter.old }
         requires few { length front.now ≤ 2 }
         requires size { size ≤ 8 }
-        ensures octets { result ≡ true → self.new.octets
-            ≡ self.old.octets ++ noted name note (front.now ++ take size body) }
-        ensures headers { self.new.headers ≡ self.old.headers }
-        ensures open { result ≡ true → IsOpen limits.now self.new }
-        ensures declines { result ≡ false → (self.new ≡ self.old) × (meter.new ≡ meter.old) }
-        ensures stepped { Stepped limits.now self.old self.new meter.old meter.new None }
+        ensures { AddsOctets limits.now (noted name note (front.now ++ take size body))
+            self.old self.new meter.old meter.new result }
     {
         let first = front.block();
         let octets = Octets {

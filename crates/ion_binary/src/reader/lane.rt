@@ -1,112 +1,38 @@
 //! Items that lie whole in the window, handed to a writer.
-ghost use Rattle.std.specs.Prelude.{◌≡◌, ◌+◌, ◌*◌, ◌-◌, ◌^◌, ◌<◌, ◌≤◌, get_or, length, false, true, Option, Some, None, IfSome, map};
+ghost use Rattle.std.specs.Prelude.{◌≡◌, ◌+◌, ◌*◌, ◌-◌, ◌^◌, ◌<◌, ◌≤◌, get_or, length, drop, false, true, Option, Some, None, IfSome};
 ghost use Rattle.ion_value.specs.Items.{named_at, named_item, raw_head};
 ghost use Rattle.ion_value.specs.PlainItems.{IsKnownHead, IsTextOf};
-ghost use Rattle.ion_binary.specs.Lane.{CanHand, EndsHere, GoesOn, Handed, HandsOn, IsAround, FillsTo, ShowsField, ShowsFront, frame_in, inner_region, kind_around};
-ghost use Rattle.ion_value.specs.Feeding.{CanTake};
-ghost use Rattle.ion_binary.specs.Steps.{IsSized, IsSound, held_by, left_to, opened_in};
+ghost use Rattle.ion_binary.specs.Reader.{kinds_of};
+ghost use Rattle.ion_binary.specs.Lane.{CanHand, CanHandFront, CanHandMember, CanHandOn, CanHandShape, HandsAt, EndsHere, HandsOn, IsAround, FillsTo, frame_in, inner_region};
+ghost use Rattle.ion_value.specs.Outcome.{one_if_closed};
+ghost use Rattle.ion_binary.specs.Steps.{IsSized, opened_in};
 ghost use Rattle.ion_binary.specs.Positions.{placed_scalar};
 ghost use Rattle.ion_binary.specs.Reading.{region_of, top_of};
-ghost use Rattle.ion_binary.specs.Descriptor.{Region, body, shape_of};
+ghost use Rattle.ion_binary.specs.Descriptor.{body, shape_of};
 ghost use Rattle.ion_binary.specs.Shapes.{as_shape};
-ghost use Rattle.ion_binary.specs.Shown.{Bounds, ShowsValue, far_end, shown_scalar};
+ghost use Rattle.ion_binary.specs.Shown.{ShowsValue, far_end, shown_scalar};
+ghost use Rattle.ion_meter.specs.Counts.{Shrinks};
 ghost use Rattle.ion_meter.specs.Sources.{Stands};
 ghost use Rattle.ion_meter.specs.Windows.{CanPass, IsPassed, lent};
 ghost use Rattle.ion_binary.specs.Wrappers.{as_frames, innermost};
 ghost use Rattle.ion_value.specs.Value.{Text, map_head, symbol, whole};
 
-use super::texts::{begins_with_dollar, shown_text};
-use super::{BinReader, values_behind};
-use crate::body::id_of;
+use super::front::{
+    Around, Front, Level, around_in, bare_front, ends_here, fills, inner_end, inside, other_front,
+    shown_field,
+};
+use super::{BinReader, ItemKind};
 use crate::descriptor::Shape;
-use crate::shown::{Shown, ShownScalar, shown_note, shown_value, shown_var};
+use crate::shown::{Shown, ShownScalar, shown_value};
 use crate::wrapper::Frame;
 use ion_meter::device::{Input, Output};
-use ion_meter::limits::Limits;
 use ion_meter::meter::Meter;
 use ion_meter::sink::Sink;
-use ion_value::ion_type::Kind;
 use ion_value::item::{Head, Sym, SymAt};
 use ion_value::names::Names;
-use ion_value::plain_item::{PlainItem, TextAt};
+use ion_value::plain_item::PlainItem;
 use ion_value::writer::ValueWriter;
 use std::alloc::Allocator;
-
-// What is around a member: a container of some kind, or nothing at top level. It is one octet, where an
-// optional kind would be two.
-#[derive(Clone, Copy)]
-pub(crate) enum Level {
-    List,
-    Sexp,
-    Struct,
-    Top,
-}
-
-// Where a member stands: what is around it and the place of its end; or at top level, which goes as far as
-// all places.
-#[derive(Clone, Copy)]
-pub(crate) struct Around {
-    level: Level,
-    end: u64,
-}
-
-// Where the members of the innermost container stand.
-#[inline(always)]
-pub(super) fn around_in(frames: &[Frame]) -> Around
-    ensures { IsAround (as_frames frames.now) result }
-{
-    match frames.last().copied() {
-        None => Around {
-            level: Level::Top,
-            end: u64::MAX,
-        },
-        Some(frame) => inside(frame),
-    }
-}
-
-// Where the members of this container stand.
-#[inline(always)]
-fn inside(frame: Frame) -> Around
-    ensures { (kind_around result.level ≡ Some frame.kind) × (result.end ≡ frame.end) }
-{
-    let level = match frame.kind {
-        Kind::List => Level::List,
-        Kind::Sexp => Level::Sexp,
-        Kind::Struct => Level::Struct,
-    };
-    Around {
-        level,
-        end: frame.end,
-    }
-}
-
-// The name of a field that stands before a member, and how many octets its id has; none outside
-// structs. It answers none where the window does not show an id that has a text that is known to be
-// simple, or any text where `any` says so.
-#[inline(always)]
-pub(super) fn shown_field<'n, N: Names>(
-    octets: &[u8],
-    here: u64,
-    around: Around,
-    names: &'n N,
-    any: bool,
-) -> Option<(Option<TextAt<'n>>, usize)>
-    ensures { IfSome result (λ r. ShowsField (N.text names.entry.now) octets.now here
-        (innermost (frame_in around)) r.0 r.1) }
-{
-    match around.level {
-        Level::Top | Level::List | Level::Sexp => Some((None, 0)),
-        Level::Struct => {
-            let Some((id, behind)) = shown_var(octets, 0) else {
-                return None;
-            };
-            let Some(name) = shown_text(id_of(id), here, names, any) else {
-                return None;
-            };
-            Some((Some(name), behind))
-        }
-    }
-}
 
 // A head, and its canonical text where it is a symbol whose text is simple.
 #[derive(Clone, Copy)]
@@ -184,16 +110,6 @@ fn symbol_head(text: &[u8], place: u64) -> Head<'_>
     })
 }
 
-// Whether the innermost container ends at a place.
-#[inline(always)]
-pub(super) fn ends_here(around: Around, place: u64) -> bool
-    requires top { kind_around around.level ≡ None → place < around.end }
-    ensures ends { result ≡ true → EndsHere (frame_in around) place }
-    ensures goes_on { result ≡ false → GoesOn (frame_in around) place }
-{
-    around.end <= place
-}
-
 // Where the value at top level begins that a member belongs to.
 #[inline(always)]
 fn top_at(around: Around, top: u64, here: u64) -> u64
@@ -214,137 +130,6 @@ fn far_end(here: u64, behind: usize, found: Shown<'_>) -> u64
     match found {
         Shown::Scalar(_) => here + behind as u64,
         Shown::Begin(_, end) => end,
-    }
-}
-
-// What stands in front of the head of an item that is shown: a field's name and an annotation, where what is
-// behind the field's id begins among the octets, where the head does, and the place of the end of a wrapper
-// around it.
-#[derive(Clone, Copy)]
-pub(crate) struct Front<'n> {
-    field: Option<TextAt<'n>>,
-    annotation: Option<TextAt<'n>>,
-    at: usize,
-    pub(super) head: usize,
-    wrapper: Option<u64>,
-}
-
-// The front of an item with no annotation.
-#[inline(always)]
-fn bare_front<'n>(field: Option<TextAt<'n>>, at: usize) -> Front<'n>
-    ensures { result ≡ record {
-      field = field.entry;
-      annotation = None;
-      at = at;
-      head = at;
-      wrapper = None;
-    } }
-{
-    Front {
-        field,
-        annotation: None,
-        at,
-        head: at,
-        wrapper: None,
-    }
-}
-
-// The front of an item in the annotation wrapper that begins at a place behind a field. It answers none where
-// the window does not show one that has one annotation, of a text that does not begin with a dollar sign.
-#[inline(always)]
-pub(super) fn noted_front<'n, N: Names>(
-    octets: &[u8],
-    here: u64,
-    around: Around,
-    field: Option<TextAt<'n>>,
-    at: usize,
-    limits: Limits,
-    names: &'n N,
-) -> Option<Front<'n>>
-    requires small { here + length octets.now < 2 ^ 63 }
-    requires field { ShowsField (N.text names.now) octets.now here
-        (innermost (frame_in around)) field at }
-    ensures { IfSome result (λ f. ShowsFront (N.text names.entry.now) limits octets.now here
-        (innermost (frame_in around)) f.field f.annotation f.at f.head f.wrapper) }
-{
-    if at >= octets.len() {
-        return None;
-    }
-    let Some(note) = shown_note(octets, here, at, around.end, limits) else {
-        return None;
-    };
-    let place = here + note.from as u64;
-    let Some(text) = shown_text(id_of(note.id), place, names, true) else {
-        return None;
-    };
-    if begins_with_dollar(text) {
-        return None;
-    }
-    Some(Front {
-        field,
-        annotation: Some(text),
-        at,
-        head: note.inner,
-        wrapper: Some(note.end),
-    })
-}
-
-// The front of an item that the loop over most leaves: one with an annotation, or with a name that is not
-// known to be simple. It answers none of others, which were declined there.
-#[inline(always)]
-pub(super) fn other_front<'n, N: Names>(
-    octets: &[u8],
-    here: u64,
-    around: Around,
-    field: Option<TextAt<'n>>,
-    at: usize,
-    limits: Limits,
-    names: &'n N,
-) -> Option<Front<'n>>
-    requires small { here + length octets.now < 2 ^ 63 }
-    requires field { ShowsField (N.text names.now) octets.now here
-        (innermost (frame_in around)) field at }
-    ensures { IfSome result (λ f. ShowsFront (N.text names.entry.now) limits octets.now here
-        (innermost (frame_in around)) f.field f.annotation f.at f.head f.wrapper) }
-{
-    if let Some(front) = noted_front(octets, here, around, field, at, limits, names) {
-        return Some(front);
-    }
-    if is_said_simple(field) {
-        return None;
-    }
-    Some(bare_front(field, at))
-}
-
-// Whether a name, where there is one, is known to be simple.
-#[inline(always)]
-fn is_said_simple(name: Option<TextAt<'_>>) -> bool {
-    match name {
-        Some(name) => name.simple,
-        None => true,
-    }
-}
-
-// How far a value may go: to the end of the wrapper around it, or else of its container.
-#[inline(always)]
-fn inner_end(wrapper: Option<u64>, around: u64) -> u64
-    ensures { (region : Region) → Bounds region around
-        → Bounds (inner_region wrapper region) result }
-{
-    match wrapper {
-        Some(end) => end,
-        None => around,
-    }
-}
-
-// Whether what ends at a place fills the wrapper around it.
-#[inline(always)]
-fn fills(wrapper: Option<u64>, place: u64) -> bool
-    ensures { result ≡ true → FillsTo wrapper place }
-{
-    match wrapper {
-        Some(end) => end == place,
-        None => true,
     }
 }
 
@@ -377,6 +162,19 @@ fn item_behind<'n, 'h>(
     }
 }
 
+// One value more where no container is open.
+#[inline(always)]
+pub(super) fn values_behind(values: u64, frames: &[Frame]) -> u64
+    requires { values < 2 ^ 64 - 1 }
+    ensures { result ≡ values + one_if_closed (kinds_of frames.now) }
+{
+    if frames.is_empty() {
+        values + 1
+    } else {
+        values
+    }
+}
+
 impl<I: Input, A: Allocator + Copy> BinReader<I, A> {
     // Hands items on, behind so many values at top level, as long as `hand` can: how many values ended.
     #[inline(always)]
@@ -388,14 +186,7 @@ impl<I: Input, A: Allocator + Copy> BinReader<I, A> {
         writer: &mut W,
         sink: &mut Sink<O, A>,
     ) -> u64
-        requires room { meter.old.held ≤ 2 ^ 61 + (held_by self.old + W.own writer.old) }
-        requires held { held_by self.old + W.own writer.old ≤ meter.old.held }
-        requires countable { meter.old.refused < 2 ^ 64 - 1 }
-        requires sound { IsSound self.old }
-        requires fresh { self.old.failed ≡ None }
-        requires writer { CanTake W.ValueWriter self.old.limits.depth (opened_in self.old)
-            writer.old sink.old }
-        requires few { values + left_to self.old < 2 ^ 64 - 1 }
+        requires { CanHandOn W.ValueWriter self.old writer.old sink.old meter.old values }
         ensures { HandsOn I.Input W.ValueWriter (named_item (N.text names.now)) self.old self.new
             writer.old writer.new sink.old sink.new meter.old meter.new values result }
     {
@@ -421,10 +212,8 @@ impl<I: Input, A: Allocator + Copy> BinReader<I, A> {
     ) -> bool
         requires can_hand { CanHand W.ValueWriter self.old writer.old sink.old meter.old }
         requires around { IsAround (as_frames self.old.frames) around.old }
-        ensures handed { Handed I.Input W.ValueWriter (named_item (N.text names.now))
-            self.old self.new writer.old writer.new sink.old sink.new
-            meter.old meter.new result }
-        ensures around { result ≡ true → IsAround (as_frames self.new.frames) around.new }
+        ensures { HandsAt I.Input W.ValueWriter (named_item (N.text names.now)) self.old self.new
+            writer.old writer.new sink.old sink.new meter.old meter.new around.new result }
     {
         if ends_here(*around, self.source.place()) {
             if OTHERS {
@@ -451,10 +240,8 @@ impl<I: Input, A: Allocator + Copy> BinReader<I, A> {
         requires can_hand { CanHand W.ValueWriter self.old writer.old sink.old meter.old }
         requires around { IsAround (as_frames self.old.frames) around.old }
         requires ends { EndsHere (frame_in around.old) self.old.source.place }
-        ensures handed { Handed I.Input W.ValueWriter (named_item (N.text _names.now))
-            self.old self.new writer.old writer.new sink.old sink.new
-            meter.old meter.new result }
-        ensures around { result ≡ true → IsAround (as_frames self.new.frames) around.new }
+        ensures { HandsAt I.Input W.ValueWriter (named_item (N.text _names.now)) self.old
+            self.new writer.old writer.new sink.old sink.new meter.old meter.new around.new result }
     {
         let item = PlainItem {
             field: None,
@@ -473,6 +260,27 @@ impl<I: Input, A: Allocator + Copy> BinReader<I, A> {
         true
     }
 
+    // Closes the innermost open container, whose end is here.
+    pub(super) fn close(&mut self, meter: &mut Meter<A>)
+        requires open { 0 < length self.old.frames }
+        requires held { 16 * length self.old.frames ≤ meter.old.held }
+        ensures frames { as_frames self.new.frames ≡ drop 1 (as_frames self.old.frames) }
+        ensures kinds { opened_in self.new ≡ drop 1 (opened_in self.old) }
+        ensures fewer { length self.new.frames + 1 ≡ length self.old.frames }
+        ensures end { self.new ≡ record self.old {
+          frames = self.new.frames;
+          what = ItemKind.End;
+          field = None;
+          place = self.old.source.place;
+        } }
+        ensures cost { Shrinks meter.old meter.new 16 }
+    {
+        let _closed = self.frames.pop(meter);
+        self.field = None;
+        self.what = ItemKind::End;
+        self.place = self.source.place();
+    }
+
     // The next member of the innermost container, or a value at top level.
     #[inline(always)]
     fn hand_member<N: Names, W: ValueWriter<O, A>, O: Output>(
@@ -483,13 +291,9 @@ impl<I: Input, A: Allocator + Copy> BinReader<I, A> {
         writer: &mut W,
         sink: &mut Sink<O, A>,
     ) -> bool
-        requires can_hand { CanHand W.ValueWriter self.old writer.old sink.old meter.old }
-        requires around { IsAround (as_frames self.old.frames) around.old }
-        requires goes_on { GoesOn (frame_in around.old) self.old.source.place }
-        ensures handed { Handed I.Input W.ValueWriter (named_item (N.text names.now))
-            self.old self.new writer.old writer.new sink.old sink.new
-            meter.old meter.new result }
-        ensures around { result ≡ true → IsAround (as_frames self.new.frames) around.new }
+        requires { CanHandMember W.ValueWriter self.old around.old writer.old sink.old meter.old }
+        ensures { HandsAt I.Input W.ValueWriter (named_item (N.text names.now)) self.old self.new
+            writer.old writer.new sink.old sink.new meter.old meter.new around.new result }
     {
         let here = self.source.place();
         let octets = self.source.buffer();
@@ -500,11 +304,38 @@ impl<I: Input, A: Allocator + Copy> BinReader<I, A> {
         self.hand_head::<N, W, O, false>(around, front, meter, names, writer, sink)
     }
 
+    // Hands the next member on, or value at top level, where it has an annotation or a name that is not known
+    // to be simple, and that is possible.
+    #[inline(always)]
+    fn hand_other<N: Names, W: ValueWriter<O, A>, O: Output>(
+        &mut self,
+        around: &mut Around,
+        meter: &mut Meter<A>,
+        names: &N,
+        writer: &mut W,
+        sink: &mut Sink<O, A>,
+    ) -> bool
+        requires { CanHandMember W.ValueWriter self.old around.old writer.old sink.old meter.old }
+        ensures { HandsAt I.Input W.ValueWriter (named_item (N.text names.now)) self.old self.new
+            writer.old writer.new sink.old sink.new meter.old meter.new around.new result }
+    {
+        let here = self.source.place();
+        let octets = self.source.buffer();
+        let Some((field, at)) = shown_field(octets, here, *around, names, true) else {
+            return false;
+        };
+        let limits = self.limits;
+        let Some(front) = other_front(octets, here, *around, field, at, limits, names) else {
+            return false;
+        };
+        self.hand_head::<N, W, O, true>(around, front, meter, names, writer, sink)
+    }
+
     // Hands on an item with this front. Each frequent shape of a head has a call of its own, so that
     // it is compiled for that shape alone; and each of the two loops has this function for itself, by
     // `OTHERS`, so that it has one caller, in which it is put in line.
     #[inline(always)]
-    pub(super) fn hand_head<N: Names, W: ValueWriter<O, A>, O: Output, const OTHERS: bool>(
+    fn hand_head<N: Names, W: ValueWriter<O, A>, O: Output, const OTHERS: bool>(
         &mut self,
         around: &mut Around,
         front: Front<'_>,
@@ -513,16 +344,10 @@ impl<I: Input, A: Allocator + Copy> BinReader<I, A> {
         writer: &mut W,
         sink: &mut Sink<O, A>,
     ) -> bool
-        requires can_hand { CanHand W.ValueWriter self.old writer.old sink.old meter.old }
-        requires around { IsAround (as_frames self.old.frames) around.old }
-        requires goes_on { GoesOn (frame_in around.old) self.old.source.place }
-        requires front { ShowsFront (N.text names.now) self.old.limits (lent self.old.source)
-            self.old.source.place (innermost (frame_in around.old))
-            front.field front.annotation front.at front.head front.wrapper }
-        ensures handed { Handed I.Input W.ValueWriter (named_item (N.text names.now))
-            self.old self.new writer.old writer.new sink.old sink.new
-            meter.old meter.new result }
-        ensures around { result ≡ true → IsAround (as_frames self.new.frames) around.new }
+        requires { CanHandFront W.ValueWriter (N.text names.now) self.old around.old front
+            writer.old sink.old meter.old }
+        ensures { HandsAt I.Input W.ValueWriter (named_item (N.text names.now)) self.old self.new
+            writer.old writer.new sink.old sink.new meter.old meter.new around.new result }
     {
         let octets = self.source.buffer();
         if front.head >= octets.len() {
@@ -577,19 +402,10 @@ impl<I: Input, A: Allocator + Copy> BinReader<I, A> {
         writer: &mut W,
         sink: &mut Sink<O, A>,
     ) -> bool
-        requires can_hand { CanHand W.ValueWriter self.old writer.old sink.old meter.old }
-        requires around { IsAround (as_frames self.old.frames) around.old }
-        requires goes_on { GoesOn (frame_in around.old) self.old.source.place }
-        requires front { ShowsFront (N.text names.now) self.old.limits (lent self.old.source)
-            self.old.source.place (innermost (frame_in around.old))
-            front.field front.annotation front.at front.head front.wrapper }
-        requires within { front.head < length (lent self.old.source) }
-        requires shape { body type_code length_code
-            ≡ shape_of (get_or (lent self.old.source) front.head 0) }
-        ensures handed { Handed I.Input W.ValueWriter (named_item (N.text names.now))
-            self.old self.new writer.old writer.new sink.old sink.new
-            meter.old meter.new result }
-        ensures around { result ≡ true → IsAround (as_frames self.new.frames) around.new }
+        requires { CanHandShape W.ValueWriter (N.text names.now) self.old around.old front
+            (body type_code length_code) writer.old sink.old meter.old }
+        ensures { HandsAt I.Input W.ValueWriter (named_item (N.text names.now)) self.old self.new
+            writer.old writer.new sink.old sink.new meter.old meter.new around.new result }
     {
         match type_code {
             2 => {
@@ -683,18 +499,10 @@ impl<I: Input, A: Allocator + Copy> BinReader<I, A> {
         writer: &mut W,
         sink: &mut Sink<O, A>,
     ) -> bool
-        requires can_hand { CanHand W.ValueWriter self.old writer.old sink.old meter.old }
-        requires around { IsAround (as_frames self.old.frames) around.old }
-        requires goes_on { GoesOn (frame_in around.old) self.old.source.place }
-        requires front { ShowsFront (N.text names.now) self.old.limits (lent self.old.source)
-            self.old.source.place (innermost (frame_in around.old))
-            front.field front.annotation front.at front.head front.wrapper }
-        requires within { front.head < length (lent self.old.source) }
-        requires shape { as_shape shape ≡ shape_of (get_or (lent self.old.source) front.head 0) }
-        ensures handed { Handed I.Input W.ValueWriter (named_item (N.text names.now))
-            self.old self.new writer.old writer.new sink.old sink.new
-            meter.old meter.new result }
-        ensures around { result ≡ true → IsAround (as_frames self.new.frames) around.new }
+        requires { CanHandShape W.ValueWriter (N.text names.now) self.old around.old front
+            (as_shape shape) writer.old sink.old meter.old }
+        ensures { HandsAt I.Input W.ValueWriter (named_item (N.text names.now)) self.old self.new
+            writer.old writer.new sink.old sink.new meter.old meter.new around.new result }
     {
         let Some((found, behind)) = self.shown_behind(shape, *around, front) else {
             return false;

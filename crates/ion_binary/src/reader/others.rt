@@ -1,13 +1,11 @@
 //! Items that the loop over most leaves, handed to a writer.
-ghost use Rattle.std.specs.Prelude.{◌≡◌, ◌+◌, ◌-◌, ◌^◌, ◌<◌, ◌≤◌, true, false, None};
+ghost use Rattle.std.specs.Prelude.{◌+◌, true, false};
 ghost use Rattle.ion_value.specs.Items.{named_item};
-ghost use Rattle.ion_value.specs.Feeding.{CanTake};
-ghost use Rattle.ion_binary.specs.Lane.{CanHand, GoesOn, Handed, HandsOn, IsAround, frame_in};
-ghost use Rattle.ion_binary.specs.Steps.{IsSound, held_by, left_to, opened_in};
-ghost use Rattle.ion_binary.specs.Wrappers.{as_frames};
+ghost use Rattle.ion_binary.specs.Lane.{CanHand, CanHandMember, CanHandOn, HandsAt, Handed, HandsOn};
 
-use super::lane::{Around, around_in, ends_here, noted_front, other_front, shown_field};
-use super::{BinReader, values_behind};
+use super::BinReader;
+use super::front::{Around, around_in, ends_here, noted_front, shown_field};
+use super::lane::values_behind;
 use crate::descriptor::Shape;
 use ion_meter::device::{Input, Output};
 use ion_meter::meter::Meter;
@@ -29,14 +27,7 @@ impl<I: Input, A: Allocator + Copy> BinReader<I, A> {
         writer: &mut W,
         sink: &mut Sink<O, A>,
     ) -> u64
-        requires room { meter.old.held ≤ 2 ^ 61 + (held_by self.old + W.own writer.old) }
-        requires held { held_by self.old + W.own writer.old ≤ meter.old.held }
-        requires countable { meter.old.refused < 2 ^ 64 - 1 }
-        requires sound { IsSound self.old }
-        requires fresh { self.old.failed ≡ None }
-        requires writer { CanTake W.ValueWriter self.old.limits.depth (opened_in self.old)
-            writer.old sink.old }
-        requires few { values + left_to self.old < 2 ^ 64 - 1 }
+        requires { CanHandOn W.ValueWriter self.old writer.old sink.old meter.old values }
         ensures { HandsOn I.Input W.ValueWriter (named_item (N.text names.now)) self.old self.new
             writer.old writer.new sink.old sink.new meter.old meter.new values result }
     {
@@ -79,13 +70,9 @@ impl<I: Input, A: Allocator + Copy> BinReader<I, A> {
         writer: &mut W,
         sink: &mut Sink<O, A>,
     ) -> bool
-        requires can_hand { CanHand W.ValueWriter self.old writer.old sink.old meter.old }
-        requires around { IsAround (as_frames self.old.frames) around.old }
-        requires goes_on { GoesOn (frame_in around.old) self.old.source.place }
-        ensures handed { Handed I.Input W.ValueWriter (named_item (N.text names.now))
-            self.old self.new writer.old writer.new sink.old sink.new
-            meter.old meter.new result }
-        ensures around { result ≡ true → IsAround (as_frames self.new.frames) around.new }
+        requires { CanHandMember W.ValueWriter self.old around.old writer.old sink.old meter.old }
+        ensures { HandsAt I.Input W.ValueWriter (named_item (N.text names.now)) self.old self.new
+            writer.old writer.new sink.old sink.new meter.old meter.new around.new result }
     {
         let here = self.source.place();
         let octets = self.source.buffer();
@@ -114,48 +101,10 @@ impl<I: Input, A: Allocator + Copy> BinReader<I, A> {
         writer: &mut W,
         sink: &mut Sink<O, A>,
     ) -> u64
-        requires room { meter.old.held ≤ 2 ^ 61 + (held_by self.old + W.own writer.old) }
-        requires held { held_by self.old + W.own writer.old ≤ meter.old.held }
-        requires countable { meter.old.refused < 2 ^ 64 - 1 }
-        requires sound { IsSound self.old }
-        requires fresh { self.old.failed ≡ None }
-        requires writer { CanTake W.ValueWriter self.old.limits.depth (opened_in self.old)
-            writer.old sink.old }
-        requires few { values + left_to self.old < 2 ^ 64 - 1 }
+        requires { CanHandOn W.ValueWriter self.old writer.old sink.old meter.old values }
         ensures { HandsOn I.Input W.ValueWriter (named_item (N.text names.now)) self.old self.new
             writer.old writer.new sink.old sink.new meter.old meter.new values result }
     {
         self.hand_all::<N, W, O, true>(values, meter, names, writer, sink)
-    }
-
-    // Hands the next member on, or value at top level, where it has an annotation or a name that is not known
-    // to be simple, and that is possible.
-    #[inline(always)]
-    pub(super) fn hand_other<N: Names, W: ValueWriter<O, A>, O: Output>(
-        &mut self,
-        around: &mut Around,
-        meter: &mut Meter<A>,
-        names: &N,
-        writer: &mut W,
-        sink: &mut Sink<O, A>,
-    ) -> bool
-        requires can_hand { CanHand W.ValueWriter self.old writer.old sink.old meter.old }
-        requires around { IsAround (as_frames self.old.frames) around.old }
-        requires goes_on { GoesOn (frame_in around.old) self.old.source.place }
-        ensures handed { Handed I.Input W.ValueWriter (named_item (N.text names.now))
-            self.old self.new writer.old writer.new sink.old sink.new
-            meter.old meter.new result }
-        ensures around { result ≡ true → IsAround (as_frames self.new.frames) around.new }
-    {
-        let here = self.source.place();
-        let octets = self.source.buffer();
-        let Some((field, at)) = shown_field(octets, here, *around, names, true) else {
-            return false;
-        };
-        let limits = self.limits;
-        let Some(front) = other_front(octets, here, *around, field, at, limits, names) else {
-            return false;
-        };
-        self.hand_head::<N, W, O, true>(around, front, meter, names, writer, sink)
     }
 }

@@ -1,21 +1,18 @@
 //! Plain scalars with a text that is new, added at once to a value that is open.
-ghost use Rattle.std.specs.Prelude.{◌≡◌, ◌<◌, ℕ, true, None, length, map, option_map, IfSome};
-ghost use Rattle.ion_symbols.specs.Output.{known_id};
-ghost use Rattle.ion_value.specs.Items.{raw_head};
+ghost use Rattle.std.specs.Prelude.{◌≡◌, ◌<◌, ℕ, None, option_map, IfSome};
 ghost use Rattle.ion_value.specs.Number.{uint_octets};
-ghost use Rattle.ion_value.specs.PlainItems.{listed, placed_text};
+ghost use Rattle.ion_value.specs.PlainItems.{placed_text};
 ghost use Rattle.ion_value.specs.Value.{UserSymbol, user_symbol_at};
 ghost use Rattle.ion_value.specs.Writable.{field_symbols};
-ghost use Rattle.ion_binary.specs.Canonical.{annotation_octets, field_octets, headed, id_in};
+ghost use Rattle.ion_binary.specs.Canonical.{field_octets, headed, id_in};
 ghost use Rattle.ion_binary.specs.Fresh.{AreFresh, CanPutFresh, MayBeFresh};
-ghost use Rattle.ion_binary.specs.Held.{counted_ids};
 ghost use Rattle.ion_binary.specs.ItemOctets.{head_name, head_octets, user_head};
 ghost use Rattle.ion_binary.specs.Opening.{MayCome, both_octets, name_octets};
-ghost use Rattle.ion_binary.specs.Plain.{AddsPlain, HaveIds, IsWhole, as_item};
+ghost use Rattle.ion_binary.specs.Plain.{AddsPlain, HaveIds, as_item};
 ghost use Rattle.ion_binary.specs.Writer.{CanTake};
 
 use super::BinWriter;
-use super::plain::SingleItem;
+use super::single::{SingleItem, is_scalar};
 use crate::few::{few_number, noted_front};
 use crate::noted::{id_octets, noted_scalar};
 use crate::scalar::{Octets, spell};
@@ -40,8 +37,7 @@ impl<A: Allocator + Copy> BinWriter<A> {
     pub(super) fn add_fresh(&mut self, meter: &mut Meter<A>, item: SingleItem<'_, '_>) -> bool
         requires can_take { CanTake self.old meter.old }
         requires comes { MayCome self.old.limits self.old.open_value (as_item item) }
-        ensures { AddsPlain self.old self.new meter.old meter.new
-            (as_item item.entry) result }
+        ensures { AddsPlain self.old self.new meter.old meter.new (as_item item.entry) result }
     {
         if self.open_value.headers.len() == 0 {
             return false;
@@ -68,8 +64,7 @@ impl<A: Allocator + Copy> BinWriter<A> {
         note: u32,
     ) -> bool
         requires can_put { CanPutFresh self.old meter.old (as_item item.now) fresh note }
-        ensures { AddsPlain self.old self.new meter.old meter.new
-            (as_item item.now) result }
+        ensures { AddsPlain self.old self.new meter.old meter.new (as_item item.now) result }
     {
         let Some(small) = small_of(item.head, fresh.symbol) else {
             return self.put_spelled(meter, item, fresh, note);
@@ -96,14 +91,10 @@ impl<A: Allocator + Copy> BinWriter<A> {
         note: u32,
     ) -> bool
         requires can_put { CanPutFresh self.old meter.old (as_item item.now) fresh note }
-        ensures { AddsPlain self.old self.new meter.old meter.new
-            (as_item item.now) result }
+        ensures { AddsPlain self.old self.new meter.old meter.new (as_item item.now) result }
     {
         let spelled = spell(item.head, fresh.symbol);
-        let scalar = Octets {
-            front: spelled.front.as_slice(),
-            rest: spelled.lent,
-        };
+        let scalar = spelled.octets();
         let notes = id_octets(note);
         let Some(front) = noted_scalar(&self.limits, fresh.name, notes.as_slice(), &scalar) else {
             return false;
@@ -128,8 +119,7 @@ impl<A: Allocator + Copy> BinWriter<A> {
         requires can_put { CanPutFresh self.old meter.old (as_item item.now) fresh note }
         requires octets { AreFresh self.old.symbols.texts (as_item item.now) fresh note
             (both_octets octets.now) }
-        ensures { AddsPlain self.old self.new meter.old meter.new
-            (as_item item.now) result }
+        ensures { AddsPlain self.old self.new meter.old meter.new (as_item item.now) result }
     {
         let _item = item;
         let _note = note;
@@ -231,12 +221,4 @@ fn small_of(head: Head<'_>, symbol: u32) -> Option<Small>
         }),
         _ => None,
     }
-}
-
-/// Whether a head is a scalar.
-#[inline(always)]
-pub(super) fn is_scalar(head: Head<'_>) -> bool
-    ensures { result ≡ true → IsWhole (raw_head head.entry) }
-{
-    !matches!(head, Head::Begin(_) | Head::End | Head::Marker)
 }

@@ -8,9 +8,9 @@ ghost use Rattle.ion_binary.specs.Plain.{AddsPlain, HaveIds, IsWhole, as_item, w
 ghost use Rattle.ion_binary.specs.Writer.{CanTake};
 
 use super::BinWriter;
-use super::plain::SingleItem;
+use super::single::SingleItem;
 use crate::opening::{LONGEST, joined};
-use crate::scalar::{Octets, spell};
+use crate::scalar::spell;
 use arrayvec::ArrayVec;
 use ion_meter::meter::Meter;
 use ion_value::var::var_uint_write;
@@ -48,10 +48,7 @@ impl<A: Allocator + Copy> BinWriter<A> {
             return false;
         };
         let spelled = spell(item.head, symbol);
-        let scalar = Octets {
-            front: spelled.front.as_slice(),
-            rest: spelled.lent,
-        };
+        let scalar = spelled.octets();
         self.open_value
             .put_behind(meter, &self.limits, name, notes.as_slice(), &scalar)
     }

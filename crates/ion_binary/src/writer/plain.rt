@@ -1,21 +1,18 @@
 //! Plain items, added at once to a value that is open.
-ghost use Rattle.std.specs.Prelude.{◌≡◌, ◌<◌, ◌∷◌, [], length, true, false, map, option_map, IfSome};
+ghost use Rattle.std.specs.Prelude.{◌≡◌, ◌<◌, ◌∷◌, [], true, false, IfSome};
 ghost use Rattle.ion_value.specs.Items.{raw_head, symbol_at};
-ghost use Rattle.ion_value.specs.PlainItems.{listed, placed_text};
-ghost use Rattle.ion_value.specs.Standing.{HeadInRange};
-ghost use Rattle.ion_value.specs.Writable.{field_symbols};
 ghost use Rattle.ion_value.specs.Number.{uint_octets, var_int_octets};
-ghost use Rattle.ion_value.specs.Value.{begin, decimal, end, int, string, symbol, user_symbol_at, whole};
-ghost use Rattle.ion_binary.specs.Canonical.{annotation_octets, field_octets, headed, id_in};
-ghost use Rattle.ion_binary.specs.Held.{counted_ids};
-ghost use Rattle.ion_binary.specs.ItemOctets.{head_name, head_octets, user_head};
-ghost use Rattle.ion_binary.specs.Opening.{MayCome, both_octets, name_octets};
+ghost use Rattle.ion_value.specs.Value.{begin, decimal, end, int, string, symbol, whole};
+ghost use Rattle.ion_binary.specs.Canonical.{headed, id_in};
+ghost use Rattle.ion_binary.specs.ItemOctets.{head_octets, user_head};
+ghost use Rattle.ion_binary.specs.Opening.{MayCome, both_octets};
 ghost use Rattle.ion_binary.specs.Plain.{AddsPlain, EndsPlain, HaveIds, IsWhole, as_item, as_pair};
 ghost use Rattle.ion_binary.specs.Writer.{CanTake};
 ghost use Rattle.ion_binary.specs.Writing.{head_symbols};
 
-use super::fresh::is_scalar;
-use super::{BinWriter, FIRST_ID};
+use super::BinWriter;
+use super::single::{SingleItem, is_scalar};
+use crate::declaration::FIRST_ID;
 use crate::header::header;
 use crate::scalar::{Octets, spell, spell_int, type_code};
 use ion_meter::device::Output;
@@ -25,46 +22,8 @@ use ion_value::decimal::Decimal;
 use ion_value::int::Int;
 use ion_value::ion_type::Kind;
 use ion_value::item::{Head, Sym, SymAt};
-use ion_value::plain_item::{PlainItem, SecondAt, TextAt};
+use ion_value::plain_item::SecondAt;
 use std::alloc::Allocator;
-
-/// A plain item that has one annotation at most. It goes to calls by memory, and a second annotation
-/// with it would be copied for each item.
-#[derive(Clone, Copy)]
-pub(super) struct SingleItem<'n, 'h> {
-    pub(super) field: Option<TextAt<'n>>,
-    pub(super) annotation: Option<TextAt<'n>>,
-    pub(super) head: Head<'h>,
-    pub(super) place: u64,
-    pub(super) top: u64,
-}
-
-/// The item without its second annotation.
-#[inline(always)]
-pub(super) fn single_of<'n, 'h>(item: PlainItem<'n, 'h>) -> SingleItem<'n, 'h>
-    ensures { result ≡ record {
-      field = item.entry.field;
-      annotation = item.entry.annotation;
-      head = item.entry.head;
-      place = item.entry.place;
-      top = item.entry.top;
-    } }
-{
-    SingleItem {
-        field: item.field,
-        annotation: item.annotation,
-        head: item.head,
-        place: item.place,
-        top: item.top,
-    }
-}
-
-// The ids of an item's field and of its annotation, each 0 where there is none.
-#[derive(Drop)]
-struct Ids {
-    name: u32,
-    note: u32,
-}
 
 impl<A: Allocator + Copy> BinWriter<A> {
     // Adds an item behind which a value is open, where all is there that it needs: ids of its texts, or
@@ -107,8 +66,7 @@ impl<A: Allocator + Copy> BinWriter<A> {
         requires can_take { CanTake self.old meter.old }
         requires comes { MayCome self.old.limits self.old.open_value (as_item item.now) }
         requires head { raw_head item.now.head ≡ begin kind }
-        ensures { AddsPlain self.old self.new meter.old meter.new
-            (as_item item.now) result }
+        ensures { AddsPlain self.old self.new meter.old meter.new (as_item item.now) result }
     {
         let begins = self.open_value.headers.len() == 0;
         if begins && self.symbols.cost() > self.limits.symbols / 2 {
@@ -130,8 +88,7 @@ impl<A: Allocator + Copy> BinWriter<A> {
         requires can_take { CanTake self.old meter.old }
         requires comes { MayCome self.old.limits self.old.open_value (as_item item.now) }
         requires head { raw_head item.now.head ≡ end }
-        ensures { AddsPlain self.old self.new meter.old meter.new
-            (as_item item.now) result }
+        ensures { AddsPlain self.old self.new meter.old meter.new (as_item item.now) result }
     {
         let _item = item;
         self.open_value.end_if_room(meter, self.limits)
@@ -183,17 +140,13 @@ impl<A: Allocator + Copy> BinWriter<A> {
         requires can_take { CanTake self.old meter.old }
         requires comes { MayCome self.old.limits self.old.open_value (as_item item.now) }
         requires whole { IsWhole (raw_head item.now.head) }
-        ensures { AddsPlain self.old self.new meter.old meter.new
-            (as_item item.now) result }
+        ensures { AddsPlain self.old self.new meter.old meter.new (as_item item.now) result }
     {
         let Some(name) = self.name_of(item.head) else {
             return self.add_fresh(meter, *item);
         };
         let spelled = spell(item.head, name);
-        let octets = Octets {
-            front: spelled.front.as_slice(),
-            rest: spelled.lent,
-        };
+        let octets = spelled.octets();
         self.add_scalar(meter, item, &octets)
     }
 
@@ -203,8 +156,7 @@ impl<A: Allocator + Copy> BinWriter<A> {
         requires can_take { CanTake self.old meter.old }
         requires comes { MayCome self.old.limits self.old.open_value (as_item item.now) }
         requires head { raw_head item.now.head ≡ whole (int number) }
-        ensures { AddsPlain self.old self.new meter.old meter.new
-            (as_item item.now) result }
+        ensures { AddsPlain self.old self.new meter.old meter.new (as_item item.now) result }
     {
         let code = if number.negative { 3 } else { 2 };
         match u64::try_from(number.magnitude) {
@@ -213,20 +165,16 @@ impl<A: Allocator + Copy> BinWriter<A> {
         }
     }
 
-    // Adds an int that 64 bits do not hold.
+    // Adds an int that 64 bits do not hold. `add_spelled` would have the item stored for each int.
     #[inline(always)]
     fn add_wide(&mut self, meter: &mut Meter<A>, item: &SingleItem<'_, '_>, number: Int) -> bool
         requires can_take { CanTake self.old meter.old }
         requires comes { MayCome self.old.limits self.old.open_value (as_item item.now) }
         requires head { raw_head item.now.head ≡ whole (int number) }
-        ensures { AddsPlain self.old self.new meter.old meter.new
-            (as_item item.now) result }
+        ensures { AddsPlain self.old self.new meter.old meter.new (as_item item.now) result }
     {
         let spelled = spell_int(number);
-        let octets = Octets {
-            front: spelled.front.as_slice(),
-            rest: spelled.lent,
-        };
+        let octets = spelled.octets();
         self.add_scalar(meter, item, &octets)
     }
 
@@ -236,8 +184,7 @@ impl<A: Allocator + Copy> BinWriter<A> {
         requires can_take { CanTake self.old meter.old }
         requires comes { MayCome self.old.limits self.old.open_value (as_item item.now) }
         requires head { raw_head item.now.head ≡ whole (symbol (symbol_at at)) }
-        ensures { AddsPlain self.old self.new meter.old meter.new
-            (as_item item.now) result }
+        ensures { AddsPlain self.old self.new meter.old meter.new (as_item item.now) result }
     {
         let Sym::Text(text) = at.sym else {
             return false;
@@ -254,8 +201,7 @@ impl<A: Allocator + Copy> BinWriter<A> {
         requires can_take { CanTake self.old meter.old }
         requires comes { MayCome self.old.limits self.old.open_value (as_item item.now) }
         requires head { raw_head item.now.head ≡ whole (string text.now) }
-        ensures { AddsPlain self.old self.new meter.old meter.new
-            (as_item item.now) result }
+        ensures { AddsPlain self.old self.new meter.old meter.new (as_item item.now) result }
     {
         let Some(ids) = self.ids_of(item) else {
             return self.add_fresh(meter, *item);
@@ -276,8 +222,7 @@ impl<A: Allocator + Copy> BinWriter<A> {
         requires can_take { CanTake self.old meter.old }
         requires comes { MayCome self.old.limits self.old.open_value (as_item item.now) }
         requires head { raw_head item.now.head ≡ whole (decimal number) }
-        ensures { AddsPlain self.old self.new meter.old meter.new
-            (as_item item.now) result }
+        ensures { AddsPlain self.old self.new meter.old meter.new (as_item item.now) result }
     {
         let magnitude = number.coefficient;
         if magnitude == 0 || magnitude >= 1 << 63 {
@@ -317,8 +262,7 @@ impl<A: Allocator + Copy> BinWriter<A> {
         requires code { code < 16 }
         requires octets { headed code (uint_octets n)
             ≡ head_octets (id_in self.old.symbols.texts) (user_head item.now.head) }
-        ensures { AddsPlain self.old self.new meter.old meter.new
-            (as_item item.now) result }
+        ensures { AddsPlain self.old self.new meter.old meter.new (as_item item.now) result }
     {
         let Some(ids) = self.ids_of(item) else {
             return self.add_fresh(meter, *item);
@@ -336,8 +280,7 @@ impl<A: Allocator + Copy> BinWriter<A> {
         requires known { HaveIds self.old.symbols.texts (head_symbols (raw_head item.now.head)) }
         requires octets { octet ∷ []
             ≡ head_octets (id_in self.old.symbols.texts) (user_head item.now.head) }
-        ensures { AddsPlain self.old self.new meter.old meter.new
-            (as_item item.now) result }
+        ensures { AddsPlain self.old self.new meter.old meter.new (as_item item.now) result }
     {
         let Some(ids) = self.ids_of(item) else {
             return self.add_fresh(meter, *item);
@@ -360,88 +303,13 @@ impl<A: Allocator + Copy> BinWriter<A> {
         requires known { HaveIds self.old.symbols.texts (head_symbols (raw_head item.now.head)) }
         requires octets { both_octets scalar.now
             ≡ head_octets (id_in self.old.symbols.texts) (user_head item.now.head) }
-        ensures { AddsPlain self.old self.new meter.old meter.new
-            (as_item item.now) result }
+        ensures { AddsPlain self.old self.new meter.old meter.new (as_item item.now) result }
     {
         let Some(ids) = self.ids_of(item) else {
             return self.add_fresh(meter, *item);
         };
         self.open_value
             .put_octets(meter, &self.limits, ids.name, ids.note, scalar)
-    }
-
-    // The ids of an item's field and of its annotation, where a container is open and their texts have
-    // ids.
-    #[inline(always)]
-    fn ids_of(&self, item: &SingleItem<'_, '_>) -> Option<Ids>
-        ensures open { IfSome result (λ _. 0 < length self.now.open_value.headers) }
-        ensures field_known { IfSome result (λ _. HaveIds self.now.symbols.texts
-            (field_symbols (option_map placed_text item.now.field))) }
-        ensures note_known { IfSome result (λ _. HaveIds self.now.symbols.texts
-            (listed (option_map placed_text item.now.annotation))) }
-        ensures field { IfSome result (λ ids. name_octets ids.name
-            ≡ field_octets (id_in self.now.symbols.texts)
-            (option_map user_symbol_at (option_map placed_text item.now.field))) }
-        ensures note { IfSome result (λ ids. counted_ids (name_octets ids.note)
-            ≡ annotation_octets (id_in self.now.symbols.texts)
-            (map user_symbol_at (listed (option_map placed_text item.now.annotation)))) }
-    {
-        if self.open_value.headers.len() == 0 {
-            return None;
-        }
-        let Some(name) = self.field_id(item.field) else {
-            return None;
-        };
-        match self.annotation_id(item.annotation) {
-            Some(note) => Some(Ids { name, note }),
-            None => None,
-        }
-    }
-
-    // The id of a field, where its text has one, and 0 where there is none.
-    #[inline(always)]
-    pub(super) fn field_id(&self, field: Option<TextAt<'_>>) -> Option<u32>
-        ensures known { IfSome result (λ _. HaveIds self.now.symbols.texts
-            (field_symbols (option_map placed_text field.entry))) }
-        ensures octets { IfSome result (λ name. name_octets name
-            ≡ field_octets (id_in self.now.symbols.texts)
-            (option_map user_symbol_at (option_map placed_text field.entry))) }
-    {
-        match field {
-            Some(at) => self.symbols.known(at.text),
-            None => Some(0),
-        }
-    }
-
-    // The id of an annotation, where its text has one, and 0 where there is none.
-    #[inline(always)]
-    pub(super) fn annotation_id(&self, annotation: Option<TextAt<'_>>) -> Option<u32>
-        ensures known { IfSome result (λ _. HaveIds self.now.symbols.texts
-            (listed (option_map placed_text annotation.entry))) }
-        ensures octets { IfSome result (λ note. counted_ids (name_octets note)
-            ≡ annotation_octets (id_in self.now.symbols.texts)
-            (map user_symbol_at (listed (option_map placed_text annotation.entry)))) }
-    {
-        match annotation {
-            Some(at) => self.symbols.known(at.text),
-            None => Some(0),
-        }
-    }
-
-    // The id of a symbol value, where its text has one, and 0 of other heads.
-    pub(super) fn name_of(&self, head: Head<'_>) -> Option<u32>
-        ensures known { IfSome result (λ _. HaveIds self.now.symbols.texts
-            (head_symbols (raw_head head.entry))) }
-        ensures name { IfSome result (λ name. name
-            ≡ head_name (id_in self.now.symbols.texts) (user_head head.entry)) }
-    {
-        let Head::Symbol(at) = head else {
-            return Some(0);
-        };
-        let Sym::Text(text) = at.sym else {
-            return None;
-        };
-        self.symbols.known(text)
     }
 }
 

@@ -76,14 +76,17 @@ returns-in-Err-extend-clause-cut g c = grind (arith, common_steps) steps 400000
 pub returns-in-Err-extend-clause-goes : goal.returns-in-Err-extend-clause-goes
 returns-in-Err-extend-clause-goes g c = grind (arith, common_steps) steps 400000
 
-pub returns-clause-reads : goal.returns-clause-reads
-returns-clause-reads g c = grind (arith, common_steps) steps 400000
+pub returns-in-Err-extend-clause-all : goal.returns-in-Err-extend-clause-all
+returns-in-Err-extend-clause-all g c = grind (arith, common_steps) steps 400000
+
+pub returns : goal.returns
+returns g c = grind (arith, common_steps) steps 400000
 
 pub slice_bounds-extend-end : goal.slice_bounds-extend-end
 slice_bounds-extend-end g c = grind (arith, common_steps) steps 400000
 
-pub extend-requires-clause-room : goal.extend-requires-clause-room
-extend-requires-clause-room g c = grind (arith, common_steps) steps 400000
+pub extend-requires : goal.extend-requires
+extend-requires g c = grind (arith, common_steps) steps 400000
 
 pub loop-source-init : goal.loop-source-init
 loop-source-init g c = grind (arith, common_steps) steps 400000
@@ -91,20 +94,20 @@ loop-source-init g c = grind (arith, common_steps) steps 400000
 pub returns-in-Err-clause-plain : goal.returns-in-Err-clause-plain
 returns-in-Err-clause-plain g c = grind (arith, common_steps) steps 400000
 
-pub returns-in-Err-extend-clause-all : goal.returns-in-Err-extend-clause-all
-returns-in-Err-extend-clause-all g c = grind (arith, common_steps) steps 400000
+pub returns-in-Err-clause-goes : goal.returns-in-Err-clause-goes
+returns-in-Err-clause-goes g c = grind (arith, common_steps) steps 400000
+
+pub returns-in-Err-clause-cut : goal.returns-in-Err-clause-cut
+returns-in-Err-clause-cut g c = grind (arith, common_steps) steps 400000
+
+pub returns-in-Err-clause-all : goal.returns-in-Err-clause-all
+returns-in-Err-clause-all g c = grind (arith, common_steps) steps 400000
 
 pub returns-in-Ok-None-clause-goes : goal.returns-in-Ok-None-clause-goes
 returns-in-Ok-None-clause-goes g c = grind (arith, common_steps) steps 400000
 
-pub returns-in-Err-clause-goes : goal.returns-in-Err-clause-goes
-returns-in-Err-clause-goes g c = grind (arith, common_steps) steps 400000
-
 pub overflow_sub-count : goal.overflow_sub-count
 overflow_sub-count g c = grind (arith, common_steps) steps 400000
-
-pub returns-in-Err-clause-cut : goal.returns-in-Err-clause-cut
-returns-in-Err-clause-cut g c = grind (arith, common_steps) steps 400000
 
 pub returns-in-Ok-None-clause-plain : goal.returns-in-Ok-None-clause-plain
 returns-in-Ok-None-clause-plain g c = grind (arith, common_steps) steps 400000
@@ -112,20 +115,5 @@ returns-in-Ok-None-clause-plain g c = grind (arith, common_steps) steps 400000
 pub returns-in-Ok-None-clause-reads : goal.returns-in-Ok-None-clause-reads
 returns-in-Ok-None-clause-reads g c = grind (arith, common_steps) steps 1200000
 
-pub extend-requires-clause-countable : goal.extend-requires-clause-countable
-extend-requires-clause-countable g c = grind (arith, common_steps) steps 400000
-
 pub returns-in-Ok-None-clause-all : goal.returns-in-Ok-None-clause-all
 returns-in-Ok-None-clause-all g c = grind (arith, common_steps) steps 400000
-
-pub returns-clause-cut : goal.returns-clause-cut
-returns-clause-cut g c = grind (arith, common_steps) steps 400000
-
-pub returns-in-Err-clause-all : goal.returns-in-Err-clause-all
-returns-in-Err-clause-all g c = grind (arith, common_steps) steps 400000
-
-pub returns-clause-plain : goal.returns-clause-plain
-returns-clause-plain g c = grind (arith, common_steps) steps 400000
-
-pub returns-clause-goes : goal.returns-clause-goes
-returns-clause-goes g c = grind (arith, common_steps) steps 400000

@@ -25,38 +25,26 @@ loop-more-preserved g c =
 pub returns-in-Ok-None-clause-reads : goal.returns-in-Ok-None-clause-reads
 returns-in-Ok-None-clause-reads g c = grind (arith, common_steps) steps 400000
 
-pub consume-requires : goal.consume-requires
-consume-requires g c = grind (arith, common_steps)
-
-pub returns-in-Err-clause-reads : goal.returns-in-Err-clause-reads
-returns-in-Err-clause-reads g c = grind (arith, common_steps) steps 400000
-
-pub loop-more-smaller : goal.loop-more-smaller
-loop-more-smaller g c = grind (arith, common_steps) steps 400000
-
-pub returns-in-Err-clause-plain : goal.returns-in-Err-clause-plain
-returns-in-Err-clause-plain g c = grind (arith, common_steps) steps 400000
-
-pub returns-in-Err-clause-cut : goal.returns-in-Err-clause-cut
-returns-in-Err-clause-cut g c = grind (arith, common_steps) steps 400000
-
 pub returns-in-Ok-None-clause-plain : goal.returns-in-Ok-None-clause-plain
 returns-in-Ok-None-clause-plain g c = grind (arith, common_steps) steps 400000
 
 pub returns-in-Ok-None-clause-all : goal.returns-in-Ok-None-clause-all
 returns-in-Ok-None-clause-all g c = grind (arith, common_steps) steps 400000
 
-pub returns-clause-reads : goal.returns-clause-reads
-returns-clause-reads g c = grind (arith, common_steps) steps 400000
+pub consume-requires : goal.consume-requires
+consume-requires g c = grind (arith, common_steps)
 
-pub returns-in-Err-clause-all : goal.returns-in-Err-clause-all
-returns-in-Err-clause-all g c = grind (arith, common_steps) steps 400000
+pub returns-in-Err : goal.returns-in-Err
+returns-in-Err g c = grind (arith, common_steps) steps 400000
+
+pub loop-more-smaller : goal.loop-more-smaller
+loop-more-smaller g c = grind (arith, common_steps) steps 400000
+
+pub returns : goal.returns
+returns g c = grind (arith, common_steps) steps 400000
 
 pub overflow_sub-more : goal.overflow_sub-more
 overflow_sub-more g c = grind (arith, common_steps) steps 400000
-
-pub returns-clause-cut : goal.returns-clause-cut
-returns-clause-cut g c = grind (arith, common_steps) steps 400000
 
 pub loop-more-init : goal.loop-more-init
 loop-more-init g c = grind (arith, common_steps) steps 400000

@@ -61,11 +61,8 @@ returns-clause-front g c =
       name = c.in-Ok-name_of.ensures.name;
     }
 
-pub name_of-requires-clause-share : goal.name_of-requires-clause-share
-name_of-requires-clause-share g c = grind (arith, common_steps) steps 400000
-
-pub name_of-requires-clause-can_add : goal.name_of-requires-clause-can_add
-name_of-requires-clause-can_add g c = grind (arith, common_steps) steps 400000
+pub name_of-requires : goal.name_of-requires
+name_of-requires g c = grind (arith, common_steps) steps 400000
 
 pub put_annotations-requires : goal.put_annotations-requires
 put_annotations-requires g c = grind (arith, common_steps) steps 400000

@@ -46,8 +46,8 @@ returns-clause-gives g c t =
 pub returns-in-Ok-None-clause-reads : goal.returns-in-Ok-None-clause-reads
 returns-in-Ok-None-clause-reads g c = grind (arith, common_steps) steps 400000
 
-pub returns-in-Err-clause-reads : goal.returns-in-Err-clause-reads
-returns-in-Err-clause-reads g c = grind (arith, common_steps) steps 400000
+pub returns-in-Err : goal.returns-in-Err
+returns-in-Err g c = grind (arith, common_steps) steps 400000
 
 pub returns-then-is_some-clause-reads : goal.returns-then-is_some-clause-reads
 returns-then-is_some-clause-reads g c = grind (arith, common_steps) steps 400000
@@ -57,9 +57,6 @@ returns-then-ne-clause-reads g c = grind (arith, common_steps) steps 400000
 
 pub slice_bounds-ne-end : goal.slice_bounds-ne-end
 slice_bounds-ne-end g c = grind (arith, common_steps)
-
-pub returns-in-Err-clause-gives : goal.returns-in-Err-clause-gives
-returns-in-Err-clause-gives g c = grind (arith, common_steps) steps 400000
 
 pub consume-requires : goal.consume-requires
 consume-requires g c = grind (arith, common_steps) steps 400000

@@ -112,14 +112,8 @@ returns-in-Some-clause-marker g c = grind (arith, common_steps) steps 400000
 pub returns-in-Err-next_typed_value-clause-spare : goal.returns-in-Err-next_typed_value-clause-spare
 returns-in-Err-next_typed_value-clause-spare g c = grind (arith, common_steps) steps 400000
 
-pub next_annotated-requires-clause-none : goal.next_annotated-requires-clause-none
-next_annotated-requires-clause-none g c = grind (arith, common_steps) steps 400000
-
-pub next_annotated-requires-clause-can_read : goal.next_annotated-requires-clause-can_read
-next_annotated-requires-clause-can_read g c = grind (arith, common_steps) steps 400000
-
-pub next_annotated-requires-clause-length_code : goal.next_annotated-requires-clause-length_code
-next_annotated-requires-clause-length_code g c = grind (arith, common_steps) steps 400000
+pub next_annotated-requires : goal.next_annotated-requires
+next_annotated-requires g c = grind (arith, common_steps) steps 400000
 
 pub returns-in-Err-clause-marker : goal.returns-in-Err-clause-marker
 returns-in-Err-clause-marker g c = grind (arith, common_steps) steps 400000

@@ -86,23 +86,17 @@ loop-limits-preserved g c =
           (omega (arith, all, c.if-limits-as_slice.false)) c.id_of-id.ensures c.place-place.ensures c.in_default.ensures.ok;
     }
 
-pub returns-in-Err-push-clause-gives : goal.returns-in-Err-push-clause-gives
-returns-in-Err-push-clause-gives g c = grind (arith, common_steps) steps 400000
+pub returns-in-Err-push : goal.returns-in-Err-push
+returns-in-Err-push g c = grind (arith, common_steps) steps 400000
 
 pub returns-then-limits-as_slice-clause-reads : goal.returns-then-limits-as_slice-clause-reads
 returns-then-limits-as_slice-clause-reads g c = grind (arith, common_steps) steps 400000
 
-pub returns-in-Err-push-clause-reads : goal.returns-in-Err-push-clause-reads
-returns-in-Err-push-clause-reads g c = grind (arith, common_steps) steps 400000
-
 pub returns-clause-reads : goal.returns-clause-reads
 returns-clause-reads g c = grind (arith, common_steps) steps 400000
 
-pub returns-in-Err-push-clause-goes : goal.returns-in-Err-push-clause-goes
-returns-in-Err-push-clause-goes g c = grind (arith, common_steps) steps 400000
-
-pub push-requires-clause-room : goal.push-requires-clause-room
-push-requires-clause-room g c = grind (arith, common_steps) steps 400000
+pub push-requires : goal.push-requires
+push-requires g c = grind (arith, common_steps) steps 400000
 
 pub returns-then-limits-as_slice-clause-goes : goal.returns-then-limits-as_slice-clause-goes
 returns-then-limits-as_slice-clause-goes g c = grind (arith, common_steps) steps 400000
@@ -112,6 +106,3 @@ returns-in-Err-clause-goes g c = grind (arith, common_steps) steps 400000
 
 pub returns-in-Err-clause-reads : goal.returns-in-Err-clause-reads
 returns-in-Err-clause-reads g c = grind (arith, common_steps) steps 1200000
-
-pub push-requires-clause-countable : goal.push-requires-clause-countable
-push-requires-clause-countable g c = grind (arith, common_steps) steps 400000

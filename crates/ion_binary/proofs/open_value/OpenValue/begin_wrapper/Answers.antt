@@ -45,23 +45,14 @@ returns-clause-stepped g c = grind (arith, common_steps)
 pub returns-clause-over : goal.returns-clause-over
 returns-clause-over g c = grind (arith, common_steps) steps 400000
 
-pub returns-then-octets-place-clause-headers : goal.returns-then-octets-place-clause-headers
-returns-then-octets-place-clause-headers g c = grind (arith, common_steps) steps 400000
+pub returns-then-octets-place : goal.returns-then-octets-place
+returns-then-octets-place g c = grind (arith, common_steps) steps 400000
 
 pub returns-clause-counts : goal.returns-clause-counts
 returns-clause-counts g c = grind (arith, common_steps) steps 400000
 
-pub returns-then-octets-place-clause-octets : goal.returns-then-octets-place-clause-octets
-returns-then-octets-place-clause-octets g c = grind (arith, common_steps) steps 400000
-
-pub push-requires-clause-room : goal.push-requires-clause-room
-push-requires-clause-room g c = grind (arith, common_steps) steps 400000
-
-pub returns-then-octets-place-clause-over : goal.returns-then-octets-place-clause-over
-returns-then-octets-place-clause-over g c = grind (arith, common_steps) steps 400000
-
-pub push-requires-clause-countable : goal.push-requires-clause-countable
-push-requires-clause-countable g c = grind (arith, common_steps) steps 400000
+pub push-requires : goal.push-requires
+push-requires g c = grind (arith, common_steps) steps 400000
 
 pub insert_slice-requires-clause-within : goal.insert_slice-requires-clause-within
 insert_slice-requires-clause-within g c = grind (arith, common_steps) steps 400000

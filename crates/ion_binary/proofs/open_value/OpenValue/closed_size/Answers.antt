@@ -9,11 +9,8 @@ returns-then-len-eq0-clause-size g c =
     let none = beyond-none c.args.self.now.counts 0 (λ k. let within : get_or c.args.self.now.counts k 0 ≤ length c.args.self.now.headers = c.requires.reached.within k in omega (arith, within, empty)) in
     omega (arith, empty, none)
 
-pub returns-clause-size : goal.returns-clause-size
-returns-clause-size g c = grind (arith, common_steps) steps 400000
-
-pub returns-clause-counted : goal.returns-clause-counted
-returns-clause-counted g c = grind (arith, common_steps) steps 400000
+pub returns : goal.returns
+returns g c = grind (arith, common_steps) steps 400000
 
 pub returns-then-len-eq0-clause-counted : goal.returns-then-len-eq0-clause-counted
 returns-then-len-eq0-clause-counted g c = grind (arith, common_steps) steps 400000

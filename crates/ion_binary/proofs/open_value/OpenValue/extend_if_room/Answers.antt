@@ -1,19 +1,18 @@
-use Rattle.std.proofs.Common.{◌++◌, List, ℕ, refl, arith, length-append}
+use Rattle.std.proofs.Common.{◌+◌, length, arith, length-append}
 use Rattle.std.proofs.lemmas.Grind.{common_steps}
-use Rattle.ion_binary.proofs.OpenSteps.{room-open}
+use Rattle.ion_binary.specs.Opening.{both_octets}
+use Rattle.ion_binary.proofs.PutInRoom.{not-added, room-adds}
 use Rattle.ion_binary.proofs.open_value.OpenValue.extend_if_room.Goals as goal
 
-pub returns-clause-open : goal.returns-clause-open
-returns-clause-open g c is =
-    let v = c.args.self.now in
-    let x : List ℕ = c.args.octets.now.front.now ++ c.args.octets.now.rest.now in
-    let l = length-append c.args.octets.now.front.now c.args.octets.now.rest.now in
+pub returns : goal.returns
+returns g c =
+    let x = c.args.octets.now in
     let s = c.surely_fits.ensures c.if-not-surely_fits.false in
-    room-open c.args.limits v (record { octets = c.extend_if_room.new.self; headers = v.headers; counts = v.counts }) x c.requires.can_step.checked c.requires.open
-    (c.extend_if_room.ensures.bytes is) refl refl (omega (arith, l, s))
+    room-adds c.args.limits c.args.self.now c.extend_if_room.new.self (both_octets x) c.args.meter.now c.extend_if_room.new.meter (length x.front.now + length x.rest.now) c.extend_if_room.result c.requires
+    (length-append x.front.now x.rest.now) c.extend_if_room.ensures.bytes c.extend_if_room.ensures.cost c.extend_if_room.ensures.declines (omega (arith, s))
 
-pub returns-clause-stepped : goal.returns-clause-stepped
-returns-clause-stepped g c = grind (arith, common_steps)
+pub returns-then-not-surely_fits : goal.returns-then-not-surely_fits
+returns-then-not-surely_fits g c = not-added c.requires
 
 pub extend_if_room-requires : goal.extend_if_room-requires
 extend_if_room-requires g c = grind (arith, common_steps) steps 400000

@@ -8,6 +8,7 @@ use Rattle.ion_binary.specs.Canonical.{headed}
 use Rattle.ion_binary.specs.Opening.{noted}
 use Rattle.ion_binary.proofs.FewOctets.{few-headed}
 use Rattle.ion_binary.proofs.ShortDecimals.{one-zero, signed-block, sum-fits}
+use Rattle.ion_binary.proofs.PutInRoom.{adds-same}
 use Rattle.ion_binary.proofs.open_value.OpenValue.put_decimal.Goals as goal
 
 pub overflow_sub-zeros : goal.overflow_sub-zeros
@@ -24,8 +25,8 @@ overflow_add-wrapping_shl g c =
     let fits = sum-fits n zeros c.args.negative c.requires.some c.requires.most refl in
     record { fits = omega (arith, m, h, fits) }
 
-pub returns-clause-octets : goal.returns-clause-octets
-returns-clause-octets g c is =
+pub returns : goal.returns
+returns g c =
     let n : ℕ = c.args.coefficient in
     let zeros : ℕ = (leading_zeros w64 n - 1) / 8 in
     let size : ℕ = 8 - zeros in
@@ -46,10 +47,7 @@ returns-clause-octets g c is =
     let whole : c.behind-front.result ++ body ≡ headed 5 (c.args.exponent ∷ coefficient_octets c.args.negative n) =
     ap (λ (os : List ℕ). os ++ body) front
     ∙ (ap (λ (k : ℕ). k ∷ b) head ∙ (few-headed 5 b few ∙ ap (λ (os : List ℕ). headed 5 (c.args.exponent ∷ os)) spelled)) in
-    c.put_few.ensures.octets is ∙ ap (λ (y : List ℕ). c.args.self.now.octets ++ noted c.args.name c.args.note y) whole
+    adds-same (ap (noted c.args.name c.args.note) whole) c.put_few.ensures
 
 pub put_few-requires-clause-few : goal.put_few-requires-clause-few
 put_few-requires-clause-few g c = grind (arith, common_steps) steps 400000
-
-pub returns-clause-headers : goal.returns-clause-headers
-returns-clause-headers g c = grind (arith, common_steps) steps 400000

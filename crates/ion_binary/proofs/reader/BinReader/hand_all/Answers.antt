@@ -3,7 +3,7 @@ use Rattle.ion_value.specs.Items.{named_item}
 use Rattle.ion_value.specs.Outcome.{one_if_closed}
 use Rattle.ion_binary.specs.Reader.{kinds_of}
 use Rattle.ion_binary.specs.Steps.{opened_in}
-use Rattle.ion_binary.proofs.Feeding.{can_hand-then, hands_on-item, hands_on-none, hands_on-nothing, hands_on-then}
+use Rattle.ion_binary.proofs.Feeding.{can-hand, hands-again, hands_on-item, hands_on-none, hands_on-nothing, hands_on-then}
 use Rattle.ion_binary.proofs.reader.BinReader.hand_all.Goals as goal
 
 pub items-init : goal.items-init
@@ -15,8 +15,8 @@ items-init g c = record {
 
 pub hand-requires-clause-can_hand : goal.hand-requires-clause-can_hand
 hand-requires-clause-can_hand g c =
-    can_hand-then g.I.Input g.W.ValueWriter (named_item (g.N.Names.text c.args.names.now)) c.args.self.now c.items.self c.args.writer.now c.items.writer c.args.sink.now c.items.sink c.args.meter.now c.items.meter c.args.values
-    c.items.count c.requires.sound (g.met.W.ValueWriter.within c.args.writer.now c.requires.writer.sound) c.requires.room c.requires.held c.requires.countable c.items.invariant.hands
+    let can = hands-again g.I.Input g.W.ValueWriter (named_item (g.N.Names.text c.args.names.now)) c.requires c.items.invariant.hands in
+    can-hand g.W.ValueWriter (g.met.W.ValueWriter.within c.items.writer can.writer.sound) can
 
 pub values_behind-count-requires : goal.values_behind-count-requires
 values_behind-count-requires g c = omega (arith, c.items.invariant.hands.falls, c.requires.few)

@@ -31,8 +31,5 @@ shown_value-requires-clause-small g c = grind (arith, common_steps)
 pub shown_value-requires-clause-within : goal.shown_value-requires-clause-within
 shown_value-requires-clause-within g c = grind (arith, common_steps) steps 400000
 
-pub returns-then-not-fills-clause-shows : goal.returns-then-not-fills-clause-shows
-returns-then-not-fills-clause-shows g c = grind (arith, common_steps) steps 400000
-
-pub returns-then-not-fills-clause-fills : goal.returns-then-not-fills-clause-fills
-returns-then-not-fills-clause-fills g c = grind (arith, common_steps) steps 400000
+pub returns-then-not-fills : goal.returns-then-not-fills
+returns-then-not-fills g c = grind (arith, common_steps) steps 400000

@@ -1,12 +1,11 @@
-use Rattle.std.proofs.Common.{◌+◌, ◌<◌, ap, sym, subst, ◌∙◌, arith}
+use Rattle.std.proofs.Common.{ap, sym, subst, ◌∙◌, arith}
 use Rattle.std.proofs.lemmas.Grind.{common_steps}
 use Rattle.ion_meter.specs.declared.limits.Limits.{Limits}
 use Rattle.ion_value.specs.Items.{named_item}
 use Rattle.ion_value.proofs.Handing.{finished-feeds}
 use Rattle.ion_binary.specs.Lane.{joint}
 use Rattle.ion_binary.specs.Reader.{most_of}
-use Rattle.ion_binary.specs.Steps.{held_by, share_of, sound-within}
-use Rattle.ion_binary.proofs.Feeding.{exceeds-same, hands_on-none, hands_on-then, held-again, nothing-left}
+use Rattle.ion_binary.proofs.Feeding.{exceeds-same, hands-again, hands-begin, hands_on-none, hands_on-then, nothing-left}
 use Rattle.ion_binary.proofs.reader.BinReaderRawReader.feed.Goals as goal
 
 pub runs-init : goal.runs-init
@@ -14,59 +13,19 @@ runs-init g c =
     hands_on-none g.I.Input g.W.ValueWriter (named_item (g.N.Names.text c.args.names.now)) c.args.self.now c.args.writer.now c.args.sink.now c.args.meter.now 0 c.requires.sound.0 c.requires.fresh c.requires.writer
     (g.met.W.ValueWriter.within c.args.writer.now c.requires.writer.sound) c.requires.held
 
-pub hand_all-values-requires-clause-room : goal.hand_all-values-requires-clause-room
-hand_all-values-requires-clause-room g c = omega (arith, c.runs.invariant.keeps.charges.held, c.requires.room)
-
-pub hand_all-values-requires-clause-held : goal.hand_all-values-requires-clause-held
-hand_all-values-requires-clause-held g c =
+pub hand_all-values-requires : goal.hand_all-values-requires
+hand_all-values-requires g c =
     let w = g.W.ValueWriter in
-    held-again (held_by c.args.self.now + w.own c.args.writer.now) (held_by c.runs.self + w.own c.runs.writer) (share_of c.args.self.now + w.most c.args.writer.now) c.runs.invariant.keeps.charges c.requires.held
+    let see = named_item (g.N.Names.text c.args.names.now) in
+    let q = c.requires in
+    hands-again g.I.Input w see (hands-begin w q.room q.held q.countable q.sound.0 q.fresh q.writer) c.runs.invariant
 
-pub hand_all-values-requires-clause-countable : goal.hand_all-values-requires-clause-countable
-hand_all-values-requires-clause-countable g c = subst (λ n. n < 18446744073709551615) (sym c.runs.invariant.keeps.writer.refused) c.requires.countable
-
-pub hand_all-values-requires-clause-sound : goal.hand_all-values-requires-clause-sound
-hand_all-values-requires-clause-sound g c =
-    let i = c.runs.invariant.keeps in
-    record { sized = i.sized; small = i.stands.small; stands = λ _. i.stands; one_ending = λ _. i.failed ∙ c.requires.fresh }
-
-pub hand_all-values-requires-clause-fresh : goal.hand_all-values-requires-clause-fresh
-hand_all-values-requires-clause-fresh g c = c.runs.invariant.keeps.failed ∙ c.requires.fresh
-
-pub hand_all-values-requires-clause-writer : goal.hand_all-values-requires-clause-writer
-hand_all-values-requires-clause-writer g c = c.runs.invariant.takes
-
-pub hand_all-values-requires-clause-few : goal.hand_all-values-requires-clause-few
-hand_all-values-requires-clause-few g c = omega (arith, c.runs.invariant.falls, (sound-within c.args.self.now c.requires.sound.0).few)
-
-pub hand_rare-values-requires-clause-room : goal.hand_rare-values-requires-clause-room
-hand_rare-values-requires-clause-room g c =
-    omega (arith, c.runs.invariant.keeps.charges.held, c.hand_all-values.ensures.keeps.charges.held, c.requires.room)
-
-pub hand_rare-values-requires-clause-held : goal.hand_rare-values-requires-clause-held
-hand_rare-values-requires-clause-held g c =
+pub hand_rare-values-requires : goal.hand_rare-values-requires
+hand_rare-values-requires g c =
     let w = g.W.ValueWriter in
-    held-again (held_by c.runs.self + w.own c.runs.writer) (held_by c.hand_all-values.new.self + w.own c.hand_all-values.new.writer) (share_of c.runs.self + w.most c.runs.writer) c.hand_all-values.ensures.keeps.charges
-    (held-again (held_by c.args.self.now + w.own c.args.writer.now) (held_by c.runs.self + w.own c.runs.writer) (share_of c.args.self.now + w.most c.args.writer.now) c.runs.invariant.keeps.charges c.requires.held)
-
-pub hand_rare-values-requires-clause-countable : goal.hand_rare-values-requires-clause-countable
-hand_rare-values-requires-clause-countable g c =
-    subst (λ n. n < 18446744073709551615) (sym (c.hand_all-values.ensures.keeps.writer.refused ∙ c.runs.invariant.keeps.writer.refused)) c.requires.countable
-
-pub hand_rare-values-requires-clause-sound : goal.hand_rare-values-requires-clause-sound
-hand_rare-values-requires-clause-sound g c =
-    let i = c.hand_all-values.ensures.keeps in
-    record { sized = i.sized; small = i.stands.small; stands = λ _. i.stands; one_ending = λ _. i.failed ∙ (c.runs.invariant.keeps.failed ∙ c.requires.fresh) }
-
-pub hand_rare-values-requires-clause-fresh : goal.hand_rare-values-requires-clause-fresh
-hand_rare-values-requires-clause-fresh g c = c.hand_all-values.ensures.keeps.failed ∙ (c.runs.invariant.keeps.failed ∙ c.requires.fresh)
-
-pub hand_rare-values-requires-clause-writer : goal.hand_rare-values-requires-clause-writer
-hand_rare-values-requires-clause-writer g c = c.hand_all-values.ensures.takes
-
-pub hand_rare-values-requires-clause-few : goal.hand_rare-values-requires-clause-few
-hand_rare-values-requires-clause-few g c =
-    omega (arith, c.runs.invariant.falls, c.hand_all-values.ensures.falls, (sound-within c.args.self.now c.requires.sound.0).few)
+    let see = named_item (g.N.Names.text c.args.names.now) in
+    let q = c.requires in
+    hands-again g.I.Input w see (hands-again g.I.Input w see (hands-begin w q.room q.held q.countable q.sound.0 q.fresh q.writer) c.runs.invariant) c.hand_all-values.ensures
 
 pub runs-smaller : goal.runs-smaller
 runs-smaller g c =

@@ -12,6 +12,33 @@ returns-in-Err-clause-refuses g c = grind (arith, common_steps) steps 400000
 pub returns-in-Err-clause-causes : goal.returns-in-Err-clause-causes
 returns-in-Err-clause-causes g c = grind (arith, common_steps) steps 400000
 
+pub returns-in-Err-clause-sound : goal.returns-in-Err-clause-sound
+returns-in-Err-clause-sound g c = grind (arith, common_steps) steps 400000
+
+pub returns-in-Err-clause-again : goal.returns-in-Err-clause-again
+returns-in-Err-clause-again g c = grind (arith, common_steps) steps 400000
+
+pub returns-in-Err-clause-depth : goal.returns-in-Err-clause-depth
+returns-in-Err-clause-depth g c = grind (arith, common_steps) steps 400000
+
+pub returns-in-Err-clause-most : goal.returns-in-Err-clause-most
+returns-in-Err-clause-most g c = grind (arith, common_steps) steps 400000
+
+pub returns-in-Err-clause-falls : goal.returns-in-Err-clause-falls
+returns-in-Err-clause-falls g c = grind (arith, common_steps) steps 400000
+
+pub returns-in-Err-clause-stays : goal.returns-in-Err-clause-stays
+returns-in-Err-clause-stays g c = grind (arith, common_steps) steps 400000
+
+pub returns-in-Err-clause-charges : goal.returns-in-Err-clause-charges
+returns-in-Err-clause-charges g c = grind (arith, common_steps) steps 400000
+
+pub returns-in-Err-clause-ends : goal.returns-in-Err-clause-ends
+returns-in-Err-clause-ends g c = grind (arith, common_steps) steps 400000
+
+pub returns-in-Err-clause-goes : goal.returns-in-Err-clause-goes
+returns-in-Err-clause-goes g c = grind (arith, common_steps) steps 400000
+
 pub returns-in-Ok-clause-sound : goal.returns-in-Ok-clause-sound
 returns-in-Ok-clause-sound g c = (
   grind (arith, common_steps) steps 400000,
@@ -30,29 +57,11 @@ returns-in-Ok-clause-depth g c = grind (arith, common_steps) steps 400000
 pub returns-in-Ok-clause-falls : goal.returns-in-Ok-clause-falls
 returns-in-Ok-clause-falls g c = grind (arith, common_steps) steps 400000
 
-pub returns-in-Err-clause-sound : goal.returns-in-Err-clause-sound
-returns-in-Err-clause-sound g c = grind (arith, common_steps) steps 400000
-
 pub returns-in-Ok-clause-most : goal.returns-in-Ok-clause-most
 returns-in-Ok-clause-most g c = grind (arith, common_steps) steps 400000
 
 pub returns-in-Ok-clause-stays : goal.returns-in-Ok-clause-stays
 returns-in-Ok-clause-stays g c = grind (arith, common_steps) steps 400000
-
-pub returns-in-Err-clause-again : goal.returns-in-Err-clause-again
-returns-in-Err-clause-again g c = grind (arith, common_steps) steps 400000
-
-pub returns-in-Err-clause-depth : goal.returns-in-Err-clause-depth
-returns-in-Err-clause-depth g c = grind (arith, common_steps) steps 400000
-
-pub returns-in-Err-clause-most : goal.returns-in-Err-clause-most
-returns-in-Err-clause-most g c = grind (arith, common_steps) steps 400000
-
-pub returns-in-Err-clause-falls : goal.returns-in-Err-clause-falls
-returns-in-Err-clause-falls g c = grind (arith, common_steps) steps 400000
-
-pub returns-in-Err-clause-stays : goal.returns-in-Err-clause-stays
-returns-in-Err-clause-stays g c = grind (arith, common_steps) steps 400000
 
 pub returns-in-Ok-clause-again : goal.returns-in-Ok-clause-again
 returns-in-Ok-clause-again g c = grind (arith, common_steps) steps 400000
@@ -63,47 +72,11 @@ returns-in-Ok-clause-charges g c = grind (arith, common_steps) steps 400000
 pub returns-in-Ok-clause-refuses : goal.returns-in-Ok-clause-refuses
 returns-in-Ok-clause-refuses g c = grind (arith, common_steps) steps 400000
 
-pub returns-in-Err-clause-charges : goal.returns-in-Err-clause-charges
-returns-in-Err-clause-charges g c = grind (arith, common_steps) steps 400000
+pub returns-in-Some : goal.returns-in-Some
+returns-in-Some g c = grind (arith, common_steps) steps 400000
 
-pub returns-in-Err-clause-ends : goal.returns-in-Err-clause-ends
-returns-in-Err-clause-ends g c = grind (arith, common_steps) steps 400000
-
-pub returns-in-Some-clause-again : goal.returns-in-Some-clause-again
-returns-in-Some-clause-again g c = grind (arith, common_steps) steps 400000
-
-pub returns-then-self-clause-fits : goal.returns-then-self-clause-fits
-returns-then-self-clause-fits g c = grind (arith, common_steps) steps 400000
-
-pub returns-then-self-clause-again : goal.returns-then-self-clause-again
-returns-then-self-clause-again g c = grind (arith, common_steps) steps 400000
-
-pub returns-in-Some-clause-stays : goal.returns-in-Some-clause-stays
-returns-in-Some-clause-stays g c = grind (arith, common_steps) steps 400000
-
-pub returns-in-Some-clause-fits : goal.returns-in-Some-clause-fits
-returns-in-Some-clause-fits g c = grind (arith, common_steps) steps 400000
-
-pub returns-then-self-clause-refuses : goal.returns-then-self-clause-refuses
-returns-then-self-clause-refuses g c = grind (arith, common_steps) steps 400000
-
-pub returns-in-Some-clause-falls : goal.returns-in-Some-clause-falls
-returns-in-Some-clause-falls g c = grind (arith, common_steps) steps 400000
-
-pub returns-in-Some-clause-refuses : goal.returns-in-Some-clause-refuses
-returns-in-Some-clause-refuses g c = grind (arith, common_steps) steps 400000
-
-pub returns-then-self-clause-falls : goal.returns-then-self-clause-falls
-returns-then-self-clause-falls g c = grind (arith, common_steps) steps 400000
-
-pub returns-in-Err-clause-goes : goal.returns-in-Err-clause-goes
-returns-in-Err-clause-goes g c = grind (arith, common_steps) steps 400000
+pub returns-then-self : goal.returns-then-self
+returns-then-self g c = grind (arith, common_steps) steps 400000
 
 pub returns-in-Ok-clause-goes : goal.returns-in-Ok-clause-goes
 returns-in-Ok-clause-goes g c = grind (arith, common_steps) steps 400000
-
-pub returns-in-Some-clause-ends : goal.returns-in-Some-clause-ends
-returns-in-Some-clause-ends g c = grind (arith, common_steps) steps 400000
-
-pub returns-then-self-clause-ends : goal.returns-then-self-clause-ends
-returns-then-self-clause-ends g c = grind (arith, common_steps) steps 400000

@@ -93,6 +93,12 @@ returns-in-Ok-false-clause-refuses g c r p is =
 pub returns-in-Err-clause-no_device : goal.returns-in-Err-clause-no_device
 returns-in-Err-clause-no_device g c = grind (arith, common_steps) steps 400000
 
+pub returns-in-Err-clause-taken : goal.returns-in-Err-clause-taken
+returns-in-Err-clause-taken g c = grind (arith, common_steps) steps 400000
+
+pub returns-in-Err-clause-ended : goal.returns-in-Err-clause-ended
+returns-in-Err-clause-ended g c = grind (arith, common_steps) steps 400000
+
 pub returns-in-Ok-true-clause-no_device : goal.returns-in-Ok-true-clause-no_device
 returns-in-Ok-true-clause-no_device g c = grind (arith, common_steps) steps 400000
 
@@ -105,6 +111,9 @@ returns-then-not-front-clause-taken g c = grind (arith, common_steps) steps 4000
 pub returns-in-Err-take-clause-no_device : goal.returns-in-Err-take-clause-no_device
 returns-in-Err-take-clause-no_device g c = grind (arith, common_steps) steps 400000
 
+pub returns-in-Err-take-clause-ended : goal.returns-in-Err-take-clause-ended
+returns-in-Err-take-clause-ended g c = grind (arith, common_steps) steps 400000
+
 pub returns-in-Ok-false-clause-no_device : goal.returns-in-Ok-false-clause-no_device
 returns-in-Ok-false-clause-no_device g c = grind (arith, common_steps) steps 400000
 
@@ -113,12 +122,6 @@ take-requires-clause-can_step g c = grind (arith, common_steps) steps 400000
 
 pub returns-in-Ok-true-clause-open : goal.returns-in-Ok-true-clause-open
 returns-in-Ok-true-clause-open g c = grind (arith, common_steps) steps 400000
-
-pub returns-in-Err-clause-taken : goal.returns-in-Err-clause-taken
-returns-in-Err-clause-taken g c = grind (arith, common_steps) steps 400000
-
-pub returns-in-Err-take-clause-ended : goal.returns-in-Err-take-clause-ended
-returns-in-Err-take-clause-ended g c = grind (arith, common_steps) steps 400000
 
 pub returns-in-Ok-true-clause-refuses : goal.returns-in-Ok-true-clause-refuses
 returns-in-Ok-true-clause-refuses g c = grind (arith, common_steps) steps 400000
@@ -131,9 +134,6 @@ returns-in-Ok-false-clause-ended g c = grind (arith, common_steps) steps 400000
 
 pub put_front-requires-clause-can_number : goal.put_front-requires-clause-can_number
 put_front-requires-clause-can_number g c = grind (arith, common_steps) steps 400000
-
-pub returns-in-Err-clause-ended : goal.returns-in-Err-clause-ended
-returns-in-Err-clause-ended g c = grind (arith, common_steps) steps 400000
 
 pub returns-then-not-front-clause-ended : goal.returns-then-not-front-clause-ended
 returns-then-not-front-clause-ended g c = grind (arith, common_steps) steps 400000

@@ -30,32 +30,19 @@ returns g c =
     let known = subst K (sym c.requires.head) tt in
     let octets = subst O (sym c.requires.head) (ap (headed 5) spelled) in
     member-plain w c.put_decimal.new.self c.args.meter.now c.put_decimal.new.meter item c.put_decimal.result c.in-Some-ids_of.ids.name c.in-Some-ids_of.ids.note (headed 5 body)
-    c.requires.can_take k.open whole k.field_known k.note_known known k.field k.note octets c.put_decimal.ensures.octets c.put_decimal.ensures.headers c.put_decimal.ensures.open
-    c.put_decimal.ensures.declines c.put_decimal.ensures.stepped
+    c.requires.can_take k.open whole k.field_known k.note_known known k.field k.note octets c.put_decimal.ensures
 
-pub put_decimal-requires-clause-most : goal.put_decimal-requires-clause-most
-put_decimal-requires-clause-most g c = grind (arith, common_steps) steps 400000
+pub put_decimal-requires : goal.put_decimal-requires
+put_decimal-requires g c = grind (arith, common_steps) steps 400000
 
 pub add_fresh-requires-clause-can_take : goal.add_fresh-requires-clause-can_take
 add_fresh-requires-clause-can_take g c = grind (arith, common_steps) steps 400000
 
-pub put_decimal-requires-clause-can_step : goal.put_decimal-requires-clause-can_step
-put_decimal-requires-clause-can_step g c = grind (arith, common_steps) steps 400000
-
-pub put_decimal-requires-clause-some : goal.put_decimal-requires-clause-some
-put_decimal-requires-clause-some g c = grind (arith, common_steps) steps 400000
-
-pub add_spelled-requires-in_default-clause-whole : goal.add_spelled-requires-in_default-clause-whole
-add_spelled-requires-in_default-clause-whole g c = grind (arith, common_steps) steps 400000
+pub add_spelled-requires-in_default : goal.add_spelled-requires-in_default
+add_spelled-requires-in_default g c = grind (arith, common_steps) steps 400000
 
 pub overflow_cast-magnitude : goal.overflow_cast-magnitude
 overflow_cast-magnitude g c = grind (arith, common_steps) steps 400000
 
-pub add_spelled-requires-in_default-clause-can_take : goal.add_spelled-requires-in_default-clause-can_take
-add_spelled-requires-in_default-clause-can_take g c = grind (arith, common_steps) steps 400000
-
 pub add_spelled-requires-clause-whole : goal.add_spelled-requires-clause-whole
 add_spelled-requires-clause-whole g c = grind (arith, common_steps) steps 400000
-
-pub put_decimal-requires-clause-open : goal.put_decimal-requires-clause-open
-put_decimal-requires-clause-open g c = grind (arith, common_steps) steps 400000

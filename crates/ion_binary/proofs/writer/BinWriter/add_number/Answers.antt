@@ -11,5 +11,4 @@ returns g c =
     let item : PlacedItem = as_item c.args.item.now in
     let k = c.in-Some.ensures in
     member-plain w c.put_number.new.self c.args.meter.now c.put_number.new.meter item c.put_number.result c.in-Some.ids.name c.in-Some.ids.note (headed c.args.code (uint_octets c.args.n)) c.requires.can_take k.open
-    c.requires.whole k.field_known k.note_known c.requires.known k.field k.note c.requires.octets c.put_number.ensures.octets
-    c.put_number.ensures.headers c.put_number.ensures.open c.put_number.ensures.declines c.put_number.ensures.stepped
+    c.requires.whole k.field_known k.note_known c.requires.known k.field k.note c.requires.octets c.put_number.ensures

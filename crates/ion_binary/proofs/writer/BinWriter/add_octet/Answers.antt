@@ -10,5 +10,4 @@ returns g c =
     let item : PlacedItem = as_item c.args.item.now in
     let k = c.in-Some.ensures in
     member-plain w c.put_octet.new.self c.args.meter.now c.put_octet.new.meter item c.put_octet.result c.in-Some.ids.name c.in-Some.ids.note (c.args.octet ∷ []) c.requires.can_take k.open
-    c.requires.whole k.field_known k.note_known c.requires.known k.field k.note c.requires.octets c.put_octet.ensures.octets
-    c.put_octet.ensures.headers c.put_octet.ensures.open c.put_octet.ensures.declines c.put_octet.ensures.stepped
+    c.requires.whole k.field_known k.note_known c.requires.known k.field k.note c.requires.octets c.put_octet.ensures

@@ -1,7 +1,8 @@
-use Rattle.std.proofs.Common.{◌++◌, List, ℕ, ◌∙◌, ap, map, arith}
+use Rattle.std.proofs.Common.{List, ℕ, ◌∙◌, ap, map, arith}
 use Rattle.ion_value.specs.Value.{PlacedItem, user_symbol_at}
 use Rattle.ion_binary.specs.Canonical.{id_in}
 use Rattle.ion_binary.specs.Held.{counted_ids}
+use Rattle.ion_binary.specs.Opening.{both_octets}
 use Rattle.ion_binary.specs.Plain.{as_item, with_note}
 use Rattle.ion_binary.proofs.HeldMoves.{counted-are}
 use Rattle.ion_binary.proofs.PlainAdded.{member-noted}
@@ -12,13 +13,11 @@ returns g c =
     let w = c.args.self.now in
     let item : PlacedItem = with_note (as_item c.args.item.now) c.args.second.now c.args.place in
     let texts : List (List ℕ) = w.symbols.texts in
-    let notes : List ℕ = c.as_slice-2.result.now in
-    let lent : List ℕ = c.spell-spelled.result.lent.now in
+    let notes : List ℕ = c.as_slice.result.now in
     let field = c.in-Some.ensures in
     let pair = c.in-Some-pair_ids.ensures in
     let head = c.in-Some-name_of.ensures in
-    let p = c.put_behind.ensures in
-    member-noted w c.put_behind.new.self c.args.meter.now c.put_behind.new.meter item c.put_behind.result c.in-Some.name notes (c.as_slice.result.now ++ lent) c.requires.can_take
+    member-noted w c.put_behind.new.self c.args.meter.now c.put_behind.new.meter item c.put_behind.result c.in-Some.name notes (both_octets c.octets-scalar.result) c.requires.can_take
     (omega (arith, c.if-len-eq0.false, c.len.ensures)) c.requires.whole field.known (pair.known c.args.place) head.known field.octets
-    (ap counted_ids (c.as_slice-2.ensures.value ∙ pair.octets c.args.place) ∙ counted-are (id_in texts) (map user_symbol_at item.annotations))
-    (ap (λ (z : List ℕ). z ++ lent) c.as_slice.ensures.value ∙ c.spell-spelled.ensures (id_in texts) head.name) p.octets p.headers p.open p.declines p.stepped
+    (ap counted_ids (c.as_slice.ensures.value ∙ pair.octets c.args.place) ∙ counted-are (id_in texts) (map user_symbol_at item.annotations))
+    (c.octets-scalar.ensures ∙ c.spell-spelled.ensures (id_in texts) head.name) c.put_behind.ensures

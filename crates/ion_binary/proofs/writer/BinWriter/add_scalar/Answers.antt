@@ -10,5 +10,4 @@ returns g c =
     let item : PlacedItem = as_item c.args.item.now in
     let k = c.in-Some.ensures in
     member-plain w c.put_octets.new.self c.args.meter.now c.put_octets.new.meter item c.put_octets.result c.in-Some.ids.name c.in-Some.ids.note (both_octets c.args.scalar.now) c.requires.can_take k.open
-    c.requires.whole k.field_known k.note_known c.requires.known k.field k.note c.requires.octets c.put_octets.ensures.octets
-    c.put_octets.ensures.headers c.put_octets.ensures.open c.put_octets.ensures.declines c.put_octets.ensures.stepped
+    c.requires.whole k.field_known k.note_known c.requires.known k.field k.note c.requires.octets c.put_octets.ensures

@@ -20,5 +20,4 @@ returns g c =
     let known = subst K (sym c.requires.head) tt in
     let octets = subst O (sym c.requires.head) refl in
     member-plain w c.put_text.new.self c.args.meter.now c.put_text.new.meter item c.put_text.result c.in-Some.ids.name c.in-Some.ids.note (headed 8 c.args.text.now) c.requires.can_take k.open
-    whole k.field_known k.note_known known k.field k.note octets c.put_text.ensures.octets
-    c.put_text.ensures.headers c.put_text.ensures.open c.put_text.ensures.declines c.put_text.ensures.stepped
+    whole k.field_known k.note_known known k.field k.note octets c.put_text.ensures

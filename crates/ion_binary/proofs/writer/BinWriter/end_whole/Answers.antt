@@ -21,8 +21,8 @@ returns-clause-ends g c =
     c.requires.can_take c.requires.comes.counted c.requires.comes.follows c.requires.head c.in-Some.ensures c.if-outermost-ne0.false c.if-self.false all is put
     c.clear.ensures.nothing.0 c.clear.ensures.nothing.1 c.clear.ensures.open c.clear.ensures.stepped
 
-pub returns-then-room-len-clause-ends : goal.returns-then-room-len-clause-ends
-returns-then-room-len-clause-ends g c = grind (arith, common_steps) steps 400000
+pub returns-then-room-len : goal.returns-then-room-len
+returns-then-room-len g c = grind (arith, common_steps) steps 400000
 
 pub clear-requires-clause-one : goal.clear-requires-clause-one
 clear-requires-clause-one g c = grind (arith, common_steps) steps 400000
@@ -42,8 +42,8 @@ header-before-requires-clause-code g c = grind (arith, common_steps) steps 40000
 pub put_within-requires : goal.put_within-requires
 put_within-requires g c = grind (arith, common_steps) steps 400000
 
-pub returns-then-len-self-clause-ends : goal.returns-then-len-self-clause-ends
-returns-then-len-self-clause-ends g c = grind (arith, common_steps) steps 400000
+pub returns-then-len-self : goal.returns-then-len-self
+returns-then-len-self g c = grind (arith, common_steps) steps 400000
 
 pub returns-in_default-clause-ends : goal.returns-in_default-clause-ends
 returns-in_default-clause-ends g c = grind (arith, common_steps) steps 400000
@@ -53,15 +53,3 @@ returns-clause-device g c = grind (arith, common_steps) steps 400000
 
 pub returns-clause-fault : goal.returns-clause-fault
 returns-clause-fault g c = grind (arith, common_steps) steps 400000
-
-pub returns-then-room-len-clause-declines : goal.returns-then-room-len-clause-declines
-returns-then-room-len-clause-declines g c = grind (arith, common_steps) steps 400000
-
-pub returns-then-room-len-clause-device : goal.returns-then-room-len-clause-device
-returns-then-room-len-clause-device g c = grind (arith, common_steps) steps 400000
-
-pub returns-then-len-self-clause-declines : goal.returns-then-len-self-clause-declines
-returns-then-len-self-clause-declines g c = grind (arith, common_steps) steps 400000
-
-pub returns-then-room-len-clause-fault : goal.returns-then-room-len-clause-fault
-returns-then-room-len-clause-fault g c = grind (arith, common_steps) steps 400000

@@ -23,8 +23,5 @@ returns g c =
 pub returns-then-not-surely_fits : goal.returns-then-not-surely_fits
 returns-then-not-surely_fits g c = grind (arith, common_steps) steps 400000
 
-pub give_next-requires-clause-short : goal.give_next-requires-clause-short
-give_next-requires-clause-short g c = grind (arith, common_steps) steps 400000
-
-pub give_next-requires-clause-room : goal.give_next-requires-clause-room
-give_next-requires-clause-room g c = grind (arith, common_steps) steps 400000
+pub give_next-requires : goal.give_next-requires
+give_next-requires g c = grind (arith, common_steps) steps 400000

@@ -1,7 +1,7 @@
 use Rattle.std.proofs.Common.{◌∷◌, ◌++◌, [], List, ℕ, ap, ◌∙◌, arith}
 use Rattle.std.proofs.lemmas.Grind.{common_steps}
 use Rattle.ion_binary.specs.Canonical.{id_in}
-use Rattle.ion_binary.specs.Opening.{noted, noted_by}
+use Rattle.ion_binary.specs.Opening.{both_octets, noted, noted_by}
 use Rattle.ion_binary.proofs.writer.BinWriter.put_spelled.Goals as goal
 
 pub give_fresh-requires-clause-octets : goal.give_fresh-requires-clause-octets
@@ -9,14 +9,12 @@ give_fresh-requires-clause-octets g c new =
     let fresh = c.args.fresh in
     let note : ℕ = c.args.note in
     let texts : List (List ℕ) = c.args.self.now.symbols.texts in
-    let lent : List ℕ = c.spell-spelled.result.lent.now in
     let f = c.requires.can_put.text new in
-    let scalar : List ℕ = c.as_slice.result.now ++ lent in
-    ap (λ (z : List ℕ). z ++ lent) c.as_slice-3.ensures.value
+    let scalar : List ℕ = both_octets c.octets-scalar.result in
+    ap (λ (z : List ℕ). z ++ c.octets-scalar.result.rest.now) c.as_slice-2.ensures.value
     ∙ (c.in-Some.ensures.octets
-    ∙ (ap (λ (z : List ℕ). noted_by fresh.name z scalar) (c.as_slice-2.ensures.value ∙ c.id_octets-notes.ensures.octets)
-    ∙ (ap (λ (z : List ℕ). noted fresh.name note (z ++ lent)) c.as_slice.ensures.value
-    ∙ ap (noted fresh.name note) (c.spell-spelled.ensures (id_in (texts ++ fresh.text.now ∷ [])) f.symbol))))
+    ∙ (ap (λ (z : List ℕ). noted_by fresh.name z scalar) (c.as_slice.ensures.value ∙ c.id_octets-notes.ensures.octets)
+    ∙ ap (noted fresh.name note) (c.octets-scalar.ensures ∙ c.spell-spelled.ensures (id_in (texts ++ fresh.text.now ∷ [])) f.symbol)))
 
 pub returns-in_default : goal.returns-in_default
 returns-in_default g c = grind (arith, common_steps) steps 400000

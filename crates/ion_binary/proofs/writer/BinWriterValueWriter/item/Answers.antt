@@ -72,17 +72,11 @@ returns-in-Ok-clause-sound g c = grind (arith, common_steps) steps 400000
 pub returns-in-Err-clause-again : goal.returns-in-Err-clause-again
 returns-in-Err-clause-again g c = grind (arith, common_steps) steps 400000
 
-pub returns-in-Some-clause-part : goal.returns-in-Some-clause-part
-returns-in-Some-clause-part g c = grind (arith, common_steps) steps 400000
-
-pub returns-in-Some-clause-again : goal.returns-in-Some-clause-again
-returns-in-Some-clause-again g c = grind (arith, common_steps) steps 400000
+pub returns-in-Some : goal.returns-in-Some
+returns-in-Some g c = grind (arith, common_steps) steps 400000
 
 pub returns-in-Ok-clause-memory : goal.returns-in-Ok-clause-memory
 returns-in-Ok-clause-memory g c = grind (arith, common_steps) steps 400000
-
-pub returns-in-Some-clause-cut : goal.returns-in-Some-clause-cut
-returns-in-Some-clause-cut g c = grind (arith, common_steps) steps 400000
 
 pub returns-in-Err-clause-charges : goal.returns-in-Err-clause-charges
 returns-in-Err-clause-charges g c = grind (arith, common_steps) steps 400000
@@ -116,12 +110,6 @@ returns-in-Err-clause-limits g c = grind (arith, common_steps) steps 400000
 
 pub returns-in-Ok-clause-failed : goal.returns-in-Ok-clause-failed
 returns-in-Ok-clause-failed g c = grind (arith, common_steps) steps 400000
-
-pub returns-in-Some-clause-refuses : goal.returns-in-Some-clause-refuses
-returns-in-Some-clause-refuses g c = grind (arith, common_steps) steps 400000
-
-pub returns-in-Some-clause-sound : goal.returns-in-Some-clause-sound
-returns-in-Some-clause-sound g c = grind (arith, common_steps) steps 400000
 
 pub returns-in-Ok-clause-refuses : goal.returns-in-Ok-clause-refuses
 returns-in-Ok-clause-refuses g c = grind (arith, common_steps) steps 400000

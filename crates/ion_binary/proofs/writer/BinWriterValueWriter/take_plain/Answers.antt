@@ -8,7 +8,7 @@ use Rattle.ion_binary.specs.Opening.{MayCome}
 use Rattle.ion_binary.specs.Plain.{AddsPlain, EndsPlain, as_item, as_pair}
 use Rattle.ion_binary.specs.Writer.{ComesAt}
 use Rattle.ion_binary.specs.Writing.{written_behind}
-use Rattle.ion_binary.specs.declared.writer.plain.SingleItem.{SingleItem}
+use Rattle.ion_binary.specs.declared.writer.single.SingleItem.{SingleItem}
 use Rattle.ion_binary.proofs.PlainAdded.{ended-single, ends-follows, ends-puts, plain-adds, plain-comes, plain-follows}
 use Rattle.ion_binary.proofs.WriterFollows.{may-come, stands-behind}
 use Rattle.ion_binary.proofs.writer.BinWriterValueWriter.take_plain.Goals as goal
@@ -109,32 +109,14 @@ returns-then-len-eq1-clause-counted g c = grind (arith, common_steps) steps 4000
 pub returns-then-waits-clause-stands : goal.returns-then-waits-clause-stands
 returns-then-waits-clause-stands g c = grind (arith, common_steps) steps 400000
 
-pub returns-clause-same : goal.returns-clause-same
-returns-clause-same g c = grind (arith, common_steps) steps 400000
-
 pub returns-then-waits-clause-sound : goal.returns-then-waits-clause-sound
 returns-then-waits-clause-sound g c = grind (arith, common_steps) steps 400000
-
-pub returns-clause-device : goal.returns-clause-device
-returns-clause-device g c = grind (arith, common_steps) steps 400000
 
 pub returns-then-waits-clause-declines : goal.returns-then-waits-clause-declines
 returns-then-waits-clause-declines g c = grind (arith, common_steps) steps 400000
 
 pub returns-then-waits-clause-device : goal.returns-then-waits-clause-device
 returns-then-waits-clause-device g c = grind (arith, common_steps) steps 400000
-
-pub returns-then-len-eq1-clause-device : goal.returns-then-len-eq1-clause-device
-returns-then-len-eq1-clause-device g c = grind (arith, common_steps) steps 400000
-
-pub end_whole-requires-clause-can_take : goal.end_whole-requires-clause-can_take
-end_whole-requires-clause-can_take g c = grind (arith, common_steps) steps 400000
-
-pub add_plain-requires-clause-can_take : goal.add_plain-requires-clause-can_take
-add_plain-requires-clause-can_take g c = grind (arith, common_steps) steps 400000
-
-pub returns-then-len-eq1-clause-same : goal.returns-then-len-eq1-clause-same
-returns-then-len-eq1-clause-same g c = grind (arith, common_steps) steps 400000
 
 pub returns-then-waits-clause-charges : goal.returns-then-waits-clause-charges
 returns-then-waits-clause-charges g c = grind (arith, common_steps) steps 400000
@@ -147,6 +129,24 @@ returns-then-waits-clause-puts g c = grind (arith, common_steps) steps 400000
 
 pub returns-then-waits-clause-same : goal.returns-then-waits-clause-same
 returns-then-waits-clause-same g c = grind (arith, common_steps) steps 400000
+
+pub returns-clause-same : goal.returns-clause-same
+returns-clause-same g c = grind (arith, common_steps) steps 400000
+
+pub returns-clause-device : goal.returns-clause-device
+returns-clause-device g c = grind (arith, common_steps) steps 400000
+
+pub returns-then-len-eq1-clause-device : goal.returns-then-len-eq1-clause-device
+returns-then-len-eq1-clause-device g c = grind (arith, common_steps) steps 400000
+
+pub end_whole-requires-clause-can_take : goal.end_whole-requires-clause-can_take
+end_whole-requires-clause-can_take g c = grind (arith, common_steps) steps 400000
+
+pub add_plain-requires-clause-can_take : goal.add_plain-requires-clause-can_take
+add_plain-requires-clause-can_take g c = grind (arith, common_steps) steps 400000
+
+pub returns-then-len-eq1-clause-same : goal.returns-then-len-eq1-clause-same
+returns-then-len-eq1-clause-same g c = grind (arith, common_steps) steps 400000
 
 pub end_whole-requires-clause-head : goal.end_whole-requires-clause-head
 end_whole-requires-clause-head g c = grind (arith, common_steps) steps 400000

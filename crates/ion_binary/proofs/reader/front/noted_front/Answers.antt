@@ -3,7 +3,7 @@ use Rattle.ion_binary.specs.Lane.{frame_in}
 use Rattle.ion_binary.specs.Reading.{region_of}
 use Rattle.ion_binary.specs.Wrappers.{innermost}
 use Rattle.ion_binary.proofs.Handing.{bounds_around, front_noted}
-use Rattle.ion_binary.proofs.reader.lane.noted_front.Goals as goal
+use Rattle.ion_binary.proofs.reader.front.noted_front.Goals as goal
 
 pub overflow_add-place : goal.overflow_add-place
 overflow_add-place g c =

@@ -1,7 +1,7 @@
 use Rattle.ion_binary.specs.Lane.{frame_in}
 use Rattle.ion_binary.specs.Wrappers.{innermost}
 use Rattle.ion_binary.proofs.Handing.{front_bare}
-use Rattle.ion_binary.proofs.reader.lane.other_front.Goals as goal
+use Rattle.ion_binary.proofs.reader.front.other_front.Goals as goal
 
 pub returns : goal.returns
 returns g c =

@@ -1,10 +1,10 @@
 use Rattle.std.proofs.Common.{◌≡◌, sym, Some, refl, subst}
 use Rattle.ion_value.specs.declared.ion_type.Kind.TheVariants as kind
-use Rattle.ion_binary.specs.declared.reader.lane.Level.{Level}
+use Rattle.ion_binary.specs.declared.reader.front.Level.{Level}
 use Rattle.ion_binary.specs.Lane.{ShowsField, frame_of, kind_around}
 use Rattle.ion_binary.specs.Wrappers.{innermost}
 use Rattle.ion_binary.proofs.Handing.{shows_named}
-use Rattle.ion_binary.proofs.reader.lane.shown_field.Goals as goal
+use Rattle.ion_binary.proofs.reader.front.shown_field.Goals as goal
 
 pub returns-in-Some-shown_text : goal.returns-in-Some-shown_text
 returns-in-Some-shown_text g c =

@@ -1,6 +1,6 @@
 use Rattle.std.proofs.Common.{◌∙◌, sym}
 use Rattle.ion_binary.proofs.Handing.{around_last, around_top}
-use Rattle.ion_binary.proofs.reader.lane.around_in.Goals as goal
+use Rattle.ion_binary.proofs.reader.front.around_in.Goals as goal
 
 pub returns-in-None : goal.returns-in-None
 returns-in-None c = around_top c.args.frames.now (sym c.last.ensures.value ∙ (sym c.copied.ensures ∙ c.in-None.is))

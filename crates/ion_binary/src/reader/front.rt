@@ -1,0 +1,233 @@
+//! What stands in front of the head of an item that lies whole in the window.
+ghost use Rattle.std.specs.Prelude.{◌≡◌, ◌+◌, ◌^◌, ◌<◌, length, false, true, Option, Some, None, IfSome};
+ghost use Rattle.ion_binary.specs.Lane.{EndsHere, GoesOn, IsAround, FillsTo, ShowsField, ShowsFront, frame_in, inner_region, kind_around};
+ghost use Rattle.ion_binary.specs.Descriptor.{Region};
+ghost use Rattle.ion_binary.specs.Shown.{Bounds};
+ghost use Rattle.ion_binary.specs.Wrappers.{as_frames, innermost};
+ghost use Rattle.ion_value.specs.Value.{whole};
+
+use super::texts::{begins_with_dollar, shown_text};
+use crate::body::id_of;
+use crate::shown::{shown_note, shown_var};
+use crate::wrapper::Frame;
+use ion_meter::limits::Limits;
+use ion_value::ion_type::Kind;
+use ion_value::names::Names;
+use ion_value::plain_item::TextAt;
+
+// What is around a member: a container of some kind, or nothing at top level. It is one octet, where an
+// optional kind would be two.
+#[derive(Clone, Copy)]
+pub(crate) enum Level {
+    List,
+    Sexp,
+    Struct,
+    Top,
+}
+
+// Where a member stands: what is around it and the place of its end; or at top level, which goes as far as
+// all places.
+#[derive(Clone, Copy)]
+pub(crate) struct Around {
+    pub(super) level: Level,
+    pub(super) end: u64,
+}
+
+// Where the members of the innermost container stand.
+#[inline(always)]
+pub(super) fn around_in(frames: &[Frame]) -> Around
+    ensures { IsAround (as_frames frames.now) result }
+{
+    match frames.last().copied() {
+        None => Around {
+            level: Level::Top,
+            end: u64::MAX,
+        },
+        Some(frame) => inside(frame),
+    }
+}
+
+// Where the members of this container stand.
+#[inline(always)]
+pub(super) fn inside(frame: Frame) -> Around
+    ensures { (kind_around result.level ≡ Some frame.kind) × (result.end ≡ frame.end) }
+{
+    let level = match frame.kind {
+        Kind::List => Level::List,
+        Kind::Sexp => Level::Sexp,
+        Kind::Struct => Level::Struct,
+    };
+    Around {
+        level,
+        end: frame.end,
+    }
+}
+
+// The name of a field that stands before a member, and how many octets its id has; none outside
+// structs. It answers none where the window does not show an id that has a text that is known to be
+// simple, or any text where `any` says so.
+#[inline(always)]
+pub(super) fn shown_field<'n, N: Names>(
+    octets: &[u8],
+    here: u64,
+    around: Around,
+    names: &'n N,
+    any: bool,
+) -> Option<(Option<TextAt<'n>>, usize)>
+    ensures { IfSome result (λ r. ShowsField (N.text names.entry.now) octets.now here
+        (innermost (frame_in around)) r.0 r.1) }
+{
+    match around.level {
+        Level::Top | Level::List | Level::Sexp => Some((None, 0)),
+        Level::Struct => {
+            let Some((id, behind)) = shown_var(octets, 0) else {
+                return None;
+            };
+            let Some(name) = shown_text(id_of(id), here, names, any) else {
+                return None;
+            };
+            Some((Some(name), behind))
+        }
+    }
+}
+
+// Whether the innermost container ends at a place.
+#[inline(always)]
+pub(super) fn ends_here(around: Around, place: u64) -> bool
+    requires top { kind_around around.level ≡ None → place < around.end }
+    ensures ends { result ≡ true → EndsHere (frame_in around) place }
+    ensures goes_on { result ≡ false → GoesOn (frame_in around) place }
+{
+    around.end <= place
+}
+
+// What stands in front of the head of an item that is shown: a field's name and an annotation, where what is
+// behind the field's id begins among the octets, where the head does, and the place of the end of a wrapper
+// around it.
+#[derive(Clone, Copy)]
+pub(crate) struct Front<'n> {
+    pub(super) field: Option<TextAt<'n>>,
+    pub(super) annotation: Option<TextAt<'n>>,
+    pub(super) at: usize,
+    pub(super) head: usize,
+    pub(super) wrapper: Option<u64>,
+}
+
+// The front of an item with no annotation.
+#[inline(always)]
+pub(super) fn bare_front<'n>(field: Option<TextAt<'n>>, at: usize) -> Front<'n>
+    ensures { result ≡ record {
+      field = field.entry;
+      annotation = None;
+      at = at;
+      head = at;
+      wrapper = None;
+    } }
+{
+    Front {
+        field,
+        annotation: None,
+        at,
+        head: at,
+        wrapper: None,
+    }
+}
+
+// The front of an item in the annotation wrapper that begins at a place behind a field. It answers none where
+// the window does not show one that has one annotation, of a text that does not begin with a dollar sign.
+#[inline(always)]
+pub(super) fn noted_front<'n, N: Names>(
+    octets: &[u8],
+    here: u64,
+    around: Around,
+    field: Option<TextAt<'n>>,
+    at: usize,
+    limits: Limits,
+    names: &'n N,
+) -> Option<Front<'n>>
+    requires small { here + length octets.now < 2 ^ 63 }
+    requires field { ShowsField (N.text names.now) octets.now here
+        (innermost (frame_in around)) field at }
+    ensures { IfSome result (λ f. ShowsFront (N.text names.entry.now) limits octets.now here
+        (innermost (frame_in around)) f.field f.annotation f.at f.head f.wrapper) }
+{
+    if at >= octets.len() {
+        return None;
+    }
+    let Some(note) = shown_note(octets, here, at, around.end, limits) else {
+        return None;
+    };
+    let place = here + note.from as u64;
+    let Some(text) = shown_text(id_of(note.id), place, names, true) else {
+        return None;
+    };
+    if begins_with_dollar(text) {
+        return None;
+    }
+    Some(Front {
+        field,
+        annotation: Some(text),
+        at,
+        head: note.inner,
+        wrapper: Some(note.end),
+    })
+}
+
+// The front of an item that the loop over most leaves: one with an annotation, or with a name that is not
+// known to be simple. It answers none of others, which were declined there.
+#[inline(always)]
+pub(super) fn other_front<'n, N: Names>(
+    octets: &[u8],
+    here: u64,
+    around: Around,
+    field: Option<TextAt<'n>>,
+    at: usize,
+    limits: Limits,
+    names: &'n N,
+) -> Option<Front<'n>>
+    requires small { here + length octets.now < 2 ^ 63 }
+    requires field { ShowsField (N.text names.now) octets.now here
+        (innermost (frame_in around)) field at }
+    ensures { IfSome result (λ f. ShowsFront (N.text names.entry.now) limits octets.now here
+        (innermost (frame_in around)) f.field f.annotation f.at f.head f.wrapper) }
+{
+    if let Some(front) = noted_front(octets, here, around, field, at, limits, names) {
+        return Some(front);
+    }
+    if is_said_simple(field) {
+        return None;
+    }
+    Some(bare_front(field, at))
+}
+
+// Whether a name, where there is one, is known to be simple.
+#[inline(always)]
+fn is_said_simple(name: Option<TextAt<'_>>) -> bool {
+    match name {
+        Some(name) => name.simple,
+        None => true,
+    }
+}
+
+// How far a value may go: to the end of the wrapper around it, or else of its container.
+#[inline(always)]
+pub(super) fn inner_end(wrapper: Option<u64>, around: u64) -> u64
+    ensures { (region : Region) → Bounds region around
+        → Bounds (inner_region wrapper region) result }
+{
+    match wrapper {
+        Some(end) => end,
+        None => around,
+    }
+}
+
+// Whether what ends at a place fills the wrapper around it.
+#[inline(always)]
+pub(super) fn fills(wrapper: Option<u64>, place: u64) -> bool
+    ensures { result ≡ true → FillsTo wrapper place }
+{
+    match wrapper {
+        Some(end) => end == place,
+        None => true,
+    }
+}

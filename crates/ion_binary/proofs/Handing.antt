@@ -1,6 +1,6 @@
 -- An item that a window shows whole is the next one of the reading.
 use Rattle.std.proofs.Common.{◌≡◌, ℕ, ◌+◌, ◌-◌, ◌*◌, ◌<◌, ◌≤◌, Bool, true, false, List, [], ◌∷◌, ◌++◌, length, take, drop, map, Option, Some, None, Ok, refl, ap, ap₂, sym, subst, ◌∙◌, arith}
-use Rattle.std.specs.Prelude.{option_map, is_some, slice_get, ◌==◌, ◌&&◌, not}
+use Rattle.std.specs.Prelude.{option_map, is_some, slice_get, IfSome, ◌==◌, ◌&&◌, not}
 use Rattle.std.proofs.lemmas.Option.{slice_get-get_or}
 use Rattle.std.proofs.lemmas.Grind.{common_steps}
 use Rattle.std.proofs.lemmas.List.{take-append-drop, take_all}
@@ -20,11 +20,12 @@ use Rattle.ion_value.specs.Value.{SymbolAt, PlacedItem}
 use Rattle.ion_value.proofs.Readings.{reading_by-gives}
 use Rattle.ion_binary.specs.declared.wrapper.Frame as frame
 use Rattle.ion_binary.specs.declared.shown.Shown.{Shown}
+use Rattle.ion_binary.specs.declared.shown.ShownNote.{ShownNote}
 use Rattle.ion_binary.specs.Positions.{Frame, placed_scalar, symbol_id}
 use Rattle.ion_binary.specs.Descriptor.{var_uint_at}
 use Rattle.ion_binary.specs.Reading.{field_at, member_at, placed_item, region_of, step, step_for, step_of, top_of}
 use Rattle.ion_binary.specs.Reader.{IsInnermost, at_top, inside}
-use Rattle.ion_binary.specs.Shown.{Bounds, Reaches, ShowsItem, ShowsNote, ShowsVar, shown_value, window}
+use Rattle.ion_binary.specs.Shown.{Bounds, Reaches, ShowsItem, ShowsNote, ShowsVar, noted_ids, second_id, shown_value, window}
 use Rattle.ion_binary.proofs.ShownParts.{reaches-less, shows_noted, shows_plain}
 use Rattle.ion_value.specs.declared.plain_item.TextAt.{TextAt}
 use Rattle.ion_meter.specs.Windows.{IsPassed}
@@ -34,7 +35,7 @@ use Rattle.ion_value.specs.Feeding.{Hands}
 use Rattle.ion_value.specs.Items.{named_at, named_item, raw_head}
 use Rattle.ion_value.specs.Outcome.{one_if_closed}
 use Rattle.ion_value.specs.PlainItems as PlainItems
-use Rattle.ion_value.specs.PlainItems.{HasKnownName, IsPlainItem, IsRightlySimple, placed_text}
+use Rattle.ion_value.specs.PlainItems.{HasKnownName, HaveNoDollar, IsPlainItem, IsRightlyFormed, StandsBehind, placed_text, with_second}
 use Rattle.ion_value.specs.Reading.{Reading}
 use Rattle.ion_value.specs.Standing.{Continues, HasAnnotations, HasPlace, InRange, has_field, is_marker, open_after, open_behind}
 use Rattle.ion_value.specs.Value.{Head, Scalar, Symbol, map_head, map_scalar}
@@ -44,7 +45,7 @@ use Rattle.ion_binary.specs.Reading.{size}
 use Rattle.ion_binary.proofs.ReaderParts.{as_frames-length, innermost-struct, last-innermost, kinds-frames, kinds_of-length}
 use Rattle.ion_binary.proofs.Termination.{step-shrinks}
 use Rattle.std.specs.Prelude.{reverse}
-use Rattle.ion_binary.specs.Lane.{EndsHere, GoesOn, IsAround, ShowsField, ShowsFront, frame_in, frame_of, kind_around}
+use Rattle.ion_binary.specs.Lane.{EndsHere, GoesOn, IsAround, IsNote, IsSecondNote, ShowsField, ShowsFront, frame_in, frame_of, kind_around}
 use Rattle.ion_binary.specs.declared.reader.front.Level.TheVariants as level
 use Rattle.ion_binary.specs.declared.reader.front.Around.{Around}
 use Rattle.ion_binary.specs.Wrappers.{as_frame, as_frames, innermost}
@@ -107,12 +108,12 @@ shown-known (Some t) = tt
 
 -- a field whose id has a text
 pub shows_named : (texts : ℕ → Option (List ℕ)) (octets : List ℕ) (here : ℕ) (f : frame.Frame) (id behind : ℕ) (t : TextAt) → f.kind ≡ kind.Struct → ShowsVar octets 0 behind id
-    → texts (raw_id id) ≡ Some t.text.now → IsRightlySimple t → t.place ≡ here → ShowsField texts octets here (innermost (Some f)) (Some t) behind
-shows_named texts octets here f id behind t struct v has simple at = record {
+    → texts (raw_id id) ≡ Some t.text.now → IsRightlyFormed t → t.place ≡ here → ShowsField texts octets here (innermost (Some f)) (Some t) behind
+shows_named texts octets here f id behind t struct v has formed at = record {
   raw = Some (symbol_id id here);
   within = v.within;
   named = rw (has, at) refl;
-  simple = simple;
+  formed = formed;
   there = rw struct refl;
   gives = λ more reaches. named_field f (window here octets more) (skip behind (window here octets more)) struct
       (ap (var_uint_at (Some f.end)) (sym (skip-none here octets more)) ∙ v.gives here more (Some f.end) reaches);
@@ -120,30 +121,51 @@ shows_named texts octets here f id behind t struct v has simple at = record {
 
 -- a field with no wrapper behind it
 pub front_bare : (texts : ℕ → Option (List ℕ)) (limits : Limits) (octets : List ℕ) (here : ℕ) (frames : List Frame) (field : Option TextAt) (at : ℕ) → ShowsField texts octets here frames field at
-    → ShowsFront texts limits octets here frames field None at at None
+    → ShowsFront texts limits octets here frames (record { field = field; annotation = None; second = None; at = at; head = at; wrapper = None })
 front_bare texts limits octets here frames field at name = record {
   name = name;
   raws = [];
   named = refl;
   free = tt;
-  simple = tt;
+  formed = tt;
+  second = tt;
   within = name.within;
   gives = λ depth behind found v full. shows_plain limits octets here (region_of frames) depth at behind found v;
 }
 
--- a wrapper whose one id has a text without a dollar sign in front
-pub front_noted : (texts : ℕ → Option (List ℕ)) (limits : Limits) (octets : List ℕ) (here : ℕ) (frames : List Frame) (field : Option TextAt) (at from inner end id : ℕ) (t : TextAt)
-    → ShowsField texts octets here frames field at → ShowsNote limits octets here (region_of frames) at from inner end id → texts (raw_id id) ≡ Some t.text.now
-    → first_is (λ b. b == 36) t.text.now ≡ false → IsRightlySimple t → t.place ≡ here + from
-    → ShowsFront texts limits octets here frames field (Some t) at inner (Some end)
-front_noted texts limits octets here frames field at from inner end id t name n has free simple place = record {
+-- annotations by the ids of a wrapper
+module _ (texts : ℕ → Option (List ℕ)) (here id from : ℕ) (t : TextAt) (n : IsNote texts id (here + from) t) where
+  notes-named : (second : Option (ℕ × ℕ)) (u : Option TextAt) → IsSecondNote texts here second u → map (named_at texts) (symbol_id id (here + from) ∷ second_id here second) ≡ with_second (placed_text t ∷ []) u
+  notes-named None None m = rw (n.has, n.stands) refl
+  notes-named None (Some u) m = absurd m
+  notes-named (Some s) None m = absurd m
+  notes-named (Some s) (Some u) m = rw (n.has, n.stands, m.has, m.stands) refl
+
+  notes-free : (second : Option (ℕ × ℕ)) (u : Option TextAt) → IsSecondNote texts here second u → HaveNoDollar (with_second (placed_text t ∷ []) u)
+  notes-free None None m = (n.free, tt)
+  notes-free None (Some u) m = absurd m
+  notes-free (Some s) None m = absurd m
+  notes-free (Some s) (Some u) m = (n.free, (m.free, tt))
+
+second-formed : (texts : ℕ → Option (List ℕ)) (here : ℕ) (t : TextAt) (second : Option (ℕ × ℕ)) (u : Option TextAt) → IsSecondNote texts here second u → IfSome u (StandsBehind (Some t))
+second-formed texts here t None None m = tt
+second-formed texts here t None (Some u) m = absurd m
+second-formed texts here t (Some s) None m = absurd m
+second-formed texts here t (Some s) (Some u) m = m.formed
+
+-- a wrapper whose one id or two have texts without a dollar sign in front
+pub front_noted : (texts : ℕ → Option (List ℕ)) (limits : Limits) (octets : List ℕ) (here : ℕ) (frames : List Frame) (field : Option TextAt) (at : ℕ) (note : ShownNote) (t : TextAt) (u : Option TextAt)
+    → ShowsField texts octets here frames field at → ShowsNote limits octets here (region_of frames) at note → IsNote texts note.id (here + note.from) t → IsSecondNote texts here note.second u
+    → ShowsFront texts limits octets here frames (record { field = field; annotation = Some t; second = u; at = at; head = note.inner; wrapper = Some note.end })
+front_noted texts limits octets here frames field at note t u name n first second = record {
   name = name;
-  raws = symbol_id id (here + from) ∷ [];
-  named = rw (has, place) refl;
-  free = (free, tt);
-  simple = simple;
+  raws = noted_ids here note;
+  named = notes-named texts here note.id note.from t first note.second u second;
+  free = notes-free texts here note.id note.from t first note.second u second;
+  formed = first.formed;
+  second = second-formed texts here t note.second u second;
   within = n.within;
-  gives = λ depth behind found v full. shows_noted limits octets here (region_of frames) depth at from inner behind end id found n v full;
+  gives = λ depth behind found v full. shows_noted limits octets here (region_of frames) depth at behind note found n v full;
 }
 
 -- ---- a member, and where the reader stands behind it
@@ -209,8 +231,8 @@ field_fits frames f field inner there = field-there field ∙ (there ∙ (sym (i
 
 -- the item that is shown, with the texts of its ids, is the plain one
 pub plain_seen : (texts : ℕ → Option (List ℕ)) (top place : ℕ) (raw : Option SymbolAt) (raws : List SymbolAt) (head : Head SymbolAt) (item : PlainItem)
-    → option_map (named_at texts) raw ≡ option_map placed_text item.field → map (named_at texts) raws ≡ PlainItems.listed (option_map placed_text item.annotation) → raw_head item.head ≡ map_head (named_at texts) head → item.place ≡ place → item.top ≡ top
-    → named_item texts (placed_item top raw raws place head) ≡ PlainItems.single_item item
+    → option_map (named_at texts) raw ≡ option_map placed_text item.field → map (named_at texts) raws ≡ with_second (PlainItems.listed (option_map placed_text item.annotation)) item.second → raw_head item.head ≡ map_head (named_at texts) head → item.place ≡ place → item.top ≡ top
+    → named_item texts (placed_item top raw raws place head) ≡ PlainItems.placed_item item
 plain_seen texts top place raw raws head item named notes head_is at first = rw (named, notes, head_is, at, first) refl
 
 -- one item goes on, as the writer's contract has it
@@ -241,21 +263,21 @@ hands_by w see reads coming then kinds kinds_then pen pen_then from to values it
 -- a scalar may stand where it is shown
 pub scalar_fits : (depth : ℕ) (frames : List frame.Frame) (f : Option frame.Frame) (texts : ℕ → Option (List ℕ)) (place : ℕ) (v : Scalar Symbol) (item : PlainItem) → IsInnermost (as_frames frames) f
     → is_some item.field ≡ in_struct (map (λ x. x.kind) (innermost f)) → raw_head item.head ≡ map_head (named_at texts) (value.whole (placed_scalar place v)) → InRange v
-    → Fits depth (kinds_of frames) (PlainItems.single_item item)
+    → Fits depth (kinds_of frames) (PlainItems.placed_item item)
 scalar_fits depth frames f texts place v item inner there head range = record {
   place = subst (λ (h : Head SymbolAt). HasPlace depth (kinds_of frames) h) (sym head) (named-range (named_at texts) place v range);
   field = field_fits frames f item.field inner there ∙ sym (ap (has_field (kinds_of frames)) head);
-  annotations = subst (λ (h : Head SymbolAt). HasAnnotations h (PlainItems.single_item item).annotations) (sym head) tt;
+  annotations = subst (λ (h : Head SymbolAt). HasAnnotations h (PlainItems.placed_item item).annotations) (sym head) tt;
 }
 
 -- and so may a container's beginning
 pub begin_fits : (depth : ℕ) (frames : List frame.Frame) (f : Option frame.Frame) (kind : Kind) (item : PlainItem) → IsInnermost (as_frames frames) f
     → is_some item.field ≡ in_struct (map (λ x. x.kind) (innermost f)) → raw_head item.head ≡ value.begin kind → length frames < depth
-    → Fits depth (kinds_of frames) (PlainItems.single_item item)
+    → Fits depth (kinds_of frames) (PlainItems.placed_item item)
 begin_fits depth frames f kind item inner there head deep = record {
   place = subst (λ (h : Head SymbolAt). HasPlace depth (kinds_of frames) h) (sym head) (omega (arith, kinds_of-length frames));
   field = field_fits frames f item.field inner there ∙ sym (ap (has_field (kinds_of frames)) head);
-  annotations = subst (λ (h : Head SymbolAt). HasAnnotations h (PlainItems.single_item item).annotations) (sym head) tt;
+  annotations = subst (λ (h : Head SymbolAt). HasAnnotations h (PlainItems.placed_item item).annotations) (sym head) tt;
 }
 
 -- an end may stand where a container is open

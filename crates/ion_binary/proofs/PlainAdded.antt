@@ -5,7 +5,6 @@ use Rattle.ion_meter.specs.Counts.{Counts}
 use Rattle.ion_meter.specs.declared.limits.Limits.{Limits}
 use Rattle.ion_meter.specs.declared.fault.Reason.{Reason}
 use Rattle.ion_value.specs.declared.plain_item.PlainItem.{PlainItem}
-use Rattle.ion_value.specs.declared.plain_item.SecondAt.{SecondAt}
 use Rattle.ion_value.specs.declared.plain_item.TextAt.{TextAt}
 use Rattle.ion_value.specs.Items.{raw_head}
 use Rattle.ion_value.specs.PlainItems.{listed, placed_item, placed_text, single_item, with_second}
@@ -288,7 +287,7 @@ pub ended-bare : {A : Type 0} (limits : Limits) (v : OpenValue A) (item : Placed
 ended-bare {A} limits v item e may = let P : Head SymbolAt → Type 0 = λ h. MayAdd {A = A} limits v h item in subst P e may
 
 -- nor has it a second annotation
-none-behind : (notes : List SymbolAt) (second : Option SecondAt) → with_second notes second ≡ [] → with_second notes second ≡ notes
+none-behind : (notes : List SymbolAt) (second : Option TextAt) → with_second notes second ≡ [] → with_second notes second ≡ notes
 none-behind notes None bare = refl
 none-behind [] (Some s) bare = absurd (Prim.cc bare)
 none-behind (n ∷ ns) (Some s) bare = absurd (Prim.cc bare)

@@ -19,8 +19,9 @@ use Rattle.ion_binary.specs.Descriptor.{Region, Shape, null, bool, nop_pad, wrap
 use Rattle.ion_binary.specs.Finds.{end_by, IsOfDescriptor}
 use Rattle.ion_binary.specs.Parts.{body_here}
 use Rattle.ion_binary.specs.Reading.{TypedValue, a_scalar, bare_at, fits, ids_at, inner_at, read_by_descriptor, typed_value_at, wrapper_length}
-use Rattle.ion_binary.specs.Shown.{Bounds, Fills, IsShown, Reaches, ShowsBegin, ShowsBody, ShowsItem, ShowsLength, ShowsNote, ShowsValue, ShowsVar, far_end, shown_scalar, shown_value, window}
+use Rattle.ion_binary.specs.Shown.{Bounds, Fills, IsShown, Reaches, ShowsBegin, ShowsBody, ShowsItem, ShowsLength, ShowsNote, ShowsSecond, ShowsValue, ShowsVar, far_end, noted_ids, second_id, shown_scalar, shown_value, window}
 use Rattle.ion_binary.specs.declared.shown.Shown.{Shown}
+use Rattle.ion_binary.specs.declared.shown.ShownNote.{ShownNote}
 use Rattle.ion_binary.specs.declared.shown.Shown.TheVariants as shown
 use Rattle.ion_binary.specs.declared.shown.ShownScalar.TheVariants as scalars
 use Rattle.ion_value.specs.declared.ion_type.IonType.{IonType}
@@ -118,31 +119,65 @@ length_code_shown octets length_code at h few = record {
 pub length_shown : (octets : List ℕ) (length_code at behind number : ℕ) → length_code ≡ 14 → ShowsVar octets at behind number → ShowsLength octets length_code at behind number
 unfolding length_at
 length_shown octets length_code at behind number is v = record {
-  further = v.further;
+  further = omega (arith, v.further);
   within = v.within;
   gives = λ here more r reaches. rw is (v.gives here more r reaches);
 }
 
--- ---- one annotation
+-- ---- one annotation or two
 
 passes-not : (r : Region) (place n : ℕ) → Reaches r (place + n) → passes r place n ≡ false
 passes-not None place n reaches = refl
 passes-not (Some end) place n reaches = le-ltb end (place + n) reaches
 
-no_more : (limits : Limits) (most end : ℕ) (d : Cursor) → end ≡ d.place → ids_at most limits end (0 + 1) d ≡ Ok ([], d)
+no_more : (limits : Limits) (most end count : ℕ) (d : Cursor) → end ≡ d.place → ids_at most limits end count d ≡ Ok ([], d)
 unfolding ids_at
-no_more limits zero end d last = refl
-no_more limits (suc most) end d last = let over : nat_le end d.place ≡ true = le-leb end d.place (omega arith) in rw over refl
+no_more limits zero end count d last = refl
+no_more limits (suc most) end count d last = let over : nat_le end d.place ≡ true = le-leb end d.place (omega arith) in rw over refl
 
--- the ids of a wrapper that has one
-one_id : (limits : Limits) (most end id : ℕ) (c d : Cursor) → 0 < most → c.place < end → end ≡ d.place → var_uint_at (Some end) c ≡ Ok (id, d) → 16 ≤ limits.scalar
-    → ids_at most limits end 0 c ≡ Ok (symbol_id id c.place ∷ [], d)
+-- an id, and those after it
+id_first : (limits : Limits) (most end count id : ℕ) (c d e : Cursor) (others : List SymbolAt) → 0 < most → c.place < end → var_uint_at (Some end) c ≡ Ok (id, d) → 16 * (count + 1) ≤ limits.scalar
+    → ((m : ℕ) → most ≡ suc m → ids_at m limits end (count + 1) d ≡ Ok (others, e)) → ids_at most limits end count c ≡ Ok (symbol_id id c.place ∷ others, e)
 unfolding ids_at
-one_id limits zero end id c d some before last e few = absurd (omega arith)
-one_id limits (suc most) end id c d some before last e few =
+id_first limits zero end count id c d e others some before first few rest = absurd (omega arith)
+id_first limits (suc most) end count id c d e others some before first few rest =
     let open_end : nat_le end c.place ≡ false = lt-leb end c.place before in
-    let within : nat_lt limits.scalar (16 * (0 + 1)) ≡ false = le-ltb limits.scalar (16 * (0 + 1)) (omega arith) in
-    rw (open_end, e, within, no_more limits most end d last) refl
+    let within : nat_lt limits.scalar (16 * (count + 1)) ≡ false = le-ltb limits.scalar (16 * (count + 1)) few in
+    rw (open_end, first, within, rest most refl) refl
+
+-- those after the first of a wrapper that has one or two
+second_shown : (limits : Limits) (octets more : List ℕ) (here at inner most : ℕ) (second : Option (ℕ × ℕ)) → 0 < most → ShowsSecond octets at second inner → 32 ≤ limits.scalar
+    → ids_at most limits (here + inner) 1 (skip at (window here octets more)) ≡ Ok (second_id here second, skip inner (window here octets more))
+second_shown limits octets more here at inner most None some last few =
+    let c = window here octets more in
+    no_more limits most (here + inner) 1 (skip at c) (omega (arith, last)) ∙ ap (λ n. Ok ([], skip n c)) (sym last)
+second_shown limits octets more here at inner most (Some s) some v few =
+    let c = window here octets more in
+    let further : at < inner = v.1.further in
+    rw v.0 (id_first limits most (here + inner) 1 s.0 (skip at c) (skip inner c) (skip inner c) [] some (omega (arith, further))
+    (v.1.gives here more (Some (here + inner)) (omega arith)) few (λ m e. no_more limits m (here + inner) 2 (skip inner c) refl))
+
+-- the ids of a wrapper that has one or two
+ids_shown : (limits : Limits) (octets more : List ℕ) (here first : ℕ) (n : ShownNote) → 0 < n.from → ShowsVar octets n.from first n.id → ShowsSecond octets first n.second n.inner → first ≤ n.inner → 32 ≤ limits.scalar
+    → ids_at (here + n.inner) limits (here + n.inner) 0 (skip n.from (window here octets more)) ≡ Ok (noted_ids here n, skip n.inner (window here octets more))
+ids_shown limits octets more here first n some v second before few =
+    let c = window here octets more in
+    let further : n.from < first = v.further in
+    id_first limits (here + n.inner) (here + n.inner) 0 n.id (skip n.from c) (skip first c) (skip n.inner c) (second_id here n.second) (omega (arith, further, before)) (omega (arith, further, before))
+    (v.gives here more (Some (here + n.inner)) (omega (arith, before))) (omega (arith, few))
+    (λ m e. second_shown limits octets more here first n.inner m n.second (omega (arith, e, some, further, before)) second few)
+
+second-further : (octets : List ℕ) (at inner : ℕ) (second : Option (ℕ × ℕ)) → ShowsSecond octets at second inner → at ≤ inner
+second-further octets at inner None last = omega (arith, last)
+second-further octets at inner (Some s) v = omega (arith, v.1.further)
+
+second-within : (octets : List ℕ) (at inner : ℕ) (second : Option (ℕ × ℕ)) → at ≤ length octets → ShowsSecond octets at second inner → inner ≤ length octets
+second-within octets at inner None within last = omega (arith, within, last)
+second-within octets at inner (Some s) within v = v.1.within
+
+second-starts : (octets : List ℕ) (at inner : ℕ) (second : Option (ℕ × ℕ)) → ShowsSecond octets at second inner → IfSome second (λ s. s.1 ≤ inner)
+second-starts octets at inner None last = tt
+second-starts octets at inner (Some s) v = omega (arith, v.0, v.1.further)
 
 -- ---- values
 
@@ -283,19 +318,23 @@ shows_begin limits octets here r depth at behind length_code kind found b h smal
 
 -- ---- annotations
 
--- the lengths of a wrapper, and its one id
-pub shows_note : (limits : Limits) (octets : List ℕ) (here : ℕ) (r : Region) (at behind from inner length_code count ids id b end : ℕ)
-    → at < length octets → get_or octets at 0 ≡ b → wrapper_length (shape_of b) ≡ Some length_code → ShowsLength octets length_code (at + 1) behind count → ShowsVar octets behind from ids
-    → ShowsVar octets from inner id → end ≡ here + behind + count → 16 ≤ limits.scalar → 3 ≤ count → from + ids ≡ inner → 0 < ids → here + inner < end → Reaches r end
-    → ShowsNote limits octets here r at from inner end id
-unfolding ids_at
-shows_note limits octets here r at behind from inner length_code count ids id b end h is wraps l v i e few long fills some room reaches =
-    let near : Reaches r (here + (at + 1)) = reaches-less r (here + (at + 1)) end (omega (arith, l.further, v.further)) reaches in
-    let header : Reaches r (here + behind) = reaches-less r (here + behind) end (omega (arith, v.further)) reaches in
+-- the lengths of a wrapper, and its one id or two, of which the first ends at `first`
+pub shows_note : (limits : Limits) (octets : List ℕ) (here : ℕ) (r : Region) (at behind first length_code count ids b : ℕ) (n : ShownNote)
+    → at < length octets → get_or octets at 0 ≡ b → wrapper_length (shape_of b) ≡ Some length_code → ShowsLength octets length_code (at + 1) behind count → ShowsVar octets behind n.from ids
+    → ShowsVar octets n.from first n.id → ShowsSecond octets first n.second n.inner → n.end ≡ here + behind + count → 32 ≤ limits.scalar → 3 ≤ count → n.from + ids ≡ n.inner → 0 < ids → here + n.inner < n.end → Reaches r n.end
+    → ShowsNote limits octets here r at n
+shows_note limits octets here r at behind first length_code count ids b n h is wraps l v i s e few long fills some room reaches =
+    let from = n.from in
+    let inner = n.inner in
+    let end = n.end in
+    let before : first ≤ inner = second-further octets first inner n.second s in
+    let near : Reaches r (here + (at + 1)) = reaches-less r (here + (at + 1)) end (omega (arith, l.further, v.further, i.further)) reaches in
+    let header : Reaches r (here + behind) = reaches-less r (here + behind) end (omega (arith, v.further, i.further)) reaches in
     record {
-      further = omega (arith, l.further, v.further);
-      starts = i.further;
-      within = i.within;
+      further = omega (arith, l.further, v.further, i.further);
+      starts = omega (arith, i.further);
+      second = second-starts octets first inner n.second s;
+      within = second-within octets first inner n.second i.within s;
       reaches = near;
       octet = b;
       length_code = length_code;
@@ -314,8 +353,7 @@ shows_note limits octets here r at behind from inner length_code count ids id b 
           (l.gives here more r header) refl (v.gives here more (Some (here + behind + count)) inside) refl over bad
           ∙ ap (λ n. Ok (record { ids = n; end = here + behind + count }, skip from c)) where_ids
           ∙ ap (λ n. Ok (record { ids = here + inner; end = n }, skip from c)) (sym e);
-      ids = λ more. one_id limits (here + inner) (here + inner) id (skip from (window here octets more)) (skip inner (window here octets more)) (omega arith) (omega arith) refl
-          (i.gives here more (Some (here + inner)) (omega arith)) few;
+      ids = λ more. ids_shown limits octets more here first n (omega (arith, l.further, v.further)) i s before few;
     }
 
 -- a value with no annotation
@@ -332,10 +370,10 @@ shows_plain limits octets here r depth at behind found v = record {
 }
 
 -- a value that fills a wrapper
-pub shows_noted : (limits : Limits) (octets : List ℕ) (here : ℕ) (r : Region) (depth at from inner behind end id : ℕ) (found : Shown) → ShowsNote limits octets here r at from inner end id
-    → ShowsValue limits octets here (Some end) depth inner behind found → end ≡ far_end here behind found
-    → ShowsItem limits octets here r depth at inner behind (symbol_id id (here + from) ∷ []) found
-shows_noted limits octets here r depth at from inner behind end id found n v full = record {
+pub shows_noted : (limits : Limits) (octets : List ℕ) (here : ℕ) (r : Region) (depth at behind : ℕ) (note : ShownNote) (found : Shown) → ShowsNote limits octets here r at note
+    → ShowsValue limits octets here (Some note.end) depth note.inner behind found → note.end ≡ far_end here behind found
+    → ShowsItem limits octets here r depth at note.inner behind (noted_ids here note) found
+shows_noted limits octets here r depth at behind note found n v full = record {
   further = omega (arith, n.further, v.further);
   starts = omega (arith, v.further);
   within = v.within;
@@ -343,10 +381,11 @@ shows_noted limits octets here r depth at from inner behind end id found n v ful
   reaches = n.reaches;
   gives = λ more frames top field e l.
       let c = window here octets more in
+      let inner = note.inner in
       value_at-wrapper limits frames top field (skip at c) (skip (at + 1) c) r n.octet n.length_code e (n.first more) n.is
-      ∙ (annotated_at-wrapper limits frames top field (here + at) n.length_code (skip (at + 1) c) (skip from c) r (record { ids = here + inner; end = end }) e (n.lengths more)
-      ∙ (ap (λ p. p >>= λ annotations. inner_at limits frames top field annotations.0 end annotations.1) (n.ids more)
-      ∙ (inner_at-octet limits frames top field (symbol_id id (here + from) ∷ []) end (skip inner c) (skip (inner + 1) c) depth v.octet l (v.first more) ∙ rw (v.gives true more full) refl)));
+      ∙ (annotated_at-wrapper limits frames top field (here + at) n.length_code (skip (at + 1) c) (skip note.from c) r (record { ids = here + inner; end = note.end }) e (n.lengths more)
+      ∙ (ap (λ p. p >>= λ annotations. inner_at limits frames top field annotations.0 note.end annotations.1) (n.ids more)
+      ∙ (inner_at-octet limits frames top field (noted_ids here note) note.end (skip inner c) (skip (inner + 1) c) depth v.octet l (v.first more) ∙ rw (v.gives true more full) refl)));
 }
 
 -- ---- what calls answer

@@ -1,5 +1,5 @@
 -- What a call that hands one item to a writer asks for, gives, keeps and moves.
-use Rattle.std.specs.Prelude.{◌≡◌, ℕ, ◌+◌, ◌*◌, ◌-◌, ◌^◌, ◌<◌, ◌≤◌, Bool, true, false, List, get_or, length, map, Option, Some, None, option_map, is_some, IfSome, Ok, ⊤}
+use Rattle.std.specs.Prelude.{◌≡◌, ◌==◌, ℕ, ◌+◌, ◌*◌, ◌-◌, ◌^◌, ◌<◌, ◌≤◌, Bool, true, false, List, get_or, length, map, Option, Some, None, option_map, is_some, IfSome, Ok, ⊤}
 use Rattle.ion_meter.specs.Counts.{Counts}
 use Rattle.ion_meter.specs.Windows.{Outgoing, left, lent}
 use Rattle.ion_meter.specs.Sources.{BytesAreLeft, Stands, skip}
@@ -12,7 +12,9 @@ use Rattle.ion_value.specs.Outcome.{one_if_closed}
 use Rattle.ion_value.specs.Shares.{Charges}
 use Rattle.ion_value.specs.declared.plain_item.TextAt.{TextAt}
 use Rattle.ion_value.specs.Items.{named_at}
-use Rattle.ion_value.specs.PlainItems.{HaveNoDollar, IsRightlySimple, listed, placed_text}
+use Rattle.ion_value.specs.Digits.{first_is}
+use Rattle.ion_value.specs.Name.{raw_id}
+use Rattle.ion_value.specs.PlainItems.{HaveNoDollar, IsRightlyFormed, StandsBehind, listed, placed_text, with_second}
 use Rattle.ion_value.specs.Standing.{in_struct}
 use Rattle.ion_value.specs.Value.{PlacedItem, SymbolAt}
 use Rattle.ion_binary.specs.declared.wrapper.Frame as frame
@@ -104,7 +106,7 @@ pub record ShowsField (texts : ℕ → Option (List ℕ)) (octets : List ℕ) (h
   pub raw : Option SymbolAt
   pub within : behind ≤ length octets
   pub named : option_map (named_at texts) raw ≡ option_map placed_text field
-  pub simple : IfSome field IsRightlySimple
+  pub formed : IfSome field IsRightlyFormed
   pub there : is_some field ≡ in_struct (map (λ f. f.kind) frames)
   pub gives : (more : List ℕ) → Reaches (region_of frames) (here + behind) → field_at frames (window here octets more) ≡ Ok (raw, skip behind (window here octets more))
 
@@ -118,16 +120,35 @@ abbrev pub FillsTo : Region → ℕ → Type 0
 FillsTo (Some end) place = end ≡ place
 FillsTo None place = ⊤
 
--- octets show what stands in front of a head: a field's name, and behind that, from a place on, a wrapper with an annotation, or nothing; a value that is shown behind it is one with this field and annotation
-pub record ShowsFront (texts : ℕ → Option (List ℕ)) (limits : Limits) (octets : List ℕ) (here : ℕ) (frames : List Frame) (field annotation : Option TextAt) (at head : ℕ) (wrapper : Region) : Type 0 where
-  pub name : ShowsField texts octets here frames field at
+-- a text is that of an annotation's id, which stands at a place, and has no dollar sign in front
+pub record IsNote (texts : ℕ → Option (List ℕ)) (id place : ℕ) (t : TextAt) : Type 0 where
+  pub has : texts (raw_id id) ≡ Some t.text.now
+  pub stands : t.place ≡ place
+  pub free : first_is (λ b. b == 36) t.text.now ≡ false
+  pub formed : IsRightlyFormed t
+
+-- so is that of a second one, if there is one
+abbrev pub IsSecondNote : (ℕ → Option (List ℕ)) → ℕ → Option (ℕ × ℕ) → Option TextAt → Type 0
+IsSecondNote texts here None None = ⊤
+IsSecondNote texts here None (Some t) = ⊥
+IsSecondNote texts here (Some s) None = ⊥
+IsSecondNote texts here (Some s) (Some t) = IsNote texts s.0 (here + s.1) t
+
+-- the annotations in front of a head
+abbrev pub notes_of : Front → List SymbolAt
+notes_of f = with_second (listed (option_map placed_text f.annotation)) f.second
+
+-- octets show what stands in front of a head: a field's name, and after that a wrapper with an annotation or two, or nothing; a value that is shown after it is one with this field and these annotations
+pub record ShowsFront (texts : ℕ → Option (List ℕ)) (limits : Limits) (octets : List ℕ) (here : ℕ) (frames : List Frame) (f : Front) : Type 0 where
+  pub name : ShowsField texts octets here frames f.field f.at
   pub raws : List SymbolAt
-  pub named : map (named_at texts) raws ≡ listed (option_map placed_text annotation)
-  pub free : HaveNoDollar (listed (option_map placed_text annotation))
-  pub simple : IfSome annotation IsRightlySimple
-  pub within : head ≤ length octets
-  pub gives : (depth behind : ℕ) (found : Shown) → ShowsValue limits octets here (inner_region wrapper (region_of frames)) depth head behind found
-      → FillsTo wrapper (far_end here behind found) → ShowsItem limits octets here (region_of frames) depth at head behind raws found
+  pub named : map (named_at texts) raws ≡ notes_of f
+  pub free : HaveNoDollar (notes_of f)
+  pub formed : IfSome f.annotation IsRightlyFormed
+  pub second : IfSome f.second (StandsBehind f.annotation)
+  pub within : f.head ≤ length octets
+  pub gives : (depth behind : ℕ) (found : Shown) → ShowsValue limits octets here (inner_region f.wrapper (region_of frames)) depth f.head behind found
+      → FillsTo f.wrapper (far_end here behind found) → ShowsItem limits octets here (region_of frames) depth f.at f.head behind raws found
 
 -- the container around a member, by where the member stands
 abbrev pub kind_around : Level → Option Kind
@@ -166,7 +187,7 @@ pub record CanHandMember {I A W O : Type 0} (w : WriterOf W O A) (r : BinReader 
 -- this stands in front of its head
 pub record CanHandFront {I A W O : Type 0} (w : WriterOf W O A) (texts : ℕ → Option (List ℕ)) (r : BinReader I A) (a : Around) (f : Front) (pen : W) (sink : Outgoing O) (meter : Counts) : Type 0 where
   pub member : CanHandMember w r a pen sink meter
-  pub front : ShowsFront texts r.limits (lent r.source) r.source.place (innermost (frame_in a)) f.field f.annotation f.at f.head f.wrapper
+  pub front : ShowsFront texts r.limits (lent r.source) r.source.place (innermost (frame_in a)) f
 
 -- and its head has this shape
 pub record CanHandShape {I A W O : Type 0} (w : WriterOf W O A) (texts : ℕ → Option (List ℕ)) (r : BinReader I A) (a : Around) (f : Front) (shape : Shape) (pen : W) (sink : Outgoing O) (meter : Counts) : Type 0 where

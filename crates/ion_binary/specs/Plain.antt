@@ -5,7 +5,7 @@ use Rattle.ion_value.specs.Items.{raw_head}
 use Rattle.ion_value.specs.PlainItems.{listed, placed_text, with_second}
 use Rattle.ion_value.specs.Value as value
 use Rattle.ion_value.specs.Value.{SymbolAt, user_symbol_at, Head, PlacedItem}
-use Rattle.ion_value.specs.declared.plain_item.SecondAt.{SecondAt}
+use Rattle.ion_value.specs.declared.plain_item.TextAt.{TextAt}
 use Rattle.ion_binary.specs.declared.writer.BinWriter.{BinWriter}
 use Rattle.ion_binary.specs.declared.writer.single.SingleItem.{SingleItem}
 use Rattle.ion_symbols.specs.Output.{texts_cost}
@@ -29,7 +29,7 @@ abbrev pub with_note : PlacedItem → List ℕ → ℕ → PlacedItem
 with_note item text place = record item { annotations = item.annotations ++ record { symbol = value.Text text; place = place } ∷ [] }
 
 -- an item with a second annotation, if there is one
-abbrev pub as_pair : SingleItem → Option SecondAt → PlacedItem
+abbrev pub as_pair : SingleItem → Option TextAt → PlacedItem
 as_pair item second = record (as_item item) { annotations = with_second (as_item item).annotations second }
 
 -- a head is a scalar

@@ -1,5 +1,5 @@
 -- What a window shows of an item that lies whole in it.
-use Rattle.std.specs.Prelude.{◌≡◌, ℕ, ◌+◌, ◌<◌, ◌≤◌, Bool, true, false, List, [], ◌∷◌, ◌++◌, length, take, drop, Option, Some, None, Ok, ⊤}
+use Rattle.std.specs.Prelude.{◌≡◌, ℕ, ◌+◌, ◌<◌, ◌≤◌, Bool, true, false, List, [], ◌∷◌, ◌++◌, length, take, drop, Option, Some, None, IfSome, Ok, ⊤}
 use Rattle.ion_meter.specs.Sources.{Cursor, skip}
 use Rattle.ion_meter.specs.declared.limits.Limits.{Limits}
 use Rattle.ion_value.specs.declared.ion_type.Kind.{Kind}
@@ -11,6 +11,7 @@ use Rattle.ion_binary.specs.declared.shown.ShownScalar.{ShownScalar}
 use Rattle.ion_binary.specs.declared.shown.ShownScalar.TheVariants as scalars
 use Rattle.ion_binary.specs.declared.shown.Shown.{Shown}
 use Rattle.ion_binary.specs.declared.shown.Shown.TheVariants as shown
+use Rattle.ion_binary.specs.declared.shown.ShownNote.{ShownNote}
 use Rattle.ion_binary.specs.Positions.{Frame, symbol_id}
 use Rattle.ion_binary.specs.Descriptor.{Region, length_at, octet_at, shape_of, var_uint_at}
 use Rattle.ion_binary.specs.Reading.{TypedValue, a_scalar, a_container, ids_at, region_of, step_for, typed_value_at, value_at, wrapper_at, wrapper_length}
@@ -51,7 +52,7 @@ IsShown limits depth (shown.Begin kind end) = depth < limits.depth
 
 -- these octets show a VarUInt from one place of them to another, whatever follows them, where the region holds it
 pub record ShowsVar (octets : List ℕ) (at behind number : ℕ) : Type 0 where
-  pub further : at ≤ behind
+  pub further : at < behind
   pub within : behind ≤ length octets
   pub gives : (here : ℕ) (more : List ℕ) (region : Region) → Reaches region (here + behind)
       → var_uint_at region (skip at (window here octets more)) ≡ Ok (number, skip behind (window here octets more))
@@ -109,20 +110,35 @@ pub record ShowsValue (limits : Limits) (octets : List ℕ) (here : ℕ) (region
       → typed_value_at limits (record { wrapped = wrapped; region = region; depth = depth }) octet (skip (at + 1) (window here octets more))
       ≡ Ok (shown_value found, skip behind (window here octets more))
 
--- the lengths of a wrapper at a place, and its one annotation: the place of that, where the value begins, and where the wrapper ends
-pub record ShowsNote (limits : Limits) (octets : List ℕ) (here : ℕ) (region : Region) (at from inner end id : ℕ) : Type 0 where
-  pub further : at + 1 ≤ inner
-  pub starts : from ≤ inner
-  pub within : inner ≤ length octets
+-- these octets show a second id and its offset, where there is one, from an offset to where the ids end
+abbrev pub ShowsSecond : List ℕ → ℕ → Option (ℕ × ℕ) → ℕ → Type 0
+ShowsSecond octets at None inner = inner ≡ at
+ShowsSecond octets at (Some s) inner = (s.1 ≡ at) × ShowsVar octets at inner s.0
+
+-- a second id as a symbol, if there is one
+abbrev pub second_id : ℕ → Option (ℕ × ℕ) → List SymbolAt
+second_id here None = []
+second_id here (Some s) = symbol_id s.0 (here + s.1) ∷ []
+
+-- the ids of a wrapper as symbols
+abbrev pub noted_ids : ℕ → ShownNote → List SymbolAt
+noted_ids here n = symbol_id n.id (here + n.from) ∷ second_id here n.second
+
+-- the lengths of a wrapper at a place, and its one annotation or two
+pub record ShowsNote (limits : Limits) (octets : List ℕ) (here : ℕ) (region : Region) (at : ℕ) (n : ShownNote) : Type 0 where
+  pub further : at + 1 ≤ n.inner
+  pub starts : n.from ≤ n.inner
+  pub second : IfSome n.second (λ s. s.1 ≤ n.inner)
+  pub within : n.inner ≤ length octets
   pub reaches : Reaches region (here + (at + 1))
   pub octet : ℕ
   pub length_code : ℕ
   pub first : (more : List ℕ) → octet_at region (skip at (window here octets more)) ≡ Ok (octet, skip (at + 1) (window here octets more))
   pub is : wrapper_length (shape_of octet) ≡ Some length_code
   pub lengths : (more : List ℕ) → wrapper_at region length_code (skip (at + 1) (window here octets more))
-      ≡ Ok (record { ids = here + inner; end = end }, skip from (window here octets more))
-  pub ids : (more : List ℕ) → ids_at (here + inner) limits (here + inner) 0 (skip from (window here octets more))
-      ≡ Ok (symbol_id id (here + from) ∷ [], skip inner (window here octets more))
+      ≡ Ok (record { ids = here + n.inner; end = n.end }, skip n.from (window here octets more))
+  pub ids : (more : List ℕ) → ids_at (here + n.inner) limits (here + n.inner) 0 (skip n.from (window here octets more))
+      ≡ Ok (noted_ids here n, skip n.inner (window here octets more))
 
 -- what stands behind a field: a value with these annotations, whose head is at a place
 pub record ShowsItem (limits : Limits) (octets : List ℕ) (here : ℕ) (region : Region) (depth at head behind : ℕ) (annotations : List SymbolAt) (found : Shown) : Type 0 where

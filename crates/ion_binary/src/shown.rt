@@ -8,7 +8,7 @@ ghost use Rattle.ion_value.specs.Standing.{InRange};
 ghost use Rattle.ion_binary.specs.Bodies.{IsBodyTypeCode};
 ghost use Rattle.ion_binary.specs.Descriptor.{Region, shape_of};
 ghost use Rattle.ion_binary.specs.Shapes.{as_shape};
-ghost use Rattle.ion_binary.specs.Shown.{Bounds, ShowsBegin, ShowsBody, ShowsLength, ShowsNote, ShowsValue, ShowsVar, shown_scalar};
+ghost use Rattle.ion_binary.specs.Shown.{Bounds, ShowsBegin, ShowsBody, ShowsLength, ShowsNote, ShowsSecond, ShowsValue, ShowsVar, shown_scalar};
 
 use crate::body::{few_value, is_text, uint_id};
 use crate::descriptor::Shape;
@@ -47,13 +47,15 @@ pub(crate) enum Shown<'a> {
     Begin(Kind, u64),
 }
 
-/// An annotation wrapper that is shown, with one annotation.
+/// An annotation wrapper that is shown, with one annotation or two.
 #[derive(Clone, Copy)]
 pub(crate) struct ShownNote {
-    /// The number that its id spells.
+    /// The number that its first id spells.
     pub(crate) id: u64,
-    /// Where its id stands among the octets.
+    /// The offset of that id among the octets.
     pub(crate) from: usize,
+    /// The number that the second spells, if there is one, and its offset.
+    pub(crate) second: Option<(u64, usize)>,
     /// Where its value stands among them.
     pub(crate) inner: usize,
     /// The place of its end in the stream.
@@ -255,8 +257,24 @@ fn shown_begin<'a>(
     Some((Shown::Begin(kind, end), behind))
 }
 
+// The second id of a wrapper, from an offset on, unless its ids end there; and their end.
+#[inline(always)]
+fn shown_second(octets: &[u8], at: usize, end: u64) -> Option<(Option<(u64, usize)>, usize)>
+    requires { at ≤ length octets.now }
+    ensures shows { IfSome result (λ r. ShowsSecond octets.now at r.0 r.1) }
+    ensures ends { IfSome result (λ r. r.1 ≡ end) }
+{
+    if end == at as u64 {
+        return Some((None, at));
+    }
+    match shown_var(octets, at) {
+        Some((id, inner)) if inner as u64 == end => Some((Some((id, at)), inner)),
+        _ => None,
+    }
+}
+
 /// The annotation wrapper whose descriptor stands at a place of these octets, of which the first stands
-/// at `here` in the stream, where it has one annotation.
+/// at `here` in the stream, where it has one annotation or two.
 #[inline(always)]
 pub(crate) fn shown_note(
     octets: &[u8],
@@ -268,7 +286,7 @@ pub(crate) fn shown_note(
     requires small { here + length octets.now < 2 ^ 63 }
     requires within { at < length octets.now }
     ensures { IfSome result (λ n. (region : Region) → Bounds region most
-        → ShowsNote limits octets.entry.now here region at n.from n.inner n.end n.id) }
+        → ShowsNote limits octets.entry.now here region at n) }
 {
     let Some(length_code) = wrapper_length_code(octets[at]) else {
         return None;
@@ -279,22 +297,20 @@ pub(crate) fn shown_note(
     let Some((ids, from)) = shown_var(octets, behind) else {
         return None;
     };
-    let Some((id, inner)) = shown_var(octets, from) else {
+    let Some((id, first)) = shown_var(octets, from) else {
+        return None;
+    };
+    let Some((second, inner)) = shown_second(octets, first, from as u64 + ids) else {
         return None;
     };
     let end = here + behind as u64 + count;
-    if limits.scalar < 16
-        || count < 3
-        || ids == 0
-        || from as u64 + ids != inner as u64
-        || end <= here + inner as u64
-        || most < end
-    {
+    if limits.scalar < 32 || count < 3 || ids == 0 || end <= here + inner as u64 || most < end {
         return None;
     }
     Some(ShownNote {
         id,
         from,
+        second,
         inner,
         end,
     })

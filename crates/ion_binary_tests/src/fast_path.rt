@@ -1,7 +1,7 @@
 //! Which items a run hands on from its window, and which it puts one at a time.
 //!
 //! No clause says that `feed` hands on anything, that `take_plain` takes anything, or that
-//! `simple_text` answers a text, and without them a run gives what it gives with them, in many times
+//! `formed_text` knows a form, and without them a run gives what it gives with them, in many times
 //! the time. So a table says of each kind of item how many are put one at a time today.
 ghost use Rattle.std.specs.Prelude.{◌≡◌, ◌+◌, ◌≤◌, [], None, true};
 ghost use Rattle.ion_meter.specs.Limits.{AreChecked};
@@ -308,7 +308,8 @@ EC 81 83 D9 86 71 03 87 B4 83 61 20 62 71 0A 71 0A|2|
 E3 81 84 20 E4 81 84 71 04|1|
 E3 81 84 B0 E4 81 84 B1 20 E3 81 84 D0|1|
 B4 E3 81 84 20 D5 84 E3 81 84 20|1|
-E4 82 84 85 20|2|
+E4 82 84 85 20 E5 82 84 85 71 04|1|
+E5 83 84 85 84 20|2|
 # Containers.
 B0 B1 20 B3 B2 B1 20|1|
 C0 C1 20 C3 C2 71 04|1|

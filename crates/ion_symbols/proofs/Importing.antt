@@ -1,7 +1,9 @@
 -- The import that a slot stands in.
-use Rattle.std.proofs.Common.{◌≡◌, ℕ, zero, suc, ◌+◌, ◌-◌, ◌<◌, ◌≤◌, true, false, nat_lt, List, [], ◌∷◌, length, slice_get, slice_index_or, Option, None, MatchOption, refl, ap, sym, subst, ◌∙◌, arith, lt-ltb, le-ltb}
-use Rattle.ion_symbols.specs.Table.{Slots, Shared, Table, slot_in, slot_of, import_slot, local_slot, import_count, count_of}
-use Rattle.ion_symbols.specs.Present.{Starts, imports_in, slots_at}
+use Rattle.std.proofs.Common.{◌≡◌, ℕ, zero, suc, ◌+◌, ◌-◌, ◌<◌, ◌≤◌, true, false, nat_lt, if◌then◌else◌, List, [], ◌∷◌, length, slice_get, slice_index_or, Bool, Option, Some, None, MatchOption, refl, ap, sym, subst, ◌∙◌, arith, lt-ltb, le-ltb, ltb-false}
+use Rattle.ion_symbols.specs.Kept.{text_in}
+use Rattle.ion_symbols.specs.Table.{Slot, Slots, Shared, Import, Table, slot_in, slot_of, text_of_slot, text_at, import_slot, local_slot, import_count, count_of}
+use Rattle.ion_symbols.specs.Table as slot
+use Rattle.ion_symbols.specs.Present.{Present, Starts, imports_in, kept_table, slots_at}
 use Rattle.ion_symbols.specs.declared.symbols.FoundImport.{FoundImport}
 use Rattle.ion_symbols.proofs.Listed.{got_at}
 
@@ -125,8 +127,72 @@ pub kept_total : (catalog : List Shared) (fs : List FoundImport) (n : ℕ) (loca
     n + length locals ≡ count_of (record { imports = imports_in catalog fs; locals = locals })
 kept_total catalog fs n locals h = let k : 0 + import_count (imports_in catalog fs) ≡ n = counted_imports catalog 0 fs n h in omega (arith, k)
 
--- an id behind its imports
-pub kept_past : (catalog : List Shared) (fs : List FoundImport) (n : ℕ) (locals : Slots) (id : ℕ) → Starts 0 fs n → 10 ≤ id → n ≤ id - 10 →
-    slot_of (record { imports = imports_in catalog fs; locals = locals }) id ≡ local_slot (slice_get locals ((id - 10) - n))
-kept_past catalog fs n locals id h a b =
-    user_id (record { imports = imports_in catalog fs; locals = locals }) id a ∙ past_imports catalog locals fs n (id - 10) h b
+-- ---- texts of ids
+
+-- the text of a system or local slot, and of one of an import
+local_text : (o : Option (Option (List ℕ))) → text_in o ≡ text_of_slot (local_slot o)
+local_text None = refl
+local_text (Some None) = refl
+local_text (Some (Some t)) = refl
+
+import_text : (o : Option (Option (List ℕ))) → text_in o ≡ text_of_slot (import_slot o)
+import_text None = refl
+import_text (Some None) = refl
+import_text (Some (Some t)) = refl
+
+module _ (catalog : List Shared) (fs : List FoundImport) (n : ℕ) (locals : Slots) (now : Present) (h : Starts 0 fs n)
+    (v : ◌≡◌ {A = Present} (record { table = kept_table catalog fs locals; catalog = catalog }) now) where
+  -- how many slots the imports have
+  pub total_imports : import_count now.table.imports ≡ n
+  total_imports =
+      let k : 0 + import_count (imports_in catalog fs) ≡ n = counted_imports catalog 0 fs n h in
+      sym (ap (λ (p : Present). import_count p.table.imports) v) ∙ omega (arith, k)
+
+  -- the text of an id of an import
+  pub imported_text : (i id : ℕ) → 10 ≤ id → Within (id - 10) (slice_get fs i)
+      → text_in (slice_get (slots_at catalog (slice_index_or fs i no_import).table) ((id - 10) - start_at fs i)) ≡ text_at now.table id
+  imported_text i id a w =
+      import_text (slice_get (slots_at catalog (slice_index_or fs i no_import).table) ((id - 10) - start_at fs i))
+      ∙ (sym (ap text_of_slot (user_id (kept_table catalog fs locals) id a ∙ imported_slot catalog fs n i (id - 10) locals h w))
+      ∙ ap (λ (p : Present). text_at p.table id) v)
+
+  -- what an id after the imports is, and its text
+  pub local_at : (id : ℕ) → 10 ≤ id → n ≤ id - 10 → local_slot (slice_get locals ((id - 10) - n)) ≡ slot_of now.table id
+  local_at id a b =
+      sym (user_id (kept_table catalog fs locals) id a ∙ past_imports catalog locals fs n (id - 10) h b) ∙ ap (λ (p : Present). slot_of p.table id) v
+
+  pub local_text_at : (id : ℕ) → 10 + n ≤ id → text_in (slice_get locals (id - (10 + n))) ≡ text_at now.table id
+  local_text_at id b =
+      let e : id - (10 + n) ≡ (id - 10) - n = omega arith in
+      ap (λ k. text_in (slice_get locals k)) e
+      ∙ (local_text (slice_get locals ((id - 10) - n)) ∙ ap text_of_slot (local_at id (omega (arith, b)) (omega (arith, b))))
+
+-- ---- slots without a text
+
+-- a system or local slot without one
+pub unknown_by : (ss : Slots) (i : ℕ) → i < length ss → text_of_slot (local_slot (slice_get ss i)) ≡ None → slot.unknown ≡ local_slot (slice_get ss i)
+unknown_by [] i k e = absurd (omega (arith, k))
+unknown_by (None ∷ ss) zero k e = refl
+unknown_by (Some t ∷ ss) zero k e = absurd (cc e)
+unknown_by (s ∷ ss) (suc i) k e = unknown_by ss i (omega (arith, k)) e
+
+-- a slot of imports without one
+gap_by : (o : Option (Option (List ℕ))) → text_of_slot (import_slot o) ≡ None → slot.gap ≡ import_slot o
+gap_by None e = refl
+gap_by (Some None) e = refl
+gap_by (Some (Some t)) e = absurd (cc e)
+
+gap_first : (c : Bool) (o : Option (Option (List ℕ))) (s : Slot) → (c ≡ false → text_of_slot s ≡ None → slot.gap ≡ s)
+    → text_of_slot (if c then import_slot o else s) ≡ None → slot.gap ≡ (if c then import_slot o else s)
+gap_first true o s more e = gap_by o e
+gap_first false o s more e = more refl e
+
+gap_within : (is : List Import) (locals : Slots) (place : ℕ) → place < import_count is → text_of_slot (slot_in is locals place) ≡ None
+    → slot.gap ≡ slot_in is locals place
+gap_within [] locals place b e = absurd (omega (arith, b))
+gap_within (i ∷ is) locals place b e =
+    gap_first (nat_lt place i.count) (slice_get i.slots place) (slot_in is locals (place - i.count))
+    (λ c d. let l : i.count ≤ place = ltb-false place i.count c in gap_within is locals (place - i.count) (omega (arith, b, l)) d) e
+
+pub gap_at : (t : Table) (id : ℕ) → 10 ≤ id → id - 10 < import_count t.imports → text_at t id ≡ None → slot.gap ≡ slot_of t id
+gap_at t id a b e = let u = user_id t id a in gap_within t.imports t.locals (id - 10) b (sym (ap text_of_slot u) ∙ e) ∙ sym u

@@ -1,7 +1,10 @@
 -- How slots are kept: the bytes of their texts, and where each stands; and how a growth is undone.
-use Rattle.std.specs.Prelude.{◌≡◌, ℕ, ◌+◌, ◌-◌, ◌^◌, ◌<◌, ◌≤◌, Bool, false, if◌then◌else◌, List, [], ◌∷◌, take, drop, map, Option, Some, None, max}
+use Rattle.std.specs.Prelude.{◌≡◌, ℕ, ◌+◌, ◌-◌, ◌^◌, ◌<◌, ◌≤◌, false, if◌then◌else◌, List, [], ◌∷◌, take, drop, map, Option, Some, None, MatchOption, max}
 use Rattle.ion_meter.specs.Counts.{Counts}
-use Rattle.ion_value.specs.Name.{is_simple}
+use Rattle.ion_value.specs.Name.{form_of, IsFormedAs}
+use Rattle.ion_value.specs.declared.form.Form.{Form}
+use Rattle.ion_value.specs.declared.form.Form.TheVariants.{Any}
+use Rattle.ion_value.specs.declared.form.FormedText.{FormedText}
 use Rattle.ion_symbols.specs.Table.{Slots}
 use Rattle.ion_symbols.specs.declared.slots.Part.{Part}
 
@@ -18,18 +21,18 @@ abbrev pub Tiles : ℕ → List Part → ℕ → Type 0
 Tiles from [] length = from ≡ length
 Tiles from (p ∷ ps) length = (p.from ≡ from) × ((from ≤ p.to) × ((p.known ≡ false → p.to ≡ from) × Tiles p.to ps length))
 
--- whether a slot has a text that is simple
-abbrev pub has_simple : Option (List ℕ) → Bool
-has_simple None = false
-has_simple (Some text) = is_simple text
+-- how the text of a slot is written, if it has one
+abbrev pub slot_form : Option (List ℕ) → Form
+slot_form None = Any
+slot_form (Some text) = form_of text
 
--- of each part it is known whether its slot has such a text
+-- each part says how the text of its slot is written
 abbrev pub AreMarked : List ℕ → List Part → Type 0
-AreMarked texts parts = map (λ p. p.simple) parts ≡ map has_simple (kept_slots texts parts)
+AreMarked texts parts = map (λ p. p.form) parts ≡ map slot_form (kept_slots texts parts)
 
 -- a part whose text stands so many bytes further on
 abbrev pub moved : ℕ → Part → Part
-moved base p = record { from = base + p.from; to = base + p.to; known = p.known; simple = p.simple }
+moved base p = record { from = base + p.from; to = base + p.to; known = p.known; form = p.form }
 
 -- a growth of some cost can be tried
 pub record CanGrow (cost : ℕ) (meter : Counts) : Type 0 where
@@ -54,3 +57,7 @@ pub record Renames (old new : Counts) (before after : ℕ) : Type 0 where
 abbrev pub text_in : Option (Option (List ℕ)) → Option (List ℕ)
 text_in None = None
 text_in (Some text) = text
+
+-- an answer is a text and a form that it has, or none where there is no text
+abbrev pub IsFormed : Option FormedText → Option (List ℕ) → Type 0
+IsFormed answer text = MatchOption answer (text ≡ None) (λ t. (text ≡ Some t.text.now) × IsFormedAs t.form t.text.now)

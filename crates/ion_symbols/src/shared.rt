@@ -1,11 +1,10 @@
 //! Shared tables.
-ghost use Rattle.std.specs.Prelude.{◌≡◌, ℕ, ◌+◌, ◌-◌, ◌*◌, ◌^◌, ◌<◌, ◌≤◌, ◌++◌, ◌∷◌, [], Some, None, length, max, option_map, slice_get, true, OnOk, OnErr, IfOk, IfErr, IfSome, MatchOption};
+ghost use Rattle.std.specs.Prelude.{◌≡◌, ℕ, ◌+◌, ◌-◌, ◌*◌, ◌^◌, ◌<◌, ◌≤◌, ◌++◌, ◌∷◌, [], Some, None, length, max, option_map, slice_get, OnOk, OnErr, IfOk, IfErr, MatchOption};
 ghost use Rattle.ion_meter.specs.declared.fault.Fault.TheVariants.{Memory};
 ghost use Rattle.ion_meter.specs.Counts.{Grows, Shrinks};
 ghost use Rattle.ion_value.specs.Items.{is_none_left};
-ghost use Rattle.ion_value.specs.Name.{is_simple};
 ghost use Rattle.ion_symbols.specs.Table.{shared_cost, text_length};
-ghost use Rattle.ion_symbols.specs.Kept.{IsUndone, Renames, text_in};
+ghost use Rattle.ion_symbols.specs.Kept.{IsFormed, IsUndone, Renames, text_in};
 ghost use Rattle.ion_symbols.specs.CatalogItems.{blank};
 ghost use Rattle.ion_symbols.specs.UserValues.{SlotsAreText};
 
@@ -13,6 +12,7 @@ use crate::slots::Slots;
 use ion_meter::buf::Buf;
 use ion_meter::fault::Fault;
 use ion_meter::meter::Meter;
+use ion_value::form::FormedText;
 use std::alloc::Allocator;
 use std::marker::Model;
 
@@ -196,23 +196,14 @@ impl<A: Allocator + Copy> SharedTable<A> {
         ensures { MatchOption result (text_in (slice_get self.now.slots place) ≡ None)
             (λ text. text_in (slice_get self.now.slots place) ≡ Some text.now) }
     {
-        if place < self.slots.len() {
-            self.slots.get(place)
-        } else {
-            None
-        }
+        Some(self.formed(place)?.text)
     }
 
-    /// The text of the slot at a place, counted from 0, if it has one that is simple.
-    pub(crate) fn simple(&self, place: usize) -> Option<&[u8]>
-        ensures text { IfSome result (λ t. slice_get self.now.slots place ≡ Some (Some t.now)) }
-        ensures simple { IfSome result (λ t. is_simple t.now ≡ true) }
+    /// That text and how it is written.
+    pub(crate) fn formed(&self, place: usize) -> Option<FormedText<'_>>
+        ensures { IsFormed result (text_in (slice_get self.now.slots place)) }
     {
-        if place < self.slots.len() {
-            self.slots.simple(place)
-        } else {
-            None
-        }
+        self.slots.formed(place)
     }
 
     /// Gives all back.

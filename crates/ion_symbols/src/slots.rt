@@ -1,16 +1,16 @@
 //! Slots of symbol tables.
-ghost use Rattle.std.specs.Prelude.{◌≡◌, ℕ, ◌+◌, ◌-◌, ◌*◌, ◌^◌, ◌<◌, ◌≤◌, ◌++◌, ◌∷◌, [], Some, None, length, take, drop, map, slice_get, true, OnOk, OnErr, IfErr, IfSome, MatchOption};
+ghost use Rattle.std.specs.Prelude.{◌≡◌, ℕ, ◌+◌, ◌-◌, ◌*◌, ◌^◌, ◌<◌, ◌≤◌, ◌++◌, ◌∷◌, [], Some, None, length, take, drop, map, slice_get, OnOk, OnErr, IfErr};
 ghost use Rattle.ion_meter.specs.declared.fault.Fault.TheVariants.{Memory};
 ghost use Rattle.ion_meter.specs.Counts.{Grows, Shrinks};
-ghost use Rattle.ion_value.specs.Name.{is_simple};
 ghost use Rattle.ion_symbols.specs.Table.{slots_cost};
-ghost use Rattle.ion_symbols.specs.Kept.{CanGrow, IsUndone, Tiles, moved};
+ghost use Rattle.ion_symbols.specs.Kept.{CanGrow, IsFormed, IsUndone, Tiles, moved, text_in};
 
 use ion_meter::buf::Buf;
 use ion_meter::fault::Fault;
 use ion_meter::meter::Meter;
 use ion_meter::stack::Stack;
-use ion_value::name::is_simple;
+use ion_value::form::{Form, FormedText, bare};
+use ion_value::name::form_of;
 use std::alloc::Allocator;
 use std::marker::Model;
 
@@ -26,8 +26,8 @@ pub(crate) struct Part {
     pub(crate) to: usize,
     /// Whether it has a text.
     pub(crate) known: bool,
-    /// Whether it has one that is simple.
-    pub(crate) simple: bool,
+    /// How that is written, as far as it is known.
+    pub(crate) form: Form,
 }
 
 /// Slots in order, at a cost of 16 each and the length of its text. A clause sees the list of them, a
@@ -76,33 +76,23 @@ impl<A: Allocator + Copy> Slots<A> {
         16 * self.parts.as_slice().len() as u64 + self.texts.as_slice().len() as u64
     }
 
-    /// The text of the slot at a place, if it has one.
+    /// The text of the slot at an index and how it is written; none where it has none, or past the end.
     #[inline(always)]
-    pub(crate) fn get(&self, i: usize) -> Option<&[u8]>
-        requires { i < length self.now }
-        ensures { MatchOption result (slice_get self.now i ≡ Some None)
-            (λ t. slice_get self.now i ≡ Some (Some t.now)) }
+    pub(crate) fn formed(&self, i: usize) -> Option<FormedText<'_>>
+        ensures { IsFormed result (text_in (slice_get self.now i)) }
     {
-        let part = self.parts.as_slice()[i];
-        if part.known {
-            Some(between(self.texts.as_slice(), part.from, part.to))
-        } else {
-            None
+        let parts = self.parts.as_slice();
+        if i >= parts.len() {
+            return None;
         }
-    }
-
-    /// The text of the slot at a place, if it has one that is simple.
-    #[inline(always)]
-    pub(crate) fn simple(&self, i: usize) -> Option<&[u8]>
-        requires { i < length self.now }
-        ensures text { IfSome result (λ t. slice_get self.now i ≡ Some (Some t.now)) }
-        ensures simple { IfSome result (λ t. is_simple t.now ≡ true) }
-    {
-        let part = self.parts.as_slice()[i];
-        if part.simple {
-            Some(between(self.texts.as_slice(), part.from, part.to))
-        } else {
-            None
+        let part = parts[i];
+        match part.form {
+            Form::Bare => Some(bare(between(self.texts.as_slice(), part.from, part.to))),
+            form if part.known => Some(FormedText {
+                text: between(self.texts.as_slice(), part.from, part.to),
+                form,
+            }),
+            _ => None,
         }
     }
 
@@ -124,7 +114,7 @@ impl<A: Allocator + Copy> Slots<A> {
                 from,
                 to,
                 known: true,
-                simple: is_simple(text),
+                form: form_of(text),
             },
         ) {
             return Err(failed.1);
@@ -152,7 +142,7 @@ impl<A: Allocator + Copy> Slots<A> {
                 from: end,
                 to: end,
                 known: false,
-                simple: false,
+                form: Form::Any,
             },
         ) {
             return Err(failed.1);
@@ -222,7 +212,7 @@ fn push_moved<A: Allocator + Copy>(
             from: base + part.from,
             to: base + part.to,
             known: part.known,
-            simple: part.simple,
+            form: part.form,
         };
         if let Err(failed) = parts.push(meter, moved) {
             parts.truncate(meter, had);

@@ -1,18 +1,17 @@
 //! The local symbol table of a stream at a place.
-ghost use Rattle.std.specs.Prelude.{◌≡◌, ℕ, ◌+◌, ◌-◌, ◌*◌, ◌^◌, ◌<◌, ◌≤◌, [], Some, None, length, slice_get, MatchOption, IfErr, IfSome, OnOk, OnErr, true};
+ghost use Rattle.std.specs.Prelude.{◌≡◌, ℕ, ◌+◌, ◌-◌, ◌*◌, ◌^◌, ◌<◌, ◌≤◌, None, length, slice_get, MatchOption, IfErr, OnOk, OnErr};
 ghost use Rattle.ion_meter.specs.declared.fault.Fault.TheVariants.{Memory};
 ghost use Rattle.ion_meter.specs.Counts.{Grows, Shrinks};
-ghost use Rattle.ion_value.specs.Name.{is_simple};
-ghost use Rattle.ion_symbols.specs.Table as tables;
-ghost use Rattle.ion_symbols.specs.Table.{count_of, import_slot, known, local_slot, most_slots, slot_in, slot_of, slots_cost, system, system_slots, table_cost, text_at};
-ghost use Rattle.ion_symbols.specs.Present.{IsKept, Starts, imports_in, kept_table, as_slot, slots_at, with_locals};
-ghost use Rattle.ion_symbols.specs.Kept.{CanGrow, IsUndone};
+ghost use Rattle.ion_symbols.specs.Table.{count_of, import_count, most_slots, slot_of, slots_cost, system, system_slots, table_cost, text_at};
+ghost use Rattle.ion_symbols.specs.Present.{IsKept, Starts, kept_table, as_slot, slots_at, with_locals};
+ghost use Rattle.ion_symbols.specs.Kept.{CanGrow, IsFormed, IsUndone, text_in};
 
 use crate::catalog::Catalog;
 use crate::slots::Slots;
 use ion_meter::fault::Fault;
 use ion_meter::meter::Meter;
 use ion_meter::table::Table;
+use ion_value::form::{Form, FormedText, bare};
 use ion_value::names::Names;
 use std::alloc::Allocator;
 use std::marker::Model;
@@ -72,104 +71,46 @@ impl<'c, A: Allocator + Copy> Model for Symbols<'c, A> {
     ghost invariant = { λ s. IsKept s.imports.items s.imports.cost s.import_slots s.slots };
 }
 
-// The slot of an id of the system table.
-#[inline]
-fn system_slot(id: u32) -> Slot<'static>
+// A text of whose form nothing is known.
+#[inline(always)]
+fn any(text: &[u8]) -> FormedText<'_>
+    ensures text { result.text.now ≡ text.now }
+    ensures form { result.form ≡ Form.Any }
+{
+    FormedText {
+        text,
+        form: Form::Any,
+    }
+}
+
+// The text of an id of the system table.
+fn system_text(id: u32) -> Option<FormedText<'static>>
     requires { id < 10 }
-    ensures { as_slot result ≡ local_slot (slice_get system_slots id) }
+    ensures { IsFormed result (text_in (slice_get system_slots id)) }
 {
     match id {
-        0 => Slot::Unknown,
-        1 => Slot::Known(b"$ion"),
-        2 => Slot::Known(b"$ion_1_0"),
-        3 => Slot::Known(b"$ion_symbol_table"),
-        4 => Slot::Known(b"name"),
-        5 => Slot::Known(b"version"),
-        6 => Slot::Known(b"imports"),
-        7 => Slot::Known(b"symbols"),
-        8 => Slot::Known(b"max_id"),
-        _ => Slot::Known(b"$ion_shared_symbol_table"),
+        0 => None,
+        1 => Some(any(b"$ion")),
+        2 => Some(any(b"$ion_1_0")),
+        3 => Some(any(b"$ion_symbol_table")),
+        4 => Some(bare(b"name")),
+        5 => Some(bare(b"version")),
+        6 => Some(bare(b"imports")),
+        7 => Some(bare(b"symbols")),
+        8 => Some(bare(b"max_id")),
+        _ => Some(any(b"$ion_shared_symbol_table")),
     }
 }
 
-// The text of an id of the system table, if it has one that is simple.
-#[inline(never)]
-fn system_simple(id: u32) -> Option<&'static [u8]>
-    requires { id < 10 }
-    ensures text { IfSome result
-        (λ t. local_slot (slice_get system_slots id) ≡ known t.now) }
-    ensures simple { IfSome result (λ t. is_simple t.now ≡ true) }
-{
-    match id {
-        4 => Some(b"name"),
-        5 => Some(b"version"),
-        6 => Some(b"imports"),
-        7 => Some(b"symbols"),
-        8 => Some(b"max_id"),
-        _ => None,
-    }
-}
-
-// The local slot at a place.
-#[inline(always)]
-fn local<A: Allocator + Copy>(slots: &Slots<A>, place: u64) -> Slot<'_>
-    ensures { as_slot result ≡ local_slot (slice_get slots.now place) }
-{
-    if place >= slots.len() as u64 {
-        return Slot::Above;
-    }
-    match slots.get(place as usize) {
-        Some(text) => Slot::Known(text),
-        None => Slot::Unknown,
-    }
-}
-
-// The text of the local slot at a place, if it has one that is simple.
-#[inline(always)]
-fn local_simple<A: Allocator + Copy>(slots: &Slots<A>, place: u64) -> Option<&[u8]>
-    ensures text { IfSome result (λ t. local_slot (slice_get slots.now place) ≡ known t.now) }
-    ensures simple { IfSome result (λ t. is_simple t.now ≡ true) }
-{
-    if place >= slots.len() as u64 {
-        return None;
-    }
-    slots.simple(place as usize)
-}
-
-// The slot at a place of a shared table that was found.
-fn shared<A: Allocator + Copy>(catalog: &Catalog<A>, table: Option<usize>, place: u64) -> Slot<'_>
-    ensures { as_slot result ≡ import_slot (slice_get (slots_at catalog.now table) place) }
-{
-    let Some(table) = table else {
-        return Slot::Gap;
-    };
-    let Some(table) = catalog.get(table) else {
-        return Slot::Gap;
-    };
-    if place >= table.len() as u64 {
-        return Slot::Gap;
-    }
-    match table.get(place as usize) {
-        Some(text) => Slot::Known(text),
-        None => Slot::Gap,
-    }
-}
-
-// The text of the slot at a place of a shared table that was found, if it has one that is simple.
-fn shared_simple<A: Allocator + Copy>(
+// The text of the slot at an index of a shared table that was found.
+fn shared<A: Allocator + Copy>(
     catalog: &Catalog<A>,
     table: Option<usize>,
     place: u64,
-) -> Option<&[u8]>
-    ensures text { IfSome result
-        (λ t. import_slot (slice_get (slots_at catalog.now table) place) ≡ known t.now) }
-    ensures simple { IfSome result (λ t. is_simple t.now ≡ true) }
+) -> Option<FormedText<'_>>
+    ensures { IsFormed result (text_in (slice_get (slots_at catalog.now table) place)) }
 {
-    let table = catalog.get(table?)?;
-    if place >= table.len() as u64 {
-        return None;
-    }
-    table.simple(place as usize)
+    catalog.get(table?)?.formed(place as usize)
 }
 
 // The import that a slot stands in: the last that begins at it or before.
@@ -191,37 +132,6 @@ fn import_at(imports: &[FoundImport], place: u64) -> usize
     low
 }
 
-// The slot at a place of the imports.
-#[inline(never)]
-fn imported<'a, A: Allocator + Copy>(
-    catalog: &'a Catalog<A>,
-    imports: &[FoundImport],
-    place: u64,
-) -> Slot<'a>
-    requires { (end : ℕ) × (Starts 0 imports.now end × (place < end)) }
-    ensures { (locals : tables.Slots)
-        → as_slot result ≡ slot_in (imports_in catalog.now imports.now) locals place }
-{
-    let found = imports[import_at(imports, place)];
-    shared(catalog, found.table, place - found.start)
-}
-
-// The text of the slot at a place of the imports, if it has one that is simple.
-#[inline(never)]
-fn imported_simple<'a, A: Allocator + Copy>(
-    catalog: &'a Catalog<A>,
-    imports: &[FoundImport],
-    place: u64,
-) -> Option<&'a [u8]>
-    requires { (end : ℕ) × (Starts 0 imports.now end × (place < end)) }
-    ensures text { IfSome result (λ t. (locals : tables.Slots)
-        → slot_in (imports_in catalog.now imports.now) locals place ≡ known t.now) }
-    ensures simple { IfSome result (λ t. is_simple t.now ≡ true) }
-{
-    let found = imports[import_at(imports, place)];
-    shared_simple(catalog, found.table, place - found.start)
-}
-
 impl<'c, A: Allocator + Copy> Symbols<'c, A> {
     /// The system table alone, in front of imports from this catalogue. It takes no memory.
     pub fn new(meter: &Meter<A>, catalog: &'c Catalog<A>) -> Self
@@ -241,44 +151,56 @@ impl<'c, A: Allocator + Copy> Symbols<'c, A> {
     pub fn text(&self, id: u32) -> Slot<'_>
         ensures { as_slot result ≡ slot_of self.now.table id }
     {
-        if id < 10 {
-            return system_slot(id);
-        }
-        let place = (id - 10) as u64;
-        if place < self.import_slots {
-            imported(self.catalog, self.imports.as_slice(), place)
-        } else {
-            local(&self.slots, place - self.import_slots)
+        match self.formed_text(id) {
+            Some(formed) => Slot::Known(formed.text),
+            None => self.missing(id),
         }
     }
 
-    // The text of an id of the system table or of an import, if it has one that is simple. What the call
-    // returns is built anew: so it has its place in memory here, and not where none is called.
-    #[inline(always)]
-    fn early_simple(&self, id: u32) -> Option<&[u8]>
-        ensures { IfSome result (λ t. (text_at self.now.table id ≡ Some t.now)
-            × (is_simple t.now ≡ true)) }
+    // What an id without a text stands for.
+    fn missing(&self, id: u32) -> Slot<'_>
+        requires { text_at self.now.table id ≡ None }
+        ensures { as_slot result ≡ slot_of self.now.table id }
     {
-        match self.early_simple_text(id) {
+        if id < 10 {
+            return Slot::Unknown;
+        }
+        let place = (id - 10) as u64;
+        if place < self.import_slots {
+            return Slot::Gap;
+        }
+        if place - self.import_slots < self.slots.len() as u64 {
+            return Slot::Unknown;
+        }
+        Slot::Above
+    }
+
+    // The text of an id of the system table or of an import. What the call returns is built anew: so it
+    // has its place in memory here, and not where none is called.
+    #[inline(always)]
+    fn early(&self, id: u32) -> Option<FormedText<'_>>
+        requires { id < 10 + import_count self.now.table.imports }
+        ensures { IsFormed result (text_at self.now.table id) }
+    {
+        match self.early_text(id) {
             Some(text) => Some(text),
             None => None,
         }
     }
 
-    // The simple text of an id of the system table or of an import, by a call that is not in line.
+    // That text, by a call that is not in line.
     #[inline(never)]
-    fn early_simple_text(&self, id: u32) -> Option<&[u8]>
-        ensures { IfSome result (λ t. (text_at self.now.table id ≡ Some t.now)
-            × (is_simple t.now ≡ true)) }
+    fn early_text(&self, id: u32) -> Option<FormedText<'_>>
+        requires { id < 10 + import_count self.now.table.imports }
+        ensures { IsFormed result (text_at self.now.table id) }
     {
         if id < 10 {
-            return system_simple(id);
+            return system_text(id);
         }
         let place = (id - 10) as u64;
-        if place < self.import_slots {
-            return imported_simple(self.catalog, self.imports.as_slice(), place);
-        }
-        None
+        let imports = self.imports.as_slice();
+        let found = imports[import_at(imports, place)];
+        shared(self.catalog, found.table, place - found.start)
     }
 
     // The catalogue.
@@ -375,19 +297,16 @@ impl<'c, A: Allocator + Copy> Names for Symbols<'c, A> {
 
     #[inline(always)]
     fn text_of(&self, id: u32) -> Option<&[u8]> {
-        match self.text(id) {
-            Slot::Known(text) => Some(text),
-            _ => None,
-        }
+        Some(self.formed_text(id)?.text)
     }
 
     #[inline(always)]
-    fn simple_text(&self, id: u32) -> Option<&[u8]> {
+    fn formed_text(&self, id: u32) -> Option<FormedText<'_>> {
         let first = 10 + self.import_slots;
         let place = id as u64;
         if place < first {
-            return self.early_simple(id);
+            return self.early(id);
         }
-        local_simple(&self.slots, place - first)
+        self.slots.formed((place - first) as usize)
     }
 }

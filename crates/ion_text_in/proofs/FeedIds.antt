@@ -4,13 +4,12 @@ use Rattle.std.specs.Prelude.{option_map}
 use Rattle.ion_meter.specs.Sources.{Cursor}
 use Rattle.ion_meter.specs.declared.limits.Limits.{Limits}
 use Rattle.ion_value.specs.declared.ion_type.Kind.{Kind}
-use Rattle.ion_value.specs.declared.plain_item.SecondAt.{SecondAt}
 use Rattle.ion_value.specs.declared.plain_item.TextAt.{TextAt}
 use Rattle.ion_value.specs.declared.writer.ValueWriter.{Ghosts as WriterOf}
 use Rattle.ion_value.specs.Digits.{first_is}
 use Rattle.ion_value.specs.Items.{named_at, raw_head, text_or_id}
 use Rattle.ion_value.specs.Name.{is_simple}
-use Rattle.ion_value.specs.PlainItems.{placed_text}
+use Rattle.ion_value.specs.PlainItems.{placed_text, IsRightlyFormed}
 use Rattle.ion_value.specs.Value as value
 use Rattle.ion_value.specs.Value.{SymbolAt, map_head}
 use Rattle.ion_text_in.specs.Blanks.{blanks}
@@ -90,16 +89,16 @@ token-id : {texts : ℕ → Option (List ℕ)} {limit place n : ℕ} {bytes text
 token-id {bytes} is behind dollar = token-front behind is.some is.within is.shown (dollar-begins bytes dollar)
 
 -- a value begins behind an id that is its name
-pub named-id : (texts : ℕ → Option (List ℕ)) (limits : Limits) (place n : ℕ) (name : TextAt) (bytes rest : List ℕ) (start : Option Start) → name.place ≡ place → IsIdOf texts limits.scalar bytes name.text.now n
+pub named-id : (texts : ℕ → Option (List ℕ)) (limits : Limits) (place n : ℕ) (name : TextAt) (bytes rest : List ℕ) (start : Option Start) → name.place ≡ place → IsRightlyFormed name → IsIdOf texts limits.scalar bytes name.text.now n
     → rest ≡ drop n bytes → first_is (λ b. b == 36) bytes ≡ true → IfSome start (IsBehindName name rest) → IfSome start (IsNamedBy texts limits place bytes)
-named-id texts limits place n name bytes rest None here is behind dollar h = tt
-named-id texts limits place n name bytes rest (Some s) here is behind dollar h =
+named-id texts limits place n name bytes rest None here says is behind dollar h = tt
+named-id texts limits place n name bytes rest (Some s) here says is behind dollar h =
     let raw = positions.at (value.Id is.id) place in
     record {
       text = name;
       raw = raw;
       seen = id-seen texts is.id place name.text.now is.has ∙ ap (λ (p : ℕ). positions.at (value.Text name.text.now) p) (sym here);
-      name = named-as limits place name raw bytes rest s (name-token (token-id is behind dollar) may-word (id-names limits place is.id)) (λ _. is.simple) (dollar-begins bytes dollar).some h;
+      name = named-as limits place name raw bytes rest s (name-token (token-id is behind dollar) may-word (id-names limits place is.id)) says (dollar-begins bytes dollar).some h;
     }
 
 pub start-named : {named : ℕ} (texts : ℕ → Option (List ℕ)) (bounds : Bounds) (spot : Spot) (next : Next) (start : Option Start) → named ≡ place_in bounds next.rest.now → length spot.rest.now ≤ bounds.end → expected_of spot ≡ codes_of.Field → IsNext spot.rest.now next
@@ -112,7 +111,7 @@ start-named texts bounds spot next (Some s) here within field is h = let name = 
 }
 
 -- the name is a text, if there is one
-pub text-start : (texts : ℕ → Option (List ℕ)) {pair : Option SecondAt} {bounds : Bounds} {spot : Spot} {start : Start} → IsFurther pair bounds spot start → IsStartBy texts pair bounds spot start
+pub text-start : (texts : ℕ → Option (List ℕ)) {second : Option TextAt} {bounds : Bounds} {spot : Spot} {start : Start} → IsFurther second bounds spot start → IsStartBy texts second bounds spot start
 text-start texts {start} h = record { raw = option_map placed_text start.field; seen = text-seen texts start.field; read = h }
 
 -- ---- a value
@@ -138,7 +137,7 @@ found-text texts {found} h = record { raw = raw_head found.head; seen = head-see
 
 -- ---- by the texts that ids have
 
-pub start-seen : {texts : ℕ → Option (List ℕ)} {pair : Option SecondAt} {bounds : Bounds} {spot : Spot} {start : Start} (s : IsStartBy texts pair bounds spot start) (t : ℕ → Option (List ℕ)) → t ≡ texts
+pub start-seen : {texts : ℕ → Option (List ℕ)} {second : Option TextAt} {bounds : Bounds} {spot : Spot} {start : Start} (s : IsStartBy texts second bounds spot start) (t : ℕ → Option (List ℕ)) → t ≡ texts
     → option_map (named_at t) s.raw ≡ option_map placed_text start.field
 start-seen {start} s t is = subst (λ (x : ℕ → Option (List ℕ)). option_map (named_at x) s.raw ≡ option_map placed_text start.field) (sym is) s.seen
 
@@ -148,7 +147,7 @@ found-seen {found} f t is = subst (λ (x : ℕ → Option (List ℕ)). map_head 
 
 -- ---- however they are read
 
-pub start-read : {pair : Option SecondAt} {bounds : Bounds} {spot : Spot} {start : Start} → IsFurther pair bounds spot start → IsStartRead pair bounds spot start
+pub start-read : {second : Option TextAt} {bounds : Bounds} {spot : Spot} {start : Start} → IsFurther second bounds spot start → IsStartRead second bounds spot start
 start-read {start} h = record { raw = option_map placed_text start.field; read = h }
 
 pub found-read : {limits : Limits} {place : ℕ} {bytes : List ℕ} {found : Found} → IsFound limits place bytes found → IsFoundRead limits place bytes found
@@ -178,7 +177,7 @@ turns-any by =
     }
 
 -- so is what name and head are read of, where both are texts
-pub turns-text : {W O A : Type 0} {w : WriterOf W O A} {bounds : Bounds} {more : Bool} {l n : Lane W O} {pair : Option SecondAt} {spot : Spot} {start : Start} {place : ℕ} {bytes : List ℕ} {found : Found}
-    → IsFurther pair bounds spot start → IsFound bounds.limits place bytes found
-    → ((texts : ℕ → Option (List ℕ)) → IsStartBy texts pair bounds spot start → IsFoundBy texts bounds.limits place bytes found → TurnsBy w bounds texts more l n) → Turns w bounds more l n
+pub turns-text : {W O A : Type 0} {w : WriterOf W O A} {bounds : Bounds} {more : Bool} {l n : Lane W O} {second : Option TextAt} {spot : Spot} {start : Start} {place : ℕ} {bytes : List ℕ} {found : Found}
+    → IsFurther second bounds spot start → IsFound bounds.limits place bytes found
+    → ((texts : ℕ → Option (List ℕ)) → IsStartBy texts second bounds spot start → IsFoundBy texts bounds.limits place bytes found → TurnsBy w bounds texts more l n) → Turns w bounds more l n
 turns-text s f turns = turns-any (λ texts. turns texts (text-start texts s) (found-text texts f))

@@ -12,7 +12,6 @@ use Rattle.ion_value.specs.Standing.{open_after, has_field, in_struct, is_marker
 use Rattle.ion_value.specs.declared.ion_type.Kind.TheVariants as a_kind
 use Rattle.ion_value.specs.Items.{named_at, named_item, raw_head}
 use Rattle.ion_value.specs.declared.plain_item.TextAt.{TextAt}
-use Rattle.ion_value.specs.declared.plain_item.SecondAt.{SecondAt}
 use Rattle.ion_value.specs.Value as value
 use Rattle.ion_value.specs.Value.{SymbolAt, Head, PlacedItem, map_head}
 use Rattle.ion_value.specs.PlainItems.{placed_text, with_second, IsKnownHead, StandsBehind}
@@ -98,18 +97,18 @@ pub head-seen : (texts : ℕ → Option (List ℕ)) (head : Head SymbolAt) → I
 head-seen texts head known = ap (λ (i : PlacedItem). i.head) (item-kept texts (item_of 0 None [] 0 head) (record { field = tt; annotations = tt; head = known }))
 
 -- and annotations that are texts
-notes-seen : (texts : ℕ → Option (List ℕ)) (note : Option TextAt) (second : Option SecondAt) → map (named_at texts) (with_second (notes note) second) ≡ with_second (notes note) second
+notes-seen : (texts : ℕ → Option (List ℕ)) (note : Option TextAt) (second : Option TextAt) → map (named_at texts) (with_second (notes note) second) ≡ with_second (notes note) second
 notes-seen texts None None = refl
 notes-seen texts (Some t) None = refl
 notes-seen texts None (Some s) = refl
 notes-seen texts (Some t) (Some s) = refl
 
-item-seen : (texts : ℕ → Option (List ℕ)) (top place : ℕ) (raw_name field : Option SymbolAt) (note : Option TextAt) (pair : Option SecondAt) (raw_value head : Head SymbolAt) → option_map (named_at texts) raw_name ≡ field
-    → map_head (named_at texts) raw_value ≡ head → named_item texts (item_of top raw_name (with_second (notes note) pair) place raw_value) ≡ item_of top field (with_second (notes note) pair) place head
-item-seen texts top place raw_name field note pair raw_value head name_is value_is =
-    ap (λ (f : Option SymbolAt). item_of top f (map (named_at texts) (with_second (notes note) pair)) place (map_head (named_at texts) raw_value)) name_is
-    ∙ (ap (λ (l : List SymbolAt). item_of top field l place (map_head (named_at texts) raw_value)) (notes-seen texts note pair)
-    ∙ ap (λ (h : Head SymbolAt). item_of top field (with_second (notes note) pair) place h) value_is)
+item-seen : (texts : ℕ → Option (List ℕ)) (top place : ℕ) (raw_name field : Option SymbolAt) (note : Option TextAt) (second : Option TextAt) (raw_value head : Head SymbolAt) → option_map (named_at texts) raw_name ≡ field
+    → map_head (named_at texts) raw_value ≡ head → named_item texts (item_of top raw_name (with_second (notes note) second) place raw_value) ≡ item_of top field (with_second (notes note) second) place head
+item-seen texts top place raw_name field note second raw_value head name_is value_is =
+    ap (λ (f : Option SymbolAt). item_of top f (map (named_at texts) (with_second (notes note) second)) place (map_head (named_at texts) raw_value)) name_is
+    ∙ (ap (λ (l : List SymbolAt). item_of top field l place (map_head (named_at texts) raw_value)) (notes-seen texts note second)
+    ∙ ap (λ (h : Head SymbolAt). item_of top field (with_second (notes note) second) place h) value_is)
 
 -- ---- behind an item
 
@@ -173,7 +172,7 @@ some-map None = refl
 some-map (Some t) = refl
 
 -- the first annotation alone says where a value at top level begins
-first-top : (kinds : List Kind) (top place : ℕ) (first : Option TextAt) (second : Option SecondAt) → IfSome second (StandsBehind first) → top_of kinds top (with_second (notes first) second) place ≡ top_of kinds top (notes first) place
+first-top : (kinds : List Kind) (top place : ℕ) (first : Option TextAt) (second : Option TextAt) → IfSome second (StandsBehind first) → top_of kinds top (with_second (notes first) second) place ≡ top_of kinds top (notes first) place
 first-top kinds top place first None stands = refl
 first-top kinds top place None (Some s) stands = absurd stands
 first-top [] top place (Some t) (Some s) stands = refl
@@ -185,14 +184,14 @@ may-note (value.begin k) annotations value member = tt
 may-note value.end annotations value member = absurd (cc (member (a_kind.Struct ∷ [])))
 may-note value.marker annotations value member = absurd (cc value)
 
-pub head-stands : {bounds : Bounds} {raw_name : Option SymbolAt} {raw_value : Head SymbolAt} {pair : Option SecondAt} (kinds : List Kind) (spot : Spot) (start : Start) (head : Head SymbolAt) (top at_place : ℕ) (rest : List ℕ) → MayExpect (expected_of spot) (reverse kinds) None []
-    → IsStartAs raw_name pair bounds spot start → IsHeadAs raw_value bounds.limits at_place start.next.rest.now head rest → HasPlace bounds.limits.depth (reverse kinds) head
-    → Stands bounds.limits.depth (reverse kinds) (item_of top (option_map placed_text start.field) (with_second (notes start.note) pair) at_place head)
-head-stands {pair} kinds spot start head top at_place rest may start_is head_is fits = record {
+pub head-stands : {bounds : Bounds} {raw_name : Option SymbolAt} {raw_value : Head SymbolAt} {second : Option TextAt} (kinds : List Kind) (spot : Spot) (start : Start) (head : Head SymbolAt) (top at_place : ℕ) (rest : List ℕ) → MayExpect (expected_of spot) (reverse kinds) None []
+    → IsStartAs raw_name second bounds spot start → IsHeadAs raw_value bounds.limits at_place start.next.rest.now head rest → HasPlace bounds.limits.depth (reverse kinds) head
+    → Stands bounds.limits.depth (reverse kinds) (item_of top (option_map placed_text start.field) (with_second (notes start.note) second) at_place head)
+head-stands {second} kinds spot start head top at_place rest may start_is head_is fits = record {
   fits = record {
     place = fits;
     field = some-map start.field ∙ (start_is.named (reverse kinds) may ∙ sym (head_is.member (reverse kinds)));
-    annotations = may-note head (with_second (notes start.note) pair) head_is.value head_is.member;
+    annotations = may-note head (with_second (notes start.note) second) head_is.value head_is.member;
   };
   value = head_is.value;
   plain = record { field = start_is.known; annotations = start_is.free; head = head_is.known };
@@ -259,24 +258,24 @@ module _ {W O A : Type 0} {w : WriterOf W O A} {bounds : Bounds} where
       ∙ rw (here, top, behind_is.0, rest) refl)))
 
   -- its name and its head are seen by the texts that ids have
-  pub turns-forward : {sees : (ℕ → Option (List ℕ)) → Type 0} {raw_name : Option SymbolAt} {raw_value : Head SymbolAt} {pair : Option SecondAt} (kinds left : List Kind) (spot : Spot) (start : Start) (found : Found) (top : ℕ)
+  pub turns-forward : {sees : (ℕ → Option (List ℕ)) → Type 0} {raw_name : Option SymbolAt} {raw_value : Head SymbolAt} {second : Option TextAt} (kinds left : List Kind) (spot : Spot) (start : Start) (found : Found) (top : ℕ)
       (writer after : W) (sink behind : Outgoing O) (m x y : Counts)
       → ((texts : ℕ → Option (List ℕ)) → sees texts → option_map (named_at texts) raw_name ≡ option_map placed_text start.field)
       → ((texts : ℕ → Option (List ℕ)) → sees texts → map_head (named_at texts) raw_value ≡ raw_head found.head)
-      → CanFeed w bounds (lane kinds spot writer sink m) → IsStartAs raw_name pair bounds spot start
+      → CanFeed w bounds (lane kinds spot writer sink m) → IsStartAs raw_name second bounds spot start
       → IsHeadAs raw_value bounds.limits (place_in bounds start.next.rest.now) start.next.rest.now (raw_head found.head) found.rest.now
       → top ≡ top_of (reverse kinds) spot.top (notes start.note) (place_in bounds start.next.rest.now) → Opens bounds.limits.depth (begun (raw_head found.head)) kinds left m x
-      → Took w (item_of top (option_map placed_text start.field) (with_second (notes start.note) pair) (place_in bounds start.next.rest.now) (raw_head found.head)) writer after sink behind x y
+      → Took w (item_of top (option_map placed_text start.field) (with_second (notes start.note) second) (place_in bounds start.next.rest.now) (raw_head found.head)) writer after sink behind x y
       → Charges x y (w.own writer) (w.own after) (w.most writer)
       → TurnsFor w bounds sees true (lane kinds spot writer sink m) (lane left (passed (begun (raw_head found.head)) (reverse kinds) spot found top) after behind y)
-  turns-forward {raw_name} {raw_value} {pair} kinds left spot start found top writer after sink behind m x y name_is value_is can start_is head_is at_top opens took charges =
+  turns-forward {raw_name} {raw_value} {second} kinds left spot start found top writer after sink behind m x y name_is value_is can start_is head_is at_top opens took charges =
       let head = raw_head found.head in
       let new : Spot = passed (begun head) (reverse kinds) spot found top in
       let bytes = start.next.rest.now in
       let place = place_in bounds bytes in
       let field = option_map placed_text start.field in
       let passes = item-passed bounds.limits.depth kinds left spot found top head head_is.range head_is.value head_is.member can.kind opens.is opens.few in
-      let first = at_top ∙ sym (first-top (reverse kinds) spot.top place start.note pair start_is.second) in
+      let first = at_top ∙ sym (first-top (reverse kinds) spot.top place start.note second start_is.second) in
       let to_start = start_is.onward (reverse kinds) can.expects in
       let fewer = to_start.fewer in
       let less = head_is.fewer in
@@ -292,8 +291,8 @@ module _ {W O A : Type 0} {w : WriterOf W O A} {bounds : Bounds} where
       let o_held = opens.held in
       let o_peak = opens.peak in
       let o_rises = opens.rises in
-      turns-item (lane kinds spot writer sink m) (lane left new after behind y) (item_of top raw_name (with_second (notes start.note) pair) place raw_value) (item_of top field (with_second (notes start.note) pair) place head)
-      (λ texts sees. item-seen texts top place raw_name field start.note pair raw_value head (name_is texts sees) (value_is texts sees)) can
+      turns-item (lane kinds spot writer sink m) (lane left new after behind y) (item_of top raw_name (with_second (notes start.note) second) place raw_value) (item_of top field (with_second (notes start.note) second) place head)
+      (λ texts sees. item-seen texts top place raw_name field start.note second raw_value head (name_is texts sees) (value_is texts sees)) can
       (head-stands kinds spot start head top place found.rest.now can.expects start_is head_is passes.place) (took-over m y took (took.refused ∙ opens.refused)) passes.opened passes.counts
       (behind-then spot.rest.now bytes found.rest.now to_start.part head_is.part) (omega (arith, fewer, less)) few passes.inner passes.expects share
       (record {
@@ -304,7 +303,7 @@ module _ {W O A : Type 0} {w : WriterOf W O A} {bounds : Bounds} where
       })
       (λ more.
       to_start.same place more (omega (arith, fewer, within))
-      ∙ (head_is.gives (reverse kinds) spot.top (place_in bounds found.rest.now) raw_name (with_second (notes start.note) pair) more passes.place (omega (arith, fewer, less, within))
+      ∙ (head_is.gives (reverse kinds) spot.top (place_in bounds found.rest.now) raw_name (with_second (notes start.note) second) more passes.place (omega (arith, fewer, less, within))
       ∙ rw (passes.opened, first, passes.wants) refl))
 
   -- a container was opened, if one begins, and taken off again

@@ -12,7 +12,7 @@ use Rattle.ion_value.specs.declared.plain_item.TextAt.{TextAt}
 use Rattle.ion_value.specs.Digits.{all_are, first_is}
 use Rattle.ion_value.specs.Name.{Keyword, a_null, a_bool, a_nan, is_id, is_identifier_byte, is_identifier_start, is_simple, is_version, keyword}
 use Rattle.ion_value.specs.Parts.{Placed, ◌>>=◌}
-use Rattle.ion_value.specs.PlainItems.{placed_text, IsRightlySimple}
+use Rattle.ion_value.specs.PlainItems.{placed_text, IsRightlyFormed}
 use Rattle.ion_value.specs.Value as value
 use Rattle.ion_value.specs.Value.{SymbolAt}
 use Rattle.ion_text_in.specs.Feeding.{expected_of, place_in, state, Begins, IfName, IsBegun, IsBehind, IsBehindName, IsNamed, IsNamedAs, IsNext, IsSimpleWord, IsStart, IsStartAs, Onward, PassesBlanks, ToColon}
@@ -240,21 +240,21 @@ onward-name limits kinds top place name bytes behind colon rest is to_colon pass
     }
 
 -- a value begins behind the name that was read
-pub named-as : (limits : Limits) (place : ℕ) (name : TextAt) (raw : SymbolAt) (bytes behind : List ℕ) (start : Start) → IsName limits place bytes raw behind → IsRightlySimple name → 0 < length bytes
+pub named-as : (limits : Limits) (place : ℕ) (name : TextAt) (raw : SymbolAt) (bytes behind : List ℕ) (start : Start) → IsName limits place bytes raw behind → IsRightlyFormed name → 0 < length bytes
     → IsBehindName name behind start → IsNamedAs name raw limits place bytes start
-named-as limits place name raw bytes behind start is simple some h = record {
+named-as limits place name raw bytes behind start is says some h = record {
   is = h.is;
   bare = h.bare;
-  simple = simple;
+  says = says;
   some = some;
   onward = λ kinds top. onward-name limits kinds top place raw bytes behind h.colon start.next.rest.now is h.to_colon h.passes;
   begins = h.begins;
 }
 
-pub named-start : {limits : Limits} {place : ℕ} {bytes behind : List ℕ} (name : TextAt) (start : Option Start) → IsName limits place bytes (placed_text name) behind → IsRightlySimple name → 0 < length bytes
+pub named-start : {limits : Limits} {place : ℕ} {bytes behind : List ℕ} (name : TextAt) (start : Option Start) → IsName limits place bytes (placed_text name) behind → IsRightlyFormed name → 0 < length bytes
     → IfSome start (IsBehindName name behind) → IfSome start (IsNamed limits place bytes)
-named-start name None is simple some h = tt
-named-start {limits} {place} {bytes} {behind} name (Some s) is simple some h = record { text = name; name = named-as limits place name (placed_text name) bytes behind s is simple some h }
+named-start name None is says some h = tt
+named-start {limits} {place} {bytes} {behind} name (Some s) is says some h = record { text = name; name = named-as limits place name (placed_text name) bytes behind s is says some h }
 
 -- what is known of the next token, where there is one
 pub next-begins : {bytes : List ℕ} {next : Next} → IsNext bytes next → 0 < length next.rest.now → Begins next
@@ -280,10 +280,9 @@ start-as bounds spot next text raw start within field is h =
     record {
       known = rw h.is tt;
       free = rw h.bare tt;
-      field = rw h.is h.simple;
+      field = rw h.is h.says;
       note = rw h.bare tt;
       second = tt;
-      stands = rw h.bare tt;
       onward = λ kinds may.
           rw (h.bare, field) (onward-then limits kinds spot.top place named a_field a_field (a_value (Some raw) []) spot.rest.now next.rest.now start.next.rest.now (omega (arith, within, fewer))
           (onward-blanks limits kinds spot.top place a_field spot.rest.now next.rest.now passes) (h.onward kinds spot.top));

@@ -1,17 +1,16 @@
 -- Annotations in a lane.
-use Rattle.std.proofs.Common.{◌≡◌, ℕ, ◌+◌, ◌-◌, ◌≤◌, Bool, true, false, ◌==◌, nat_lt, List, [], ◌∷◌, ◌++◌, length, take, drop, get_or, codes, append_assoc, Option, Some, None, IfSome, Ok, refl, sym, ap, subst, ◌∙◌, arith}
-use Rattle.std.specs.Prelude.{option_map, sum_by}
-use Rattle.std.proofs.lemmas.List.{length-append, length-drop, length-take-le, take-append-drop}
+use Rattle.std.proofs.Common.{◌≡◌, ℕ, ◌+◌, ◌-◌, ◌≤◌, Bool, true, false, ◌==◌, nat_lt, List, [], ◌∷◌, ◌++◌, length, drop, get_or, Option, Some, None, IfSome, Ok, refl, sym, ap, ◌∙◌, arith}
+use Rattle.std.specs.Prelude.{is_none, option_map, sum_by}
+use Rattle.std.proofs.lemmas.List.{length-drop}
 use Rattle.ion_meter.specs.Sources.{Cursor, skip}
 use Rattle.ion_meter.specs.declared.limits.Limits.{Limits}
 use Rattle.ion_meter.specs.declared.fault.Reason.TheVariants.{AnnotationLimit}
 use Rattle.ion_value.specs.declared.ion_type.Kind.{Kind}
 use Rattle.ion_value.specs.declared.ion_type.Kind.TheVariants as a_kind
-use Rattle.ion_value.specs.declared.plain_item.SecondAt.{SecondAt}
 use Rattle.ion_value.specs.declared.plain_item.TextAt.{TextAt}
 use Rattle.ion_value.specs.Digits.{first_is}
 use Rattle.ion_value.specs.Parts.{part, refuse, ◌>>◌}
-use Rattle.ion_value.specs.PlainItems.{placed_text, IsRightlySimple}
+use Rattle.ion_value.specs.PlainItems.{placed_text, with_second, HasNoDollar, HaveNoDollar, IsRightlyFormed, StandsBehind}
 use Rattle.ion_value.specs.Value as value
 use Rattle.ion_value.specs.Value.{SymbolAt}
 use Rattle.ion_text_in.specs.declared.expected.Expected.{Expected}
@@ -22,7 +21,7 @@ use Rattle.ion_text_in.specs.declared.feed.spot.Spot.{Spot}
 use Rattle.ion_text_in.specs.declared.feed.spot.Start.{Start}
 use Rattle.ion_text_in.specs.Blanks.{blanks}
 use Rattle.ion_text_in.specs.Expecting.{wanted, MayExpect}
-use Rattle.ion_text_in.specs.Feeding.{expected_of, notes, place_in, state, BeginsAs, IsBehind, IsBehindColons, IsBehindNote, IsNoted, IsStart, IsStartAs, Onward, StandsNoted}
+use Rattle.ion_text_in.specs.Feeding.{expected_of, notes, place_in, state, BeginsAs, IsBehind, IsBehindColons, IsBehindNote, IsFurther, IsNoted, IsStart, IsStartAs, Onward}
 use Rattle.ion_text_in.specs.Meaning.{at}
 use Rattle.ion_text_in.specs.Positions.{Wants, a_value, in_sexp, innermost}
 use Rattle.ion_text_in.specs.Reading.{take as taken, behind_colons, colons_at, colons_behind, cost, onward_step, symbol_step}
@@ -36,9 +35,10 @@ use Rattle.ion_text_in.proofs.FeedReading.{behind-then, later-token, may-value, 
 not-less : (n m : ℕ) → m ≤ n → nat_lt n m ≡ false
 not-less n m h = grind (arith, h)
 
--- what one annotation costs
-one-costs : (note : TextAt) → sum_by cost (placed_text note ∷ []) ≡ 16 + length note.text.now
-one-costs note = omega arith
+-- an annotation for which there is room costs no more than may be, with one before it
+pub room-costs : (limit : ℕ) (before : Option TextAt) (note : TextAt) → 16 + length note.text.now ≤ limit - sum_by cost (notes before) → sum_by cost (notes before ++ placed_text note ∷ []) ≤ limit
+room-costs limit None note fits = omega (arith, fits)
+room-costs limit (Some first) note fits = omega (arith, fits)
 
 -- a symbol behind which two colons stand is an annotation behind those before it
 note-stepped : (limits : Limits) (kinds : List Kind) (top place : ℕ) (field : Option SymbolAt) (before : List SymbolAt) (quoted : Bool) (note : TextAt) (c d : Cursor) → behind_colons (in_sexp (innermost kinds)) c ≡ Some d
@@ -55,11 +55,6 @@ both-colons : (sexp : Bool) (bytes : List ℕ) → first_at sexp (58 ∷ 58 ∷ 
 unfolding first_at
 both-colons true bytes = refl
 both-colons false bytes = refl
-
-pub colons-same : (bytes : List ℕ) → 2 ≤ length bytes → get_or bytes 0 0 ≡ 58 → get_or bytes 1 0 ≡ 58 → take 2 bytes ≡ codes "::"
-colons-same [] two first second = absurd (omega (arith, two))
-colons-same (a ∷ []) two first second = absurd (omega (arith, two))
-colons-same (a ∷ b ∷ bytes) two first second = ap (λ (x : ℕ). x ∷ b ∷ []) first ∙ ap (λ (x : ℕ). 58 ∷ x ∷ []) second
 
 -- two colons show themselves
 pub colons-begin : (bytes : List ℕ) → 2 ≤ length bytes → get_or bytes 0 0 ≡ 58 → get_or bytes 1 0 ≡ 58 → BeginsAs tokens.two_colons bytes
@@ -130,37 +125,6 @@ onward-note limits kinds top place field before note bytes colon next is costs h
           ∙ (onward-blanks limits kinds top (colons_place + 2) wants (drop 2 colon) rest h.passes).same q more (omega (arith, e, two, behind_long, first)));
     }
 
--- ---- where an annotation stands
-
--- a word at the front of some bytes
-pub stands-word : (place n : ℕ) (note : TextAt) (bytes colon : List ℕ) → note.place ≡ place → note.text.now ≡ take n bytes → colon ≡ drop n bytes → take 2 colon ≡ codes "::" → StandsNoted place bytes note
-stands-word place n note bytes colon here is behind two = record {
-  before = [];
-  after = drop 2 colon;
-  same = sym (take-append-drop n bytes)
-      ∙ (ap (λ (l : List ℕ). take n bytes ++ l) (sym behind ∙ (sym (take-append-drop 2 colon) ∙ ap (λ (l : List ℕ). l ++ drop 2 colon) two))
-      ∙ ap (λ (l : List ℕ). l ++ (codes "::" ++ drop 2 colon)) (sym is));
-  here = omega (arith, here);
-}
-
--- the same seen from further ahead
-stands-further : (p q : ℕ) (bytes rest : List ℕ) (note : TextAt) → IsBehind bytes rest → p + length bytes ≡ q + length rest → StandsNoted q rest note → StandsNoted p bytes note
-stands-further p q bytes rest note part e h =
-    let k = part.count in
-    let ahead = take k bytes in
-    let within = part.within in
-    let here = h.here in
-    let long = length-take-le k bytes within in
-    let dropped = length-drop k bytes in
-    let rest_long = ap (λ (l : List ℕ). length l) part.same in
-    record {
-      before = ahead ++ h.before;
-      after = h.after;
-      same = sym (take-append-drop k bytes)
-          ∙ (ap (λ (l : List ℕ). ahead ++ l) (sym part.same ∙ h.same) ∙ sym (append_assoc ahead h.before (note.text.now ++ (codes "::" ++ h.after))));
-      here = omega (arith, here, long, dropped, rest_long, within, e, length-append ahead h.before);
-    }
-
 -- ---- where the value begins
 
 -- what may come, whatever must
@@ -170,50 +134,57 @@ some-opened expected.Field = (a_kind.Struct ∷ [], (refl, refl, refl))
 some-opened expected.Separator = ([], (refl, refl))
 
 -- it begins in what is to come
-pub start-part : {raw : Option SymbolAt} {pair : Option SecondAt} {bounds : Bounds} {spot : Spot} {start : Start} → IsStartAs raw pair bounds spot start → IsBehind spot.rest.now start.next.rest.now × (length start.next.rest.now ≤ length spot.rest.now)
+pub start-part : {raw : Option SymbolAt} {second : Option TextAt} {bounds : Bounds} {spot : Spot} {start : Start} → IsStartAs raw second bounds spot start → IsBehind spot.rest.now start.next.rest.now × (length start.next.rest.now ≤ length spot.rest.now)
 start-part {bounds} {spot} is = let opened = some-opened (expected_of spot) in let onward = is.onward opened.0 opened.1 in (onward.part, onward.fewer)
 
 -- a value begins behind the annotation that was read
-pub note-behind : {limits : Limits} {place : ℕ} {note : TextAt} {colon : List ℕ} (start : Start) (noted : Option Start) → IsSymbol limits place start.next.rest.now note colon → IsRightlySimple note
-    → (take 2 colon ≡ codes "::" → note.simple ≡ true → StandsNoted place start.next.rest.now note)
+pub note-behind : {limits : Limits} {place : ℕ} {note : TextAt} {colon : List ℕ} (start : Start) (noted : Option Start) → IsSymbol limits place start.next.rest.now note colon → IsRightlyFormed note
     → first_is (λ b. b == 36) note.text.now ≡ false → IfSome noted (IsBehindNote limits start note colon) → IfSome noted (IsNoted limits place start)
-note-behind start None is simple stands free h = tt
-note-behind {limits} {place} {note} {colon} start (Some s) is simple stands free h =
-    let costs = one-costs note in
-    let within = h.costs in
+note-behind start None is says free h = tt
+note-behind {limits} {place} {note} {colon} start (Some s) is says free h = record {
+  text = note;
+  is = h.is;
+  same = h.same;
+  says = says;
+  free = free;
+  onward = λ kinds top field. onward-note limits kinds top place field (notes start.note) note start.next.rest.now colon s.next is h.costs h.behind;
+  begins = h.behind.begins;
+}
+
+both-free : (first : Option TextAt) (text : TextAt) → HaveNoDollar (notes first) → HasNoDollar (value.Text text.text.now) → HaveNoDollar (notes first ++ placed_text text ∷ [])
+both-free None text before free = (free, tt)
+both-free (Some t) text before free = (before.0, (free, tt))
+
+stands-behind : (first : Option TextAt) (text : TextAt) → is_none first ≡ false → IsRightlyFormed text → StandsBehind first text
+stands-behind None text some says = absurd (cc some)
+stands-behind (Some t) text some says = says
+
+-- so it does where a lane stands
+start-more : {bounds : Bounds} {spot : Spot} {start noted : Start} (second : Option TextAt) (new : Start) → length spot.rest.now ≤ bounds.end → IsStart bounds spot start
+    → (h : IsNoted bounds.limits (place_in bounds start.next.rest.now) start noted) → new.field ≡ start.field → new.next ≡ noted.next → with_second (notes new.note) second ≡ notes start.note ++ placed_text h.text ∷ []
+    → IfSome new.note IsRightlyFormed → IfSome second (StandsBehind new.note) → IsFurther second bounds spot new
+start-more {bounds} {spot} {start} {noted} second new within is h field next both note stands =
+    let name = option_map placed_text start.field in
     record {
-      text = note;
-      is = h.is;
-      same = h.same;
-      simple = simple;
-      stands = stands h.behind.same;
-      free = free;
-      onward = λ kinds top field. onward-note limits kinds top place field [] note start.next.rest.now colon s.next is (omega (arith, costs, within)) h.behind;
-      begins = h.behind.begins;
+      known = rw field is.known;
+      free = rw both (both-free start.note h.text is.free h.free);
+      field = rw field is.field;
+      note = note;
+      second = stands;
+      onward = λ kinds may.
+          let before = is.onward kinds may in
+          let fewer = before.fewer in
+          rw (both, field, next) (onward-then bounds.limits kinds spot.top (place_in bounds spot.rest.now) (place_in bounds start.next.rest.now) (wanted (expected_of spot) None []) (a_value name (notes start.note))
+          (a_value name (notes start.note ++ placed_text h.text ∷ [])) spot.rest.now start.next.rest.now noted.next.rest.now (omega (arith, fewer, within)) before (h.onward kinds spot.top name));
+      named = λ kinds may. rw field (is.named kinds may);
+      begins = rw next h.begins;
     }
 
 pub start-noted : {bounds : Bounds} {spot : Spot} {start noted : Start} → length spot.rest.now ≤ bounds.end → IsStart bounds spot start → start.note ≡ None
     → IsNoted bounds.limits (place_in bounds start.next.rest.now) start noted → IsStart bounds spot noted
-start-noted {bounds} {spot} {start} {noted} within is bare h =
-    let limits = bounds.limits in
-    let field = option_map placed_text start.field in
-    let at_spot = place_in bounds spot.rest.now in
-    let at_start = place_in bounds start.next.rest.now in
-    let ahead = (start-part is).1 in
-    record {
-      known = rw h.same is.known;
-      free = rw h.is (h.free, tt);
-      field = rw h.same is.field;
-      note = rw h.is h.simple;
-      second = tt;
-      stands = rw h.is (λ simple. stands-further at_spot at_start spot.rest.now start.next.rest.now h.text (start-part is).0 (omega (arith, ahead, within)) (h.stands simple));
-      onward = λ kinds may.
-          let before = is.onward kinds may in
-          let fewer = before.fewer in
-          let wants = wanted (expected_of spot) None [] in
-          let plain = subst (λ (n : Option TextAt). Onward limits kinds spot.top at_spot wants spot.rest.now (a_value field (notes n)) start.next.rest.now) bare before in
-          rw (h.is, h.same) (onward-then limits kinds spot.top at_spot at_start wants (a_value field []) (a_value field (placed_text h.text ∷ [])) spot.rest.now start.next.rest.now noted.next.rest.now
-          (omega (arith, fewer, within)) plain (h.onward kinds spot.top field));
-      named = λ kinds may. rw h.same (is.named kinds may);
-      begins = h.begins;
-    }
+start-noted {noted} within is bare h = start-more None noted within is h h.same refl (rw (h.is, bare) refl) (rw h.is h.says) tt
+
+pub start-second : {bounds : Bounds} {spot : Spot} {start noted : Start} (new : Start) → new.field ≡ start.field → new.note ≡ start.note → new.next ≡ noted.next → is_none start.note ≡ false
+    → IsNoted bounds.limits (place_in bounds start.next.rest.now) start noted → length spot.rest.now ≤ bounds.end → IsStart bounds spot start → IsFurther noted.note bounds spot new
+start-second {start} {noted} new field kept next some h within is =
+    start-more noted.note new within is h field next (rw (kept, h.is) refl) (rw kept is.note) (rw (h.is, kept) (stands-behind start.note h.text some h.says))

@@ -339,7 +339,6 @@ start-value bounds spot next (Some s) value is none bare same some =
       field = rw none tt;
       note = rw bare tt;
       second = tt;
-      stands = rw bare tt;
       onward = λ kinds may. rw (none, bare, same, value) (onward-blanks bounds.limits kinds spot.top (place_in bounds spot.rest.now) (a_value None []) spot.rest.now next.rest.now passes);
       named = λ kinds may. rw none (subst (λ (e : Expected). MayExpect e kinds None []) value may);
       begins = subst (λ (n : Next). Begins n) (sym same) at_next;

@@ -73,7 +73,6 @@ pub mod FeedNames
 pub mod FeedComments
 pub mod FeedHeads
 pub mod FeedNoted
-pub mod FeedSecond
 pub mod FeedLanes
 pub mod FeedItems
 pub mod FeedIds

@@ -1,5 +1,5 @@
 -- A lane over the bytes of a window: where it stands, what it reads of them, and what it moves.
-use Rattle.std.specs.Prelude.{◌≡◌, ℕ, ◌+◌, ◌*◌, ◌-◌, ◌^◌, ◌<◌, ◌≤◌, ◌==◌, max, Bool, get_or, true, false, List, [], ◌∷◌, ◌++◌, take, drop, length, reverse, is_some, codes, Option, Some, None, Ok, option_map, IfSome}
+use Rattle.std.specs.Prelude.{◌≡◌, ℕ, ◌+◌, ◌*◌, ◌-◌, ◌^◌, ◌<◌, ◌≤◌, ◌==◌, max, Bool, get_or, true, false, List, [], ◌∷◌, ◌++◌, take, drop, length, reverse, is_some, sum_by, Option, Some, None, Ok, option_map, IfSome}
 use Rattle.ion_meter.specs.Counts.{Counts}
 use Rattle.ion_meter.specs.declared.limits.Limits.{Limits}
 use Rattle.ion_meter.specs.Limits.{AreChecked}
@@ -7,13 +7,12 @@ use Rattle.ion_meter.specs.Sources.{Cursor, skip}
 use Rattle.ion_meter.specs.Windows.{Incoming, lent, Outgoing, IsPassed}
 use Rattle.ion_value.specs.declared.ion_type.Kind.{Kind}
 use Rattle.ion_value.specs.declared.plain_item.TextAt.{TextAt}
-use Rattle.ion_value.specs.declared.plain_item.SecondAt.{SecondAt}
 use Rattle.ion_value.specs.declared.writer.ValueWriter.{Ghosts as WriterOf}
 use Rattle.ion_value.specs.Feeding.{CanTake, Feeds, Joint, StaysWell}
 use Rattle.ion_value.specs.Items.{named_at, named_item, raw_head}
 use Rattle.ion_value.specs.Outcome.{one_if_closed}
 use Rattle.ion_value.specs.Parts.{Placed}
-use Rattle.ion_value.specs.PlainItems.{listed, placed_text, with_second, StandsBehind, HasKnownName, HasNoDollar, HaveNoDollar, IsKnownHead, IsRightlySimple, IsTextOf}
+use Rattle.ion_value.specs.PlainItems.{listed, placed_text, with_second, StandsBehind, HasKnownName, HasNoDollar, HaveNoDollar, IsKnownHead, IsRightlyFormed, IsTextOf}
 use Rattle.ion_value.specs.Reading.{More}
 use Rattle.ion_value.specs.Shares.{Charges}
 use Rattle.ion_value.specs.Standing.{open_after, in_struct, has_field, is_marker, HasPlace, HeadInRange, WritesWithin}
@@ -40,7 +39,7 @@ use Rattle.ion_text_in.specs.Firsts.{numbered}
 use Rattle.ion_text_in.specs.Meaning.{at}
 use Rattle.ion_text_in.specs.Positions.{State, Wants, a_field, a_value, innermost}
 use Rattle.ion_text_in.specs.Quoted.{Quote, text_at}
-use Rattle.ion_text_in.specs.Reading.{behind_member, item_of, member_of, top_of}
+use Rattle.ion_text_in.specs.Reading.{behind_member, cost, item_of, member_of, top_of}
 use Rattle.ion_text_in.specs.Runs.{EndBehind}
 use Rattle.ion_text_in.specs.Steps.{later}
 use Rattle.ion_text_in.specs.Token.{First, a_colon, a_quoted, a_short, a_word, first_at, in_word, name, token_of, two_colons}
@@ -192,7 +191,7 @@ pub record IsBehindName (name : TextAt) (bytes : List ℕ) (start : Start) : Typ
 pub record IsNamedAs (text : TextAt) (raw : SymbolAt) (limits : Limits) (place : ℕ) (bytes : List ℕ) (start : Start) : Type 0 where
   pub is : start.field ≡ Some text
   pub bare : start.note ≡ None
-  pub simple : IsRightlySimple text
+  pub says : IsRightlyFormed text
   pub some : 0 < length bytes
   pub onward : (kinds : List Kind) (top : ℕ) → Onward limits kinds top place a_field bytes (a_value (Some raw) []) start.next.rest.now
   pub begins : Begins start.next
@@ -212,43 +211,26 @@ pub record IsNamedBy (texts : ℕ → Option (List ℕ)) (limits : Limits) (plac
 -- two colons stand here, and a value begins behind them
 pub record IsBehindColons (colons : List ℕ) (next : Next) : Type 0 where
   pub two : 2 ≤ length colons
-  pub same : take 2 colons ≡ codes "::"
   pub shown : BeginsAs two_colons colons
   pub passes : PassesBlanks (drop 2 colons) next.rest.now
   pub begins : Begins next
 
--- behind an annotation two colons stand, its bytes are no more than may be, and a value begins
+-- behind an annotation two colons stand, its bytes and those of one before it are no more than may be, and a value begins
 pub record IsBehindNote (limits : Limits) (start : Start) (note : TextAt) (colons : List ℕ) (noted : Start) : Type 0 where
   pub is : noted.note ≡ Some note
   pub same : noted.field ≡ start.field
-  pub costs : 16 + length note.text.now ≤ limits.scalar
+  pub costs : sum_by cost (notes start.note ++ placed_text note ∷ []) ≤ limits.scalar
   pub behind : IsBehindColons colons noted.next
 
--- the same behind a second annotation, where the bytes of both are counted
-pub record IsBehindSecond (limits : Limits) (start : Start) (note : TextAt) (second : SecondAt) (colons : List ℕ) (further : Further) : Type 0 where
-  pub is : further.second ≡ Some second
-  pub kept : further.start.note ≡ start.note
-  pub same : further.start.field ≡ start.field
-  pub costs : 32 + (length note.text.now + length second.text.now) ≤ limits.scalar
-  pub behind : IsBehindColons colons further.start.next
-
--- a text and two colons right behind it stand in some bytes that begin at a place
-pub record StandsNoted (place : ℕ) (bytes : List ℕ) (note : TextAt) : Type 0 where
-  pub before : List ℕ
-  pub after : List ℕ
-  pub same : bytes ≡ before ++ (note.text.now ++ (codes "::" ++ after))
-  pub here : note.place ≡ place + length before
-
--- behind an annotation that begins at a place, and two colons, a value begins
+-- after an annotation that begins at a place, maybe after another, and two colons, a value begins
 pub record IsNoted (limits : Limits) (place : ℕ) (start noted : Start) : Type 0 where
   pub text : TextAt
   pub is : noted.note ≡ Some text
   pub same : noted.field ≡ start.field
-  pub simple : IsRightlySimple text
-  pub stands : text.simple ≡ true → StandsNoted place start.next.rest.now text
+  pub says : IsRightlyFormed text
   pub free : HasNoDollar (value.Text text.text.now)
   pub onward : (kinds : List Kind) (top : ℕ) (field : Option SymbolAt)
-      → Onward limits kinds top place (a_value field []) start.next.rest.now (a_value field (placed_text text ∷ [])) noted.next.rest.now
+      → Onward limits kinds top place (a_value field (notes start.note)) start.next.rest.now (a_value field (notes start.note ++ placed_text text ∷ [])) noted.next.rest.now
   pub begins : Begins noted.next
 
 -- the place where bytes begin that a window ends with
@@ -266,38 +248,40 @@ pub record PassesComma (old new : Spot) : Type 0 where
   pub expects : (opened : List Kind) → kind_in opened ≡ old.kind → MayExpect (expected_of old) opened None [] → MayExpect (expected_of new) opened None []
   pub same : new ≡ record old { rest = new.rest; separator = new.separator }
 
--- a value begins here, behind the name of a field where one must come, which is read as `raw`, and behind its annotations, two at most; a first one that is said to be simple
--- stands in the bytes with its two colons
-pub record IsStartAs (raw : Option SymbolAt) (pair : Option SecondAt) (bounds : Bounds) (spot : Spot) (start : Start) : Type 0 where
+-- a value begins here, behind the name of a field where one must come, which is read as `raw`, and behind its annotations, two at most
+pub record IsStartAs (raw : Option SymbolAt) (other : Option TextAt) (bounds : Bounds) (spot : Spot) (start : Start) : Type 0 where
   pub known : HasKnownName (option_map placed_text start.field)
-  pub free : HaveNoDollar (with_second (notes start.note) pair)
-  pub field : IfSome start.field IsRightlySimple
-  pub note : IfSome start.note IsRightlySimple
-  pub second : IfSome pair (StandsBehind start.note)
-  pub stands : IfSome start.note (λ t. t.simple ≡ true → StandsNoted (place_in bounds spot.rest.now) spot.rest.now t)
+  pub free : HaveNoDollar (with_second (notes start.note) other)
+  pub field : IfSome start.field IsRightlyFormed
+  pub note : IfSome start.note IsRightlyFormed
+  pub second : IfSome other (StandsBehind start.note)
   pub onward : (kinds : List Kind) → MayExpect (expected_of spot) kinds None []
-      → Onward bounds.limits kinds spot.top (place_in bounds spot.rest.now) (wanted (expected_of spot) None []) spot.rest.now (a_value raw (with_second (notes start.note) pair)) start.next.rest.now
+      → Onward bounds.limits kinds spot.top (place_in bounds spot.rest.now) (wanted (expected_of spot) None []) spot.rest.now (a_value raw (with_second (notes start.note) other)) start.next.rest.now
   pub named : (kinds : List Kind) → MayExpect (expected_of spot) kinds None [] → is_some start.field ≡ in_struct kinds
   pub begins : Begins start.next
 
 -- the name is a text, and behind the annotation another may stand
-abbrev pub IsFurther : Option SecondAt → Bounds → Spot → Start → Type 0
-IsFurther pair bounds spot start = IsStartAs (option_map placed_text start.field) pair bounds spot start
+abbrev pub IsFurther : Option TextAt → Bounds → Spot → Start → Type 0
+IsFurther second bounds spot start = IsStartAs (option_map placed_text start.field) second bounds spot start
 
 -- the same of one annotation at most
 abbrev pub IsStart : Bounds → Spot → Start → Type 0
 IsStart bounds spot start = IsFurther None bounds spot start
 
+-- wherever a lane stands from which a value begins here, it begins further on as well, after a second annotation if there is one
+abbrev pub LeadsFurther : Bounds → Start → Further → Type 0
+LeadsFurther bounds start further = (spot : Spot) → length spot.rest.now ≤ bounds.end → IsStart bounds spot start → IsFurther further.second bounds spot further.start
+
 -- however the name is read
-pub record IsStartRead (pair : Option SecondAt) (bounds : Bounds) (spot : Spot) (start : Start) : Type 0 where
+pub record IsStartRead (second : Option TextAt) (bounds : Bounds) (spot : Spot) (start : Start) : Type 0 where
   pub raw : Option SymbolAt
-  pub read : IsStartAs raw pair bounds spot start
+  pub read : IsStartAs raw second bounds spot start
 
 -- the name is a text, or an id of this text
-pub record IsStartBy (texts : ℕ → Option (List ℕ)) (pair : Option SecondAt) (bounds : Bounds) (spot : Spot) (start : Start) : Type 0 where
+pub record IsStartBy (texts : ℕ → Option (List ℕ)) (second : Option TextAt) (bounds : Bounds) (spot : Spot) (start : Start) : Type 0 where
   pub raw : Option SymbolAt
   pub seen : option_map (named_at texts) raw ≡ option_map placed_text start.field
-  pub read : IsStartAs raw pair bounds spot start
+  pub read : IsStartAs raw second bounds spot start
 
 -- a head stands at the front of some bytes, and these behind it; it is read as `raw`
 pub record IsHeadAs (raw : Head SymbolAt) (limits : Limits) (place : ℕ) (bytes : List ℕ) (head : Head SymbolAt) (rest : List ℕ) : Type 0 where

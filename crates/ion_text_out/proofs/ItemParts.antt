@@ -1,13 +1,13 @@
 -- An item's text in parts: what stands first, the value, and what stands last.
-use Rattle.std.proofs.Common.{◌≡◌, ℕ, List, [], ◌∷◌, ◌++◌, Result, Ok, Err, refl, sym, subst, ap, ◌∙◌, append_assoc, append-nil}
-use Rattle.std.specs.Prelude.{OnOk}
+use Rattle.std.proofs.Common.{◌≡◌, ℕ, List, [], ◌∷◌, ◌++◌, Option, Some, None, Result, Ok, Err, refl, sym, subst, ap, ◌∙◌, append_assoc, append-nil}
+use Rattle.std.specs.Prelude.{OnOk, codes, option_map}
 use Rattle.ion_meter.specs.Windows.{Outgoing}
 use Rattle.ion_meter.specs.declared.fault.Fault.{Fault}
 use Rattle.ion_value.specs.Value as v
 use Rattle.ion_value.specs.Value.{PlacedItem, SymbolAt, map_head}
-use Rattle.ion_text_out.specs.Text.{Open, before_item, behind_value, head_text, item_text, opener}
+use Rattle.ion_text_out.specs.Text.{Open, before_item, behind_value, field_text, head_text, item_text, opener}
 use Rattle.ion_meter.specs.Sinks.{HasPut}
-use Rattle.ion_text_out.specs.Writing.{body_text, first_text, is_value, last_text, middle_text, name_text, annotations_text, where_value}
+use Rattle.ion_text_out.specs.Writing.{body_text, first_text, is_value, last_text, marked_text, middle_text, annotations_text, where_value}
 use Rattle.ion_value.specs.Value.{user_symbol_at, user_item}
 use Rattle.ion_meter.proofs.Putting.{put_cut, put_then}
 
@@ -24,8 +24,14 @@ head_parts [] name annotations v.end = refl
 head_parts (c ∷ cs) name annotations v.end = refl
 head_parts cs name annotations v.marker = refl
 
+name_marked : (field : Option SymbolAt) → marked_text (codes ":") field ≡ field_text (option_map user_symbol_at field)
+name_marked None = refl
+name_marked (Some at) = refl
+
 pub item_parts : (cs : Open) (i : PlacedItem) → first_text cs i.head ++ (middle_text i ++ last_text cs i.head) ≡ item_text cs (user_item i)
-item_parts cs i = head_parts cs (name_text i.field) (annotations_text i.annotations) i.head
+item_parts cs i =
+    head_parts cs (marked_text (codes ":") i.field) (annotations_text i.annotations) i.head
+    ∙ ap (λ (name : List ℕ). head_text cs (name ++ annotations_text i.annotations) (map_head user_symbol_at i.head)) (name_marked i.field)
 
 -- an item's text where each of the parts was put, or failed
 parts_for : (cs : Open) (i : PlacedItem) (h : v.Head SymbolAt) → h ≡ i.head → first_text cs h ++ (middle_text i ++ last_text cs h) ≡ item_text cs (user_item i)

@@ -1,24 +1,28 @@
 -- What is put of a plain item is its text.
-use Rattle.std.proofs.Common.{◌≡◌, ℕ, ◌<◌, ◌≤◌, Bool, true, false, List, [], ◌∷◌, ◌++◌, length, Option, Some, None, refl, sym, ap, ◌∙◌, append_assoc, append-nil, arith, if◌then◌else◌}
+use Rattle.std.proofs.Common.{◌≡◌, ℕ, ◌≤◌, Bool, true, false, List, [], ◌∷◌, ◌++◌, length, take, drop, Option, Some, None, refl, sym, ap, ◌∙◌, append_assoc, append-nil, arith, if◌then◌else◌}
+use Rattle.std.proofs.Math.Seq.{drop-append_seam, take-append_seam}
 use Rattle.std.proofs.lemmas.Bool.{and_parts}
 use Rattle.std.specs.Prelude.{map, option_map, codes, is_some, IfSome}
 use Rattle.std.specs.List.{flat_map}
 use Rattle.ion_meter.specs.Windows.{Outgoing}
-use Rattle.ion_value.specs.Name.{is_plain, is_simple}
+use Rattle.ion_value.specs.Name.{IsFormedAs, is_plain, is_simple}
 use Rattle.ion_value.specs.Value as v
 use Rattle.ion_value.specs.Value.{PlacedItem, SymbolAt, Symbol, map_head, map_scalar, user_symbol, user_symbol_at, user_item}
 use Rattle.ion_value.specs.Items.{raw_head}
-use Rattle.ion_value.specs.PlainItems.{IsOwnText, IsRightlySimple, IsTextOf, StandsBehind, listed, placed_item, placed_text, with_second}
+use Rattle.ion_value.specs.PlainItems.{IsOwnText, IsQuotedIn, IsRightlyFormed, IsTextOf, StandsBehind, listed, placed_item, placed_text, with_second}
+use Rattle.ion_value.specs.Digits.{all_are}
+use Rattle.ion_value.specs.declared.form.Form.{Form}
+use Rattle.ion_value.specs.declared.form.Form.TheVariants as form
 use Rattle.ion_value.specs.declared.ion_type.Kind.{Kind}
 use Rattle.ion_value.specs.declared.ion_type.Kind.TheVariants as kind
 use Rattle.ion_value.specs.declared.plain_item.TextAt.{TextAt}
-use Rattle.ion_value.specs.declared.plain_item.SecondAt.{SecondAt}
 use Rattle.ion_value.specs.declared.plain_item.PlainItem.{PlainItem}
-use Rattle.ion_text_out.specs.Escape.{between_quotes, byte_text}
+use Rattle.ion_text_out.proofs.Quoted.{shown_between}
+use Rattle.ion_text_out.specs.Escape.{between_quotes, byte_text, is_shown}
 use Rattle.ion_text_out.specs.Text.{Open, annotation_text, before_item, behind_value, field_text, head_text, item_text, scalar_text, symbol_text}
 use Rattle.ion_meter.specs.declared.limits.Limits.{Limits}
 use Rattle.ion_text_out.specs.Writing.{behind_end, closing, shown, text_adds, Shows}
-use Rattle.ion_text_out.specs.Lane.{are_said_simple, is_said_simple, notes_in, plain_front, plain_name, plain_note, plain_scalar, spelling, symbol_in, symbols_in, text_in}
+use Rattle.ion_text_out.specs.Lane.{is_bare, is_bare_in, marked, plain_front, plain_scalar, symbol_in, symbols_in, text_in}
 
 -- a simple text is plain
 simple_plain : (bytes : List ℕ) → is_simple bytes ≡ true → is_plain bytes ≡ true
@@ -29,112 +33,86 @@ pub plain_text : (bytes : List ℕ) → is_plain bytes ≡ true → symbol_text 
 plain_text bytes plain = rw plain refl
 
 -- so is a simple one
-simple_text : (bytes : List ℕ) → is_simple bytes ≡ true → symbol_text (v.Known bytes) ≡ bytes
+pub simple_text : (bytes : List ℕ) → is_simple bytes ≡ true → symbol_text (v.Known bytes) ≡ bytes
 simple_text bytes simple = plain_text bytes (simple_plain bytes simple)
 
 -- and any other between quotes
 pub quoted_text : (bytes : List ℕ) → is_plain bytes ≡ false → symbol_text (v.Known bytes) ≡ between_quotes 39 256 bytes
 quoted_text bytes plain = rw plain refl
 
--- the same of a symbol
-pub plain_symbol : (s : Symbol) (bytes : List ℕ) → s ≡ v.Text bytes → is_plain bytes ≡ true → symbol_text (user_symbol s) ≡ bytes
-plain_symbol s bytes is plain = rw (is, plain) refl
+-- where it has no escapes, as it stands between them
+pub between_text : (bytes : List ℕ) → is_plain bytes ≡ false → all_are (is_shown 39 256) bytes ≡ true → 39 ∷ (bytes ++ 39 ∷ []) ≡ symbol_text (v.Known bytes)
+between_text bytes plain own = sym (quoted_text bytes plain ∙ shown_between 39 256 bytes own)
 
-pub quoted_symbol : (s : Symbol) (bytes : List ℕ) → s ≡ v.Text bytes → is_plain bytes ≡ false → symbol_text (user_symbol s) ≡ between_quotes 39 256 bytes
-quoted_symbol s bytes is plain = rw (is, plain) refl
+-- a text that is rightly said to stand bare is put as it stands
+bare_text : (form : Form) (bytes : List ℕ) → IsFormedAs form bytes → is_bare form ≡ true → bytes ≡ symbol_text (v.Known bytes)
+bare_text form.Bare bytes simple said = sym (simple_text bytes simple)
+bare_text form.Quoted bytes right said = absurd (cc said)
+bare_text form.Any bytes right said = absurd (cc said)
 
 -- a symbol's own text is what is put of it
-own_text : (text : List ℕ) (s : Symbol) → IsOwnText text s → text ≡ symbol_text (user_symbol s)
+own_text : (text : List ℕ) (s : Symbol) → IsOwnText form.Bare text s → text ≡ symbol_text (user_symbol s)
 own_text text (v.Text bytes) is = is.1 ∙ sym (simple_text bytes is.0)
 own_text text (v.Id id) is = absurd is
 
 -- ---- names and annotations
 
--- a symbol that is rightly said to be simple is put as it stands
-pub as_it_stands : (symbol : Option TextAt) → IfSome symbol IsRightlySimple → is_said_simple symbol ≡ true → text_in symbol ≡ symbol_in symbol
+-- a symbol that is rightly said to stand bare is put as it stands
+pub as_it_stands : (symbol : Option TextAt) → IfSome symbol IsRightlyFormed → is_bare_in symbol ≡ true → text_in symbol ≡ symbol_in symbol
 as_it_stands None right said = refl
-as_it_stands (Some t) right said = sym (simple_text t.text.now (right said))
+as_it_stands (Some t) right said = bare_text t.form t.text.now right said
 
--- two annotations are put as they stand, and so is one that is rightly said to be simple
-pub as_they_stand : (annotation : Option TextAt) (second : Option SecondAt) → IfSome annotation IsRightlySimple → IfSome second (StandsBehind annotation)
-    → are_said_simple annotation second ≡ true → notes_in annotation second ≡ symbols_in annotation second
-as_they_stand annotation None right behind said = as_it_stands annotation right said
-as_they_stand None (Some s) right behind said = absurd behind
-as_they_stand (Some t) (Some s) right behind said =
-    behind.pair ∙ sym (rw (simple_text t.text.now behind.first, simple_text s.text.now behind.second) refl)
-
--- where there is no second annotation
-pub no_second : (second : Option SecondAt) → is_some second ≡ false → second ≡ None
-no_second None alone = refl
-no_second (Some s) alone = absurd (cc alone)
-
--- a text that has a byte is that of a symbol
-pub spelling_is : (text : List ℕ) → 0 < length text → symbol_text (v.Known text) ≡ spelling text
-spelling_is [] some = absurd (omega (arith, some))
-spelling_is (b ∷ bytes) some = refl
-
-simple_spelling : (text : List ℕ) → is_simple text ≡ true → spelling text ≡ symbol_text (v.Known text)
-simple_spelling [] simple = absurd (cc simple)
-simple_spelling (b ∷ bytes) simple = refl
-
--- so is one that is rightly said to be simple, or that of none
-pub simple_spelled : (symbol : Option TextAt) → IfSome symbol IsRightlySimple → is_said_simple symbol ≡ true → spelling (text_in symbol) ≡ symbol_in symbol
-simple_spelled None right said = refl
-simple_spelled (Some t) right said = simple_spelling t.text.now (right said)
-
-pub some_spelled : (symbol : Option TextAt) (text : List ℕ) → text ≡ text_in symbol → 0 < length text → spelling text ≡ symbol_in symbol
-some_spelled None text is some = let none = ap length is in absurd (omega (arith, none, some))
-some_spelled (Some t) text is some = sym (spelling_is text some) ∙ ap (λ (l : List ℕ). symbol_text (v.Known l)) is
+-- so are annotations where there is no second one
+pub as_they_stand : (annotation second : Option TextAt) → IfSome annotation IsRightlyFormed → is_bare_in annotation ≡ true → is_some second ≡ false
+    → text_in annotation ≡ symbols_in annotation second
+as_they_stand annotation None right said alone = as_it_stands annotation right said
+as_they_stand annotation (Some s) right said alone = absurd (cc alone)
 
 -- the text of a symbol has a byte, by which it is told from one that is not there
-named_by : (plain : Bool) (b : ℕ) (bytes inside : List ℕ) → (if plain then b ∷ bytes else 39 ∷ inside) ++ codes ":" ≡ plain_name (if plain then b ∷ bytes else 39 ∷ inside)
-named_by true b bytes inside = refl
-named_by false b bytes inside = refl
+marked_by : (plain : Bool) (b : ℕ) (mark bytes inside more : List ℕ) → ((if plain then b ∷ bytes else 39 ∷ inside) ++ more) ++ mark ≡ marked mark ((if plain then b ∷ bytes else 39 ∷ inside) ++ more)
+marked_by true b mark bytes inside more = refl
+marked_by false b mark bytes inside more = refl
 
-named : (bytes : List ℕ) → symbol_text (v.Known bytes) ++ codes ":" ≡ plain_name (symbol_text (v.Known bytes))
-named [] = refl
-named (b ∷ bytes) = named_by (is_plain (b ∷ bytes)) b bytes (flat_map (byte_text 39 256) (b ∷ bytes) ++ 39 ∷ [])
+is_marked : (mark bytes more : List ℕ) → (symbol_text (v.Known bytes) ++ more) ++ mark ≡ marked mark (symbol_text (v.Known bytes) ++ more)
+is_marked mark [] more = refl
+is_marked mark (b ∷ bytes) more = marked_by (is_plain (b ∷ bytes)) b mark bytes (flat_map (byte_text 39 256) (b ∷ bytes) ++ 39 ∷ []) more
 
-noted_by : (plain : Bool) (b : ℕ) (bytes inside : List ℕ) → (if plain then b ∷ bytes else 39 ∷ inside) ++ codes "::" ≡ plain_note (if plain then b ∷ bytes else 39 ∷ inside)
-noted_by true b bytes inside = refl
-noted_by false b bytes inside = refl
+symbol_marked : (mark bytes : List ℕ) → symbol_text (v.Known bytes) ++ mark ≡ marked mark (symbol_text (v.Known bytes))
+symbol_marked mark bytes = rw (append-nil (symbol_text (v.Known bytes))) at (is_marked mark bytes [])
 
-noted : (bytes : List ℕ) → symbol_text (v.Known bytes) ++ codes "::" ≡ plain_note (symbol_text (v.Known bytes))
-noted [] = refl
-noted (b ∷ bytes) = noted_by (is_plain (b ∷ bytes)) b bytes (flat_map (byte_text 39 256) (b ∷ bytes) ++ 39 ∷ [])
-
-name_is : (field : Option TextAt) → field_text (option_map user_symbol_at (option_map placed_text field)) ≡ plain_name (symbol_in field)
+name_is : (field : Option TextAt) → field_text (option_map user_symbol_at (option_map placed_text field)) ≡ marked (codes ":") (symbol_in field)
 name_is None = refl
-name_is (Some t) = named t.text.now
+name_is (Some t) = symbol_marked (codes ":") t.text.now
 
-note_is : (annotation : Option TextAt)
-    → flat_map annotation_text (map user_symbol_at (listed (option_map placed_text annotation))) ≡ plain_note (symbol_in annotation)
-note_is None = refl
-note_is (Some t) = append-nil (symbol_text (v.Known t.text.now) ++ codes "::") ∙ noted t.text.now
-
--- two annotations, of which the first has a byte, are one text and the last two colons
-paired : (first second : List ℕ) → is_simple first ≡ true → (first ++ codes "::") ++ ((second ++ codes "::") ++ []) ≡ plain_note (first ++ (codes "::" ++ second))
-paired [] second simple = absurd (cc simple)
-paired (b ∷ bytes) second simple =
-    rw (append-nil (second ++ codes "::"), append_assoc (b ∷ bytes) (codes "::") (second ++ codes "::"), append_assoc (b ∷ bytes) (codes "::" ++ second) (codes "::")) refl
-
-notes_are : (annotation : Option TextAt) (second : Option SecondAt) → IfSome second (StandsBehind annotation)
-    → flat_map annotation_text (map user_symbol_at (with_second (listed (option_map placed_text annotation)) second)) ≡ plain_note (symbols_in annotation second)
-notes_are annotation None behind = note_is annotation
+notes_are : (annotation second : Option TextAt) → IfSome second (StandsBehind annotation)
+    → flat_map annotation_text (map user_symbol_at (with_second (listed (option_map placed_text annotation)) second)) ≡ marked (codes "::") (symbols_in annotation second)
+notes_are None None behind = refl
+notes_are (Some t) None behind = append-nil (symbol_text (v.Known t.text.now) ++ codes "::") ∙ symbol_marked (codes "::") t.text.now
 notes_are None (Some s) behind = absurd behind
 notes_are (Some t) (Some s) behind =
-    rw (simple_text t.text.now behind.first) (paired t.text.now (symbol_text (v.Known s.text.now)) behind.first)
+    let first = symbol_text (v.Known t.text.now) in
+    let second = symbol_text (v.Known s.text.now) in
+    ap (λ (l : List ℕ). (first ++ codes "::") ++ l) (append-nil (second ++ codes "::"))
+    ∙ (append_assoc first (codes "::") (second ++ codes "::")
+    ∙ (sym (append_assoc first (codes "::" ++ second) (codes "::")) ∙ is_marked (codes "::") t.text.now (codes "::" ++ second)))
 
 -- what stands in front of its head
 front_is : (item : PlainItem) → IfSome item.second (StandsBehind item.annotation)
     → field_text (user_item (placed_item item)).field ++ flat_map annotation_text (user_item (placed_item item)).annotations ≡ plain_front (symbol_in item.field) (symbols_in item.annotation item.second)
 front_is item behind = rw (name_is item.field, notes_are item.annotation item.second behind) refl
 
--- its head behind these texts is the item
+-- its head after these texts is the item
 pub item_put : (cs : Open) (item : PlainItem) (name notes : List ℕ) → IfSome item.second (StandsBehind item.annotation) → name ≡ symbol_in item.field → notes ≡ symbols_in item.annotation item.second
     → head_text cs (plain_front name notes) (map_head user_symbol_at (raw_head item.head)) ≡ item_text cs (user_item (placed_item item))
 item_put cs item name notes behind named noted =
     rw (named, noted) (ap (λ (l : List ℕ). head_text cs l (map_head user_symbol_at (raw_head item.head))) (sym (front_is item behind)))
+
+-- a name and annotations that were spelled one after the other are the two parts of that, cut after the name
+pub parted : (before spelled name notes buffer first second : List ℕ) (cut : ℕ) → before ≡ [] → spelled ≡ before ++ name → buffer ≡ spelled ++ notes → cut ≡ length spelled → first ≡ take cut buffer → second ≡ drop cut buffer
+    → (first ≡ name) × (second ≡ notes)
+parted before spelled name notes buffer first second cut empty named noted at front back =
+    let is : spelled ≡ name = named ∙ ap (λ (l : List ℕ). l ++ name) empty in
+    (rw (front, at, noted) (take-append_seam spelled notes ∙ is), rw (back, at, noted) (drop-append_seam spelled notes))
 
 -- ---- heads behind the texts of a name and an annotation
 
@@ -156,6 +134,26 @@ spelled_body text (v.whole (v.blob bytes)) is = absurd is
 spelled_body text (v.begin kind) is = absurd is
 spelled_body text v.end is = absurd is
 spelled_body text v.marker is = absurd is
+
+-- so is a symbol that comes with its text between quotes
+quoted_own : (text : List ℕ) (s : Symbol) → IsOwnText form.Quoted text s → (between_quotes 39 256 text ≡ symbol_text (user_symbol s)) × (all_are (is_shown 39 256) text ≡ true)
+quoted_own text (v.Text bytes) is = let same = is.1 in (rw same (sym (quoted_text bytes is.0.0)), rw same is.0.1)
+quoted_own text (v.Id id) is = absurd is
+
+pub quoted_body : (text : List ℕ) (head : v.Head SymbolAt) → IsQuotedIn text head
+    → (body : v.Scalar SymbolAt) × (head ≡ v.whole body) × (between_quotes 39 256 text ≡ scalar_text (map_scalar user_symbol_at body)) × (all_are (is_shown 39 256) text ≡ true)
+quoted_body text (v.whole (v.symbol s)) is = let own = quoted_own text s.symbol is in (v.symbol s, refl, own.0, own.1)
+quoted_body text (v.whole (v.null type)) is = absurd is
+quoted_body text (v.whole (v.bool truth)) is = absurd is
+quoted_body text (v.whole (v.int number)) is = absurd is
+quoted_body text (v.whole (v.decimal number)) is = absurd is
+quoted_body text (v.whole (v.timestamp moment)) is = absurd is
+quoted_body text (v.whole (v.string bytes)) is = absurd is
+quoted_body text (v.whole (v.clob bytes)) is = absurd is
+quoted_body text (v.whole (v.blob bytes)) is = absurd is
+quoted_body text (v.begin kind) is = absurd is
+quoted_body text v.end is = absurd is
+quoted_body text v.marker is = absurd is
 
 -- what was put is a text that is the same
 pub puts_same : {O : Type 0} (old new : Outgoing O) (put text : List ℕ) → new ≡ record old { pending = old.pending ++ put } → put ≡ text → new ≡ record old { pending = old.pending ++ text }

@@ -3,16 +3,17 @@ use Rattle.std.proofs.Common.{◌≡◌, ℕ, Bool, true, false, List, [], ◌�
 use Rattle.std.specs.Prelude.{drop, reverse}
 use Rattle.ion_meter.specs.Counts.{Counts}
 use Rattle.ion_meter.specs.Windows.{Outgoing}
-use Rattle.ion_value.specs.PlainItems.{IsTextOf}
+use Rattle.ion_value.specs.PlainItems.{IsQuotedIn, IsTextOf}
 use Rattle.ion_value.specs.Value as v
 use Rattle.ion_value.specs.Value.{SymbolAt, map_head, map_scalar, user_symbol_at}
 use Rattle.ion_value.specs.declared.ion_type.Kind.{Kind}
 use Rattle.ion_text_out.specs.declared.writer.TextWriter.{TextWriter}
-use Rattle.ion_text_out.specs.Lane.{plain_begin, plain_front, spelled_by}
+use Rattle.ion_text_out.specs.Escape.{between_quotes}
+use Rattle.ion_text_out.specs.Lane.{plain_begin, plain_front}
 use Rattle.ion_text_out.specs.Steps.{CanStep, Stepped, TakesHead, TakesScalar, opened_in}
-use Rattle.ion_text_out.specs.Text.{end_text, head_text, open_after, opener, scalar_text, with_member}
+use Rattle.ion_text_out.specs.Text.{Open, end_text, head_text, open_after, opener, scalar_text, with_member}
 use Rattle.ion_text_out.specs.Writing.{shown_in}
-use Rattle.ion_text_out.proofs.Plain.{puts_same, scalar_put, spelled_body}
+use Rattle.ion_text_out.proofs.Plain.{puts_same, quoted_body, scalar_put, spelled_body}
 
 member : (kinds : List Kind) (empty : Bool) → shown_in kinds false ≡ with_member (shown_in kinds empty)
 member [] empty = refl
@@ -28,31 +29,36 @@ stays w moved counts empty can is =
       charges = record { held = refl; share = omega (arith, can.ready.deep); peak = omega arith; rises = omega arith };
     })
 
-steps : {A O : Type 0} (w moved : TextWriter A) (counts : Counts) (old new : Outgoing O) (result spells : Bool) (name note text : List ℕ)
-    → CanStep w counts → TakesScalar w moved old new result spells name note text → Stepped w moved counts counts
-steps w moved counts old new true spells name note text can taken = stays w moved counts false can (taken.behind refl)
-steps w moved counts old new false spells name note text can taken = stays w moved counts w.empty can (taken.declines refl).0
+steps : {A O : Type 0} (w moved : TextWriter A) (counts : Counts) (old new : Outgoing O) (result : Bool) (name note text : List ℕ)
+    → CanStep w counts → TakesScalar w moved old new result name note text → Stepped w moved counts counts
+steps w moved counts old new true name note text can taken = stays w moved counts false can (taken.behind refl)
+steps w moved counts old new false name note text can taken = stays w moved counts w.empty can (taken.declines refl).0
 
 -- a scalar that was taken is its head
-pub scalar_taken : {A O : Type 0} {w moved : TextWriter A} {counts : Counts} {old new : Outgoing O} {result spells : Bool} {name note text : List ℕ} (head : v.Head SymbolAt) (body : v.Scalar SymbolAt)
-    → CanStep w counts → TakesScalar w moved old new result spells name note text → head ≡ v.whole body → text ≡ scalar_text (map_scalar user_symbol_at body)
-    → TakesHead w moved counts counts old new result (head_text (opened_in w) (plain_front (spelled_by spells name) (spelled_by spells note)) (map_head user_symbol_at head)) (open_after (opened_in w) (map_head user_symbol_at head))
-scalar_taken {A} {O} {w} {moved} {counts} {old} {new} {result} {spells} {name} {note} {text} head body can taken is spelled =
+pub scalar_taken : {A O : Type 0} {w moved : TextWriter A} {counts : Counts} {old new : Outgoing O} {result : Bool} {name note text : List ℕ} (head : v.Head SymbolAt) (body : v.Scalar SymbolAt)
+    → CanStep w counts → TakesScalar w moved old new result name note text → head ≡ v.whole body → text ≡ scalar_text (map_scalar user_symbol_at body)
+    → TakesHead w moved counts counts old new result (head_text (opened_in w) (plain_front name note) (map_head user_symbol_at head)) (open_after (opened_in w) (map_head user_symbol_at head))
+scalar_taken {A} {O} {w} {moved} {counts} {old} {new} {result} {name} {note} {text} head body can taken is spelled =
     record {
       declines = λ e. let same = taken.declines e in (same.0, same.1, refl);
-      puts = λ e. puts_same old new _ _ (taken.puts e) (scalar_put (opened_in w) (spelled_by spells name) (spelled_by spells note) head body text is spelled);
+      puts = λ e. puts_same old new _ _ (taken.puts e) (scalar_put (opened_in w) name note head body text is spelled);
       opens = λ e.
           ap opened_in (taken.behind e)
           ∙ (member (reverse w.kinds) w.empty ∙ ap (λ (h : v.Head SymbolAt). open_after (opened_in w) (map_head user_symbol_at h)) (sym is));
       counted = refl;
-      stepped = steps w moved counts old new result spells name note text can taken;
+      stepped = steps w moved counts old new result name note text can taken;
     }
 
--- so is one that came with its text
-pub spelled_taken : {A O : Type 0} {w moved : TextWriter A} {counts : Counts} {old new : Outgoing O} {result spells : Bool} {name note text : List ℕ} (head : v.Head SymbolAt)
-    → CanStep w counts → TakesScalar w moved old new result spells name note text → IsTextOf text head
-    → TakesHead w moved counts counts old new result (head_text (opened_in w) (plain_front (spelled_by spells name) (spelled_by spells note)) (map_head user_symbol_at head)) (open_after (opened_in w) (map_head user_symbol_at head))
+-- so is one that came with its text, or with that between quotes
+pub spelled_taken : {A O : Type 0} {w moved : TextWriter A} {counts : Counts} {old new : Outgoing O} {result : Bool} {name note text : List ℕ} (head : v.Head SymbolAt)
+    → CanStep w counts → TakesScalar w moved old new result name note text → IsTextOf text head
+    → TakesHead w moved counts counts old new result (head_text (opened_in w) (plain_front name note) (map_head user_symbol_at head)) (open_after (opened_in w) (map_head user_symbol_at head))
 spelled_taken {text = text} head can taken is = let b = spelled_body text head is in scalar_taken head b.0 can taken b.1 b.2
+
+pub quoted_taken : {A O : Type 0} {w moved : TextWriter A} {counts : Counts} {old new : Outgoing O} {result : Bool} {name note : List ℕ} (text : List ℕ) (head : v.Head SymbolAt)
+    → CanStep w counts → TakesScalar w moved old new result name note (between_quotes 39 256 text) → IsQuotedIn text head
+    → TakesHead w moved counts counts old new result (head_text (opened_in w) (plain_front name note) (map_head user_symbol_at head)) (open_after (opened_in w) (map_head user_symbol_at head))
+quoted_taken text head can taken is = let b = quoted_body text head is in scalar_taken head b.0 can taken b.1 b.2
 
 -- and a container's beginning or end
 pub begin_taken : {A O : Type 0} {w moved : TextWriter A} {before after : Counts} {old new : Outgoing O} {result : Bool} (name note : List ℕ) (head : v.Head SymbolAt) (kind : Kind) → head ≡ v.begin kind
@@ -64,3 +70,8 @@ pub end_taken : {A O : Type 0} {w moved : TextWriter A} {before after : Counts} 
     → TakesHead w moved before after old new result (end_text (opened_in w)) (drop 1 (opened_in w))
     → TakesHead w moved before after old new result (head_text (opened_in w) front (map_head user_symbol_at head)) (open_after (opened_in w) (map_head user_symbol_at head))
 end_taken front head is taken = rw is taken
+
+-- what was taken, its text said in another way
+pub taken_as : {A O : Type 0} {w moved : TextWriter A} {before after : Counts} {old new : Outgoing O} {result : Bool} {text same : List ℕ} {opened : Open} → text ≡ same
+    → TakesHead w moved before after old new result text opened → TakesHead w moved before after old new result same opened
+taken_as e taken = rw e at taken

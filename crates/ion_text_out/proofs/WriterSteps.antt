@@ -2,12 +2,13 @@
 use Rattle.std.proofs.Common.{◌≡◌, ℕ, suc, Bool, List, [], ◌∷◌, length, refl, sym, ap, ◌∙◌}
 use Rattle.std.specs.Prelude.{map, false, reverse}
 use Rattle.std.proofs.lemmas.List.{length-map, length-reverse}
-use Rattle.ion_meter.specs.declared.limits.Limits.{Limits}
 use Rattle.ion_value.specs.declared.ion_type.Kind.{Kind}
 use Rattle.ion_value.specs.Value as v
 use Rattle.ion_value.specs.Value.{PlacedItem, SymbolAt, map_head}
 use Rattle.ion_value.specs.Standing as standing
 use Rattle.ion_value.specs.Standing.{Continues, HasPlace, HeadInRange}
+use Rattle.ion_text_out.specs.declared.writer.TextWriter.{TextWriter}
+use Rattle.ion_text_out.specs.Steps.{MayCome}
 use Rattle.ion_text_out.specs.Text.{Open, open_after, open_behind, with_member}
 use Rattle.ion_text_out.specs.Writing.{shown_in, HasRoom, Shows}
 use Rattle.ion_value.specs.Value.{user_symbol_at, user_items}
@@ -48,15 +49,15 @@ room depth n kinds (v.begin kind) e p = rw (sym e) p
 room depth n kinds v.end e p = tt
 room depth n kinds v.marker e p = tt
 
-pub has_room : (limits : Limits) (kinds : List Kind) (empty : Bool) (path : List PlacedItem) (item : PlacedItem) → Shows kinds empty path → Continues limits path item → HasRoom limits.depth (length kinds) item.head
-has_room limits kinds empty path item at next = room limits.depth (length kinds) (standing.open_behind [] path) item.head (level kinds empty path at) next.fits.place
-
 range : (depth : ℕ) (kinds : List Kind) (h : v.Head SymbolAt) → HasPlace depth kinds h → HeadInRange h
 range depth kinds (v.whole body) p = p
 range depth kinds (v.begin kind) p = tt
 range depth kinds v.end p = tt
 range depth kinds v.marker p = tt
 
--- what may come is within its range
-pub in_range : (limits : Limits) (path : List PlacedItem) (item : PlacedItem) → Continues limits path item → HeadInRange item.head
-in_range limits path item next = range limits.depth (standing.open_behind [] path) item.head next.fits.place
+-- what may come here
+pub may_come : {A : Type 0} (w : TextWriter A) (path : List PlacedItem) (item : PlacedItem) → Shows w.kinds w.empty path → Continues w.limits path item → MayCome w item.head
+may_come w path item at next = record {
+  range = range w.limits.depth (standing.open_behind [] path) item.head next.fits.place;
+  fits = room w.limits.depth (length w.kinds) (standing.open_behind [] path) item.head (level w.kinds w.empty path at) next.fits.place;
+}

@@ -11,7 +11,7 @@ use Rattle.ion_value.specs.Shares.{Charges}
 use Rattle.ion_value.specs.Standing.{HeadInRange}
 use Rattle.ion_value.specs.Value.{Head, PlacedItem}
 use Rattle.ion_text_out.specs.declared.writer.TextWriter.{TextWriter}
-use Rattle.ion_text_out.specs.Lane.{plain_scalar, spelled_by}
+use Rattle.ion_text_out.specs.Lane.{plain_scalar}
 use Rattle.ion_text_out.specs.Text.{Open, item_text}
 use Rattle.ion_text_out.specs.Writing.{shown, HasRoom, IsReady, Shows}
 use Rattle.ion_value.specs.Value.{user_item}
@@ -90,10 +90,10 @@ pub record PutsText {O T : Type 0} (device : OutputOf O) (old new : Outgoing O) 
   pub cut : old.fault ≡ None → result ≡ Err Memory → PutsPart device.written device.observable old new text
   pub passed : (f : Fault) → old.fault ≡ Some f → new ≡ old
 
--- where it answers true, a scalar of this text was put behind a name and an annotation, and the writer stands behind it; else nothing is changed
-pub record TakesScalar {A O : Type 0} (w moved : TextWriter A) (old new : Outgoing O) (result spells : Bool) (name note text : List ℕ) : Type 0 where
+-- where it answers true, a scalar of this text was put after a name and annotations, and the writer stands after it; else nothing is changed
+pub record TakesScalar {A O : Type 0} (w moved : TextWriter A) (old new : Outgoing O) (result : Bool) (name note text : List ℕ) : Type 0 where
   pub declines : result ≡ false → (moved ≡ w) × (new ≡ old)
-  pub puts : result ≡ true → new ≡ record old { pending = old.pending ++ plain_scalar (opened_in w) (spelled_by spells name) (spelled_by spells note) text }
+  pub puts : result ≡ true → new ≡ record old { pending = old.pending ++ plain_scalar (opened_in w) name note text }
   pub behind : result ≡ true → moved ≡ record w { empty = false }
 
 -- where it answers true, this text was put, and these containers are open; else nothing is changed

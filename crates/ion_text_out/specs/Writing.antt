@@ -1,13 +1,13 @@
 -- What the writer of text puts, and what is seen of it.
-use Rattle.std.specs.Prelude.{◌≡◌, ℕ, ◌<◌, ◌≤◌, Bool, true, false, List, [], ◌∷◌, ◌++◌, map, reverse, slice_get, Option, Some, None, option_map, ⊤}
+use Rattle.std.specs.Prelude.{◌≡◌, ℕ, ◌<◌, ◌≤◌, Bool, true, false, List, [], ◌∷◌, ◌++◌, map, reverse, slice_get, codes, Option, Some, None, ⊤}
 use Rattle.std.specs.List.{flat_map}
 use Rattle.ion_meter.specs.declared.fault.Reason.{Reason}
 use Rattle.ion_meter.specs.declared.limits.Limits.{Limits}
 use Rattle.ion_meter.specs.Limits.{AreChecked}
 use Rattle.ion_value.specs.declared.ion_type.Kind.{Kind}
 use Rattle.ion_value.specs.Value as v
-use Rattle.ion_value.specs.Value.{SymbolAt, UserSymbol, user_symbol_at, user_item, user_items, map_head, Head, PlacedItem}
-use Rattle.ion_text_out.specs.Text.{Open, annotation_text, before_item, behind_value, closer, field_text, item_text, items_text, open_behind, opener, scalar_text}
+use Rattle.ion_value.specs.Value.{SymbolAt, UserSymbol, user_symbol, user_symbol_at, user_item, user_items, map_head, Head, PlacedItem}
+use Rattle.ion_text_out.specs.Text.{Open, annotation_text, before_item, behind_value, closer, item_text, items_text, open_behind, opener, scalar_text, symbol_text}
 
 -- what is put for items
 abbrev pub text_puts : Limits → List PlacedItem → List ℕ
@@ -73,14 +73,10 @@ body_text v.marker = []
 abbrev pub annotations_text : List SymbolAt → List ℕ
 annotations_text annotations = flat_map annotation_text (map user_symbol_at annotations)
 
--- an annotation and its two colons, and nothing where there is none
-abbrev pub next_annotation_text : Option SymbolAt → List ℕ
-next_annotation_text None = []
-next_annotation_text (Some at) = annotation_text (user_symbol_at at)
-
--- a field's name and a colon, and nothing where there is no field
-abbrev pub name_text : Option SymbolAt → List ℕ
-name_text field = field_text (option_map user_symbol_at field)
+-- a symbol and a mark after it, and nothing where there is none
+abbrev pub marked_text : List ℕ → Option SymbolAt → List ℕ
+marked_text mark None = []
+marked_text mark (Some at) = symbol_text (user_symbol at.symbol) ++ mark
 
 -- a scalar or a container's beginning: of other items nothing stands between the first part and the last
 abbrev pub is_value : {S : Type 0} → Head S → Bool
@@ -96,7 +92,7 @@ where_value false text = []
 
 -- a field and annotations, and then a scalar or the bracket that opens a container
 abbrev pub value_text : Option SymbolAt → List SymbolAt → Head SymbolAt → List ℕ
-value_text field annotations head = name_text field ++ (annotations_text annotations ++ body_text (map_head user_symbol_at head))
+value_text field annotations head = marked_text (codes ":") field ++ (annotations_text annotations ++ body_text (map_head user_symbol_at head))
 
 -- the part of an item's text between the first and the last: nothing of an end or a marker
 abbrev pub middle_text : PlacedItem → List ℕ

@@ -1,6 +1,6 @@
 //! What stands between values.
 ghost use Rattle.std.specs.Prelude.{◌≡◌, Bool};
-ghost use Rattle.ion_text_out.specs.Text.{before_item, behind_value, closer, opener, separator};
+ghost use Rattle.ion_text_out.specs.Text.{before_item, behind_value, opener};
 ghost use Rattle.ion_text_out.specs.Writing.{behind_end, closing, innermost, shown};
 
 use ion_value::ion_type::Kind;
@@ -25,29 +25,6 @@ pub fn opener(kind: Kind) -> &'static [u8]
     }
 }
 
-/// The bracket that closes a container.
-#[inline]
-fn closer(kind: Kind) -> &'static [u8]
-    ensures { result.now ≡ closer kind }
-{
-    match kind {
-        Kind::List => b"]",
-        Kind::Sexp => b")",
-        Kind::Struct => b"}",
-    }
-}
-
-/// What stands between two members.
-#[inline]
-fn separator(kind: Kind) -> &'static [u8]
-    ensures { result.now ≡ separator kind }
-{
-    match kind {
-        Kind::Sexp => b" ",
-        Kind::List | Kind::Struct => b",",
-    }
-}
-
 /// What stands before the next value, where these containers are open and the innermost is empty
 /// or not.
 #[inline]
@@ -55,7 +32,8 @@ pub fn before(kinds: &[Kind], empty: bool) -> &'static [u8]
     ensures { result.now ≡ before_item (shown kinds.now empty) }
 {
     match innermost(kinds) {
-        Some(kind) if !empty => separator(kind),
+        Some(Kind::Sexp) if !empty => b" ",
+        Some(_) if !empty => b",",
         _ => b"",
     }
 }
@@ -74,7 +52,9 @@ pub fn closing(kinds: &[Kind]) -> &'static [u8]
     ensures { (empty : Bool) → result.now ≡ closing (shown kinds.now empty) }
 {
     match innermost(kinds) {
-        Some(kind) => closer(kind),
+        Some(Kind::List) => b"]",
+        Some(Kind::Sexp) => b")",
+        Some(Kind::Struct) => b"}",
         None => b"",
     }
 }

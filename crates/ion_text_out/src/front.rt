@@ -1,117 +1,75 @@
-//! What stands in front of a value, with quotes where they are needed.
-ghost use Rattle.std.specs.Prelude.{◌≡◌, ◌+◌, ◌≤◌, ◌++◌, ◌||◌, true, length, IfSome};
+//! Names and annotations of plain items, which are put where the window on the output has room.
+ghost use Rattle.std.specs.Prelude.{◌≡◌, ◌+◌, ◌≤◌, ◌++◌, ◌∷◌, ◌&&◌, [], true, length, codes, if◌then◌else◌, IfSome};
+ghost use Rattle.ion_value.specs.PlainItems.{IsRightlyFormed, StandsBehind};
 ghost use Rattle.ion_value.specs.Value.{Known};
-ghost use Rattle.ion_text_out.specs.Lane.{as_put, front_text, plain_front, plain_name, plain_note, spelled_by};
+ghost use Rattle.ion_text_out.specs.Lane.{is_bare_in, plain_front, symbol_in, symbols_in, text_in};
 ghost use Rattle.ion_text_out.specs.Text.{symbol_text};
 
 use crate::bare::is_bare;
 use crate::quote::stands_in_symbol;
+use arrayvec::ArrayVec;
 use ion_meter::device::Output;
 use ion_meter::sink::Sink;
+use ion_value::form::Form;
+use ion_value::plain_item::TextAt;
 use std::alloc::Allocator;
 
-/// What stands in front of a value: the texts of a field's name and of an annotation, or of two and
-/// the colons between them, empty where there is none, and whether each stands between quotes.
-#[derive(Clone, Copy)]
-pub struct Front<'t> {
-    name: &'t [u8],
-    name_quoted: bool,
-    note: &'t [u8],
-    note_quoted: bool,
-}
-
-/// The front of symbols with these texts, which are put as they are, or where `SPELLS` says so as symbols
-/// are spelled. It answers none where one of them has escapes then.
+/// The text of a symbol that may be there, empty where there is none, and whether it is written as
+/// it stands, as is said of none too. Both come of one branch.
 #[inline(always)]
-pub fn front_of<'t, const SPELLS: bool>(name: &'t [u8], note: &'t [u8]) -> Option<Front<'t>>
-    ensures { IfSome result (λ f. front_text f
-        ≡ plain_front (spelled_by SPELLS name.now) (spelled_by SPELLS note.now)) }
+pub fn text_in(at: Option<TextAt<'_>>) -> (&[u8], bool)
+    ensures text { result.0.now ≡ text_in at.entry }
+    ensures bare { result.1 ≡ is_bare_in at.entry }
 {
-    let Some(name_quoted) = is_quoted::<SPELLS>(name) else {
-        return None;
-    };
-    let Some(note_quoted) = is_quoted::<SPELLS>(note) else {
-        return None;
-    };
-    Some(Front {
-        name,
-        name_quoted,
-        note,
-        note_quoted,
-    })
+    match at {
+        Some(at) => (at.text, matches!(at.form, Form::Bare)),
+        None => (b"", true),
+    }
 }
 
-// Whether a symbol that may be there stands between quotes, by its text: none has an empty text.
+/// Whether all of these are so, told as one, so that one way goes on where they are not.
 #[inline(always)]
-fn is_quoted<const SPELLS: bool>(text: &[u8]) -> Option<bool>
-    ensures { IfSome result (λ quoted. as_put quoted text.now ≡ spelled_by SPELLS text.now) }
+pub fn all(name: bool, note: bool, alone: bool) -> bool
+    ensures { result ≡ (name && (note && alone)) }
 {
-    if !SPELLS {
-        return Some(false);
-    }
-    match text {
-        [] => Some(false),
-        _ => needs_quotes(text),
-    }
+    name && note && alone
 }
 
-// Whether the symbol of a text stands between quotes, or none where it has escapes.
-#[inline(never)]
-fn needs_quotes(text: &[u8]) -> Option<bool>
-    ensures { IfSome result (λ quoted. as_put quoted text.now ≡ symbol_text (Known text.now)) }
-{
-    if is_bare(text) {
-        return Some(false);
-    }
-    if !stands_in_symbol(text) {
-        return None;
-    }
-    Some(true)
-}
-
-/// Whether there is room for a front, so many bytes, and two marks of a byte.
+/// Whether there is room for a name and annotations, so many bytes, and two marks of a byte.
 #[inline(always)]
 pub fn has_room<O: Output, A: Allocator + Copy>(
     sink: &Sink<O, A>,
-    front: Front<'_>,
+    name: &[u8],
+    note: &[u8],
     more: usize,
 ) -> bool
     ensures { result ≡ true
-        → length sink.now.pending + length (front_text front.entry) + more + 2 ≤ 4096 }
+        → length sink.now.pending + length (plain_front name.now note.now) + more + 2 ≤ 4096 }
 {
     let room = sink.room();
-    let texts = front.name.len() + front.note.len();
+    let texts = name.len() + note.len();
     if room < texts {
         return false;
     }
     let left = room - texts;
-    more <= left && 9 <= left - more
+    more <= left && 5 <= left - more
 }
 
-/// Puts a front.
+/// Puts a mark of one byte, or none.
 #[inline(always)]
-pub fn put_front<O: Output, A: Allocator + Copy>(sink: &mut Sink<O, A>, front: Front<'_>)
-    requires { length sink.old.pending + length (front_text front) ≤ 4096 }
-    ensures { sink.new ≡ record sink.old { pending = sink.old.pending ++ front_text front.entry } }
+pub fn put_mark<O: Output, A: Allocator + Copy>(sink: &mut Sink<O, A>, mark: &[u8])
+    requires room { length sink.old.pending + length mark.now ≤ 4096 }
+    requires short { length mark.now ≤ 1 }
+    ensures { sink.new ≡ record sink.old { pending = sink.old.pending ++ mark.now } }
 {
-    if either(front.name_quoted, front.note_quoted) {
-        put_quoted_front(sink, front);
-    } else {
-        put_bare_front(sink, front.name, front.note);
+    if let [byte, ..] = mark {
+        sink.put_byte(*byte);
     }
 }
 
-// Whether one of the two is so.
+/// Puts a name and a colon, and annotations and two colons, where there are such.
 #[inline(always)]
-fn either(name: bool, note: bool) -> bool
-    ensures { result ≡ (name || note) }
-{
-    name || note
-}
-
-// Puts a name and an annotation, of which each may be there, as they are.
-#[inline(always)]
-fn put_bare_front<O: Output, A: Allocator + Copy>(sink: &mut Sink<O, A>, name: &[u8], note: &[u8])
+pub fn put_front<O: Output, A: Allocator + Copy>(sink: &mut Sink<O, A>, name: &[u8], note: &[u8])
     requires { length sink.old.pending + length (plain_front name.now note.now) ≤ 4096 }
     ensures { sink.new ≡ record sink.old {
       pending = sink.old.pending ++ plain_front name.now note.now;
@@ -127,58 +85,87 @@ fn put_bare_front<O: Output, A: Allocator + Copy>(sink: &mut Sink<O, A>, name: &
     }
 }
 
-// Puts a front of which a part stands between quotes. It is a call of its own, so that what puts a front
-// stays small enough to be put in line.
-#[inline(never)]
-fn put_quoted_front<O: Output, A: Allocator + Copy>(sink: &mut Sink<O, A>, front: Front<'_>)
-    requires { length sink.old.pending + length (front_text front) ≤ 4096 }
-    ensures { sink.new ≡ record sink.old { pending = sink.old.pending ++ front_text front.entry } }
-{
-    put_name(sink, front.name, front.name_quoted);
-    put_note(sink, front.note, front.note_quoted);
-}
-
-// Puts a field's name and a colon, where there is a field.
+// The quotes around a symbol of this form, or none where it has escapes.
 #[inline(always)]
-fn put_name<O: Output, A: Allocator + Copy>(sink: &mut Sink<O, A>, name: &[u8], quoted: bool)
-    requires { length sink.old.pending + length (plain_name (as_put quoted name.now)) ≤ 4096 }
-    ensures { sink.new ≡ record sink.old {
-      pending = sink.old.pending ++ plain_name (as_put quoted name.now);
-    } }
+fn quotes_of(at: TextAt<'_>) -> Option<&'static [u8]>
+    requires { IsRightlyFormed at }
+    ensures { IfSome result (λ quote. quote.now ++ (at.entry.text.now ++ quote.now)
+        ≡ symbol_text (Known at.entry.text.now)) }
 {
-    if quoted {
-        put_in_quotes(sink, name);
-        sink.put_byte(b':');
-    } else if !name.is_empty() {
-        sink.put_within(name);
-        sink.put_byte(b':');
+    match at.form {
+        Form::Bare => Some(b""),
+        Form::Quoted => Some(b"'"),
+        Form::Any => quotes_around(at.text),
     }
 }
 
-// Puts an annotation and two colons, where there is one.
-#[inline(always)]
-fn put_note<O: Output, A: Allocator + Copy>(sink: &mut Sink<O, A>, note: &[u8], quoted: bool)
-    requires { length sink.old.pending + length (plain_note (as_put quoted note.now)) ≤ 4096 }
-    ensures { sink.new ≡ record sink.old {
-      pending = sink.old.pending ++ plain_note (as_put quoted note.now);
-    } }
+// The quotes around a symbol of this text, or none where it has escapes.
+fn quotes_around(text: &[u8]) -> Option<&'static [u8]>
+    ensures { IfSome result (λ quote. quote.now ++ (text.now ++ quote.now)
+        ≡ symbol_text (Known text.now)) }
 {
-    if quoted {
-        put_in_quotes(sink, note);
-        sink.put_within(b"::");
-    } else if !note.is_empty() {
-        sink.put_within(note);
-        sink.put_within(b"::");
+    if is_bare(text) {
+        return Some(b"");
+    }
+    if !stands_in_symbol(text) {
+        return None;
+    }
+    Some(b"'")
+}
+
+/// Adds a symbol that may be there as it is written, where there is room and it has no escapes.
+#[inline(always)]
+pub fn spell(front: &mut ArrayVec<u8, 128>, at: Option<TextAt<'_>>) -> bool
+    requires { IfSome at IsRightlyFormed }
+    ensures { result ≡ true → front.new.items ≡ front.old.items ++ symbol_in at.entry }
+{
+    let Some(at) = at else {
+        return true;
+    };
+    let Some(quote) = quotes_of(at) else {
+        return false;
+    };
+    if !add(front, quote) {
+        return false;
+    }
+    if !add(front, at.text) {
+        return false;
+    }
+    add(front, quote)
+}
+
+// Adds these bytes, where there is room for all. No call copies a single one.
+#[inline(always)]
+fn add(front: &mut ArrayVec<u8, 128>, bytes: &[u8]) -> bool
+    ensures { result ≡ true → front.new.items ≡ front.old.items ++ bytes.now }
+{
+    match bytes {
+        [] => true,
+        [byte] => front.try_push(*byte).is_ok(),
+        _ => front.try_extend_from_slice(bytes).is_ok(),
     }
 }
 
-// Puts a text between the quotes of a symbol.
+/// Adds annotations with two colons between two of them, as `spell` does.
 #[inline(always)]
-fn put_in_quotes<O: Output, A: Allocator + Copy>(sink: &mut Sink<O, A>, text: &[u8])
-    requires { length sink.old.pending + length (as_put true text.now) ≤ 4096 }
-    ensures { sink.new ≡ record sink.old { pending = sink.old.pending ++ as_put true text.now } }
+pub fn spell_notes(
+    front: &mut ArrayVec<u8, 128>,
+    annotation: Option<TextAt<'_>>,
+    second: Option<TextAt<'_>>,
+) -> bool
+    requires first { IfSome annotation IsRightlyFormed }
+    requires second { IfSome second (StandsBehind annotation) }
+    ensures { result ≡ true
+        → front.new.items ≡ front.old.items ++ symbols_in annotation.entry second.entry }
 {
-    sink.put_byte(b'\'');
-    sink.put_within(text);
-    sink.put_byte(b'\'');
+    if !spell(front, annotation) {
+        return false;
+    }
+    if second.is_none() {
+        return true;
+    }
+    if !add(front, b"::") {
+        return false;
+    }
+    spell(front, second)
 }

@@ -1,11 +1,10 @@
 //! The text of an item, in parts.
-ghost use Rattle.std.specs.Prelude.{◌≡◌, ◌+◌, ◌*◌, ◌<◌, ◌-◌, ◌++◌, Bool, None, codes, slice_get};
-ghost use Rattle.ion_value.specs.Value.{user_symbol};
-ghost use Rattle.ion_value.specs.Items.{raw_head, raw_field, symbol_of, item_of, annotations_of};
-ghost use Rattle.ion_text_out.specs.Text.{symbol_text, item_text};
+ghost use Rattle.std.specs.Prelude.{◌≡◌, Bool, None};
+ghost use Rattle.ion_value.specs.Items.{raw_head, raw_field, item_of, annotations_of};
+ghost use Rattle.ion_text_out.specs.Text.{item_text};
 ghost use Rattle.ion_meter.specs.Sinks.{IsPut};
 ghost use Rattle.ion_text_out.specs.Steps.{PutsUnlessFailed};
-ghost use Rattle.ion_text_out.specs.Writing.{first_text, is_value, last_text, middle_text, name_text, next_annotation_text, annotations_text, shown, value_text};
+ghost use Rattle.ion_text_out.specs.Writing.{first_text, is_value, last_text, marked_text, middle_text, annotations_text, shown, value_text};
 ghost use Rattle.ion_value.specs.Value.{user_item};
 ghost use Rattle.ion_value.specs.Standing.{HeadInRange};
 
@@ -20,68 +19,23 @@ use ion_value::item::{Annotations, Head, Item, SymAt};
 use ion_value::names::Names;
 use std::alloc::Allocator;
 
-/// Puts a field's name and a colon.
+/// Puts a symbol and a mark after it, where there is a symbol.
 #[inline(always)]
-fn put_name<O: Output, A: Allocator + Copy>(
+fn put_marked<O: Output, A: Allocator + Copy>(
     sink: &mut Sink<O, A>,
-    at: SymAt<'_>,
+    at: Option<SymAt<'_>>,
+    mark: &[u8],
 ) -> Result<(), Fault>
     requires well { sink.old.fault ≡ None }
-    ensures { IsPut O.Output sink.old sink.new result
-        (symbol_text (user_symbol (symbol_of at.entry.sym)) ++ codes ":") }
+    ensures { IsPut O.Output sink.old sink.new result (marked_text mark.now (raw_field at.entry)) }
 {
+    let Some(at) = at else {
+        return put(sink, b"");
+    };
     if let Err(fault) = put_symbol(sink, at.sym) {
         return Err(fault);
     }
-    put(sink, b":")
-}
-
-/// Puts a field's name and a colon, where there is one.
-#[inline(always)]
-fn put_field<O: Output, A: Allocator + Copy>(
-    sink: &mut Sink<O, A>,
-    field: Option<SymAt<'_>>,
-) -> Result<(), Fault>
-    requires well { sink.old.fault ≡ None }
-    ensures { IsPut O.Output sink.old sink.new result (name_text (raw_field field.entry)) }
-{
-    match field {
-        None => put(sink, b""),
-        Some(at) => put_name(sink, at),
-    }
-}
-
-/// Puts one annotation and two colons.
-#[inline(always)]
-fn put_annotation<O: Output, A: Allocator + Copy>(
-    sink: &mut Sink<O, A>,
-    at: SymAt<'_>,
-) -> Result<(), Fault>
-    requires well { sink.old.fault ≡ None }
-    ensures { IsPut O.Output sink.old sink.new result
-        (symbol_text (user_symbol (symbol_of at.entry.sym)) ++ codes "::") }
-{
-    if let Err(fault) = put_symbol(sink, at.sym) {
-        return Err(fault);
-    }
-    put(sink, b"::")
-}
-
-/// Puts the annotation at an index, where there is one.
-#[inline(always)]
-fn put_annotation_at<O: Output, A: Allocator + Copy, N: Names>(
-    sink: &mut Sink<O, A>,
-    annotations: &Annotations<'_, N>,
-    index: usize,
-) -> Result<(), Fault>
-    requires well { sink.old.fault ≡ None }
-    ensures { IsPut O.Output sink.old sink.new result
-        (next_annotation_text (slice_get (annotations_of N.text annotations.now) index)) }
-{
-    match annotations.get(index) {
-        None => put(sink, b""),
-        Some(at) => put_annotation(sink, at),
-    }
+    put(sink, mark)
 }
 
 /// Puts annotations.
@@ -97,7 +51,7 @@ fn put_annotations<O: Output, A: Allocator + Copy, N: Names>(
     let count = annotations.len();
     let mut index = 0;
     'annotations: while index < count {
-        if let Err(fault) = put_annotation_at(sink, annotations, index) {
+        if let Err(fault) = put_marked(sink, annotations.get(index), b"::") {
             return Err(fault);
         }
         index += 1;
@@ -185,7 +139,7 @@ fn put_value<O: Output, A: Allocator + Copy, N: Names>(
         (value_text (raw_field field.entry) (annotations_of N.text annotations.now)
         (raw_head head.now)) }
 {
-    if let Err(fault) = put_field(sink, field) {
+    if let Err(fault) = put_marked(sink, field, b":") {
         return Err(fault);
     }
     if let Err(fault) = put_annotations(sink, annotations) {

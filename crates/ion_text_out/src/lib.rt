@@ -7,7 +7,6 @@ mod between;
 mod blob;
 mod front;
 mod item;
-mod lane;
 pub mod laws;
 mod put;
 mod quote;

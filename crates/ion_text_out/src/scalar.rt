@@ -3,9 +3,6 @@ ghost use Rattle.std.specs.Prelude.{◌≡◌, ◌++◌, None, codes};
 ghost use Rattle.base64.specs.Engines.{standard};
 ghost use Rattle.base64.specs.GeneralPurpose.{encode_of};
 ghost use Rattle.ion_value.specs.Name.{bool_text, null_text};
-ghost use Rattle.ion_value.specs.Int.{IsInt, int_text};
-ghost use Rattle.ion_value.specs.Decimal.{IsDecimal, decimal_text};
-ghost use Rattle.ion_value.specs.Timestamp.{IsTimestamp, timestamp_text};
 ghost use Rattle.ion_value.specs.Value.{user_symbol, map_head};
 ghost use Rattle.ion_value.specs.Items.{symbol_of, raw_head};
 ghost use Rattle.ion_text_out.specs.Escape.{between_quotes};
@@ -22,12 +19,12 @@ use crate::quote::put_quoted;
 use ion_meter::device::Output;
 use ion_meter::fault::Fault;
 use ion_meter::sink::Sink;
-use ion_value::decimal::{Decimal, decimal_to_text};
-use ion_value::int::{Int, int_to_text};
+use ion_value::decimal::decimal_to_text;
+use ion_value::int::int_to_text;
 use ion_value::ion_type::IonType;
 use ion_value::item::{Head, Sym};
 use ion_value::name::is_plain;
-use ion_value::timestamp::{Timestamp, timestamp_to_text};
+use ion_value::timestamp::timestamp_to_text;
 use std::alloc::Allocator;
 
 /// The null of a type.
@@ -113,45 +110,6 @@ fn put_blob<O: Output, A: Allocator + Copy>(
     put(sink, b"}}")
 }
 
-/// Puts an int.
-#[inline(always)]
-fn put_int<O: Output, A: Allocator + Copy>(sink: &mut Sink<O, A>, int: Int) -> Result<(), Fault>
-    requires well { sink.old.fault ≡ None }
-    requires range { IsInt int }
-    ensures { IsPut O.Output sink.old sink.new result (int_text int) }
-{
-    let text = int_to_text(int);
-    put(sink, text.as_str().as_bytes())
-}
-
-/// Puts a decimal.
-#[inline(always)]
-fn put_decimal<O: Output, A: Allocator + Copy>(
-    sink: &mut Sink<O, A>,
-    decimal: Decimal,
-) -> Result<(), Fault>
-    requires well { sink.old.fault ≡ None }
-    requires range { IsDecimal decimal }
-    ensures { IsPut O.Output sink.old sink.new result (decimal_text decimal) }
-{
-    let text = decimal_to_text(decimal);
-    put(sink, text.as_str().as_bytes())
-}
-
-/// Puts a timestamp.
-#[inline(always)]
-fn put_timestamp<O: Output, A: Allocator + Copy>(
-    sink: &mut Sink<O, A>,
-    timestamp: Timestamp,
-) -> Result<(), Fault>
-    requires well { sink.old.fault ≡ None }
-    requires range { IsTimestamp timestamp }
-    ensures { IsPut O.Output sink.old sink.new result (timestamp_text timestamp) }
-{
-    let text = timestamp_to_text(timestamp);
-    put(sink, text.as_str().as_bytes())
-}
-
 /// Puts a scalar, or the bracket that opens a container.
 #[inline(always)]
 pub fn put_body<O: Output, A: Allocator + Copy>(
@@ -165,11 +123,10 @@ pub fn put_body<O: Output, A: Allocator + Copy>(
 {
     match *head {
         Head::Null(of) => put(sink, null(of)),
-        Head::Bool(true) => put(sink, b"true"),
-        Head::Bool(false) => put(sink, b"false"),
-        Head::Int(int) => put_int(sink, int),
-        Head::Decimal(decimal) => put_decimal(sink, decimal),
-        Head::Timestamp(timestamp) => put_timestamp(sink, timestamp),
+        Head::Bool(truth) => put(sink, bool_text(truth)),
+        Head::Int(int) => put(sink, int_to_text(int).as_str().as_bytes()),
+        Head::Decimal(decimal) => put(sink, decimal_to_text(decimal).as_str().as_bytes()),
+        Head::Timestamp(moment) => put(sink, timestamp_to_text(moment).as_str().as_bytes()),
         Head::Symbol(at) => put_symbol(sink, at.sym),
         Head::String(text) => put_quoted(sink, b'"', 256, text),
         Head::Clob(bytes) => put_clob(sink, bytes),

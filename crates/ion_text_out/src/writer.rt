@@ -1,5 +1,5 @@
 //! The writer of text.
-ghost use Rattle.std.specs.Prelude.{◌≡◌, ◌*◌, ◌≤◌, ◌<◌, ◌-◌, ◌∷◌, ℕ, length, drop, true, false, None, Err, OnOk, OnErr, IfErr, IfSome};
+ghost use Rattle.std.specs.Prelude.{◌≡◌, ◌+◌, ◌*◌, ◌≤◌, ◌<◌, ◌-◌, ◌++◌, ◌∷◌, ℕ, [], length, drop, true, false, if◌then◌else◌, None, Err, OnOk, OnErr, IfErr, IfSome};
 ghost use Rattle.ion_meter.specs.declared.fault.Reason.{Reason};
 ghost use Rattle.ion_meter.specs.declared.fault.Fault.TheVariants.{Refused};
 ghost use Rattle.ion_meter.specs.Limits.{AreChecked};
@@ -9,25 +9,24 @@ ghost use Rattle.ion_value.specs.Decimal.{IsDecimal, decimal_text};
 ghost use Rattle.ion_value.specs.Timestamp.{IsTimestamp, timestamp_text};
 ghost use Rattle.ion_value.specs.Int.{int_text};
 ghost use Rattle.ion_value.specs.Items.{raw_head, item_of, symbol_of};
-ghost use Rattle.ion_value.specs.PlainItems.{IsTextOf};
+ghost use Rattle.ion_value.specs.PlainItems.{IsSpelled, IsWrittenAs, SaysRightly, placed_item};
 ghost use Rattle.ion_value.specs.Shares.{MemoryCauses, WriteCauses, fault_of};
-ghost use Rattle.ion_text_out.specs.Escape.{between_quotes};
-ghost use Rattle.ion_text_out.specs.Text.{end_text, head_text, open_after, opener, symbol_text, with_member};
-ghost use Rattle.ion_text_out.specs.Lane.{plain_begin, plain_front, spelled_by, spelling};
+ghost use Rattle.ion_text_out.specs.Escape.{between_quotes, is_shown};
+ghost use Rattle.ion_value.specs.Digits.{all_are};
+ghost use Rattle.ion_text_out.specs.Text.{end_text, head_text, item_text, open_after, opener, symbol_text, with_member};
+ghost use Rattle.ion_text_out.specs.Lane.{plain_begin, plain_front};
 ghost use Rattle.ion_text_out.specs.Writing.{text_puts, text_adds, text_refusal};
-ghost use Rattle.ion_value.specs.Value.{user_symbol, user_symbol_at};
+ghost use Rattle.ion_value.specs.Value.{user_item, user_symbol, user_symbol_at};
 ghost use Rattle.ion_text_out.specs.Steps.{CanStep, HasPutNothing, HasRoomFor, HasShown, IsSound, MayCome, PutsText, Stepped, TakesHead, TakesScalar, failed_of, held_by, limits_of, opened_in, share_of, text_of};
 ghost use Rattle.ion_text_out.specs.Written.{text_grows, text-within};
 
 use crate::bare::is_bare;
-use crate::between::before;
-use crate::front::{front_of, has_room};
+use crate::between::{before, behind, behind_end, closing, opener};
+use crate::front::{all, has_room, put_front, put_mark, spell, spell_notes, text_in};
 use crate::item::put_item;
-use crate::lane::{
-    both, has_spelling, notes_in, put_begin, put_end, put_int, put_quoted_symbol, put_scalar,
-    put_string, text_in,
-};
+use crate::quote::{stands_in_string, stands_in_symbol};
 use crate::scalar::{bool_text, null};
+use arrayvec::ArrayVec;
 use ion_meter::device::Output;
 use ion_meter::fault::Fault;
 use ion_meter::limits::Limits;
@@ -35,6 +34,7 @@ use ion_meter::meter::Meter;
 use ion_meter::sink::Sink;
 use ion_meter::stack::Stack;
 use ion_value::decimal::{Decimal, decimal_to_text};
+use ion_value::form::{Form, FormedText};
 use ion_value::int::Int;
 use ion_value::ion_type::Kind;
 use ion_value::item::{Head, Item, Sym};
@@ -42,6 +42,7 @@ use ion_value::names::Names;
 use ion_value::plain_item::PlainItem;
 use ion_value::timestamp::{Timestamp, timestamp_to_text};
 use ion_value::writer::ValueWriter;
+use itoa::Buffer;
 use std::alloc::Allocator;
 
 /// Writes values as canonical text, each value at top level on a line of its own.
@@ -145,13 +146,42 @@ impl<A: Allocator + Copy> TextWriter<A> {
     }
 }
 
-// The calls of `take_plain`, by what the item is: each puts all of the item and moves behind it, or
+// The calls of `take_plain`, by what the item is: each puts all of the item and moves after it, or
 // answers false and changes nothing. They are calls of their own that take few words: the canonical
 // texts of the item's name and annotations, which are empty where there is none, as no symbol's is.
 impl<A: Allocator + Copy> TextWriter<A> {
+    // A scalar of this text between two marks of a byte or none.
+    #[inline(always)]
+    fn take_marked<O: Output>(
+        &mut self,
+        sink: &mut Sink<O, A>,
+        name: &[u8],
+        note: &[u8],
+        first: &[u8],
+        text: &[u8],
+        last: &[u8],
+    ) -> bool
+        requires first { length first.now ≤ 1 }
+        requires last { length last.now ≤ 1 }
+        ensures { TakesScalar self.old self.new sink.old sink.new result
+            name.now note.now (first.now ++ (text.now ++ last.now)) }
+    {
+        if !has_room(sink, name, note, text.len() + 2) {
+            return false;
+        }
+        put_mark(sink, before(self.kinds.as_slice(), self.empty));
+        put_front(sink, name, note);
+        put_mark(sink, first);
+        sink.put_within(text);
+        put_mark(sink, last);
+        put_mark(sink, behind(self.kinds.as_slice()));
+        self.empty = false;
+        true
+    }
+
     // A scalar of this text.
     #[inline(never)]
-    fn take_text<O: Output, const SPELLS: bool>(
+    fn take_text<O: Output>(
         &mut self,
         sink: &mut Sink<O, A>,
         name: &[u8],
@@ -159,18 +189,14 @@ impl<A: Allocator + Copy> TextWriter<A> {
         text: &[u8],
     ) -> bool
         ensures { TakesScalar self.old self.new sink.old sink.new result
-            SPELLS name.now note.now text.now }
+            name.now note.now text.now }
     {
-        if !put_scalar::<O, A, SPELLS>(sink, self.kinds.as_slice(), self.empty, name, note, text) {
-            return false;
-        }
-        self.empty = false;
-        true
+        self.take_marked(sink, name, note, b"", text, b"")
     }
 
     // A symbol.
     #[inline(always)]
-    fn take_symbol<O: Output, const SPELLS: bool>(
+    fn take_symbol<O: Output>(
         &mut self,
         sink: &mut Sink<O, A>,
         name: &[u8],
@@ -178,17 +204,17 @@ impl<A: Allocator + Copy> TextWriter<A> {
         symbol: Sym<'_>,
     ) -> bool
         ensures { TakesScalar self.old self.new sink.old sink.new result
-            SPELLS name.now note.now (symbol_text (user_symbol (symbol_of symbol.entry))) }
+            name.now note.now (symbol_text (user_symbol (symbol_of symbol.entry))) }
     {
         let Sym::Text(text) = symbol else {
             return false;
         };
-        self.take_known::<O, SPELLS>(sink, name, note, text)
+        self.take_known(sink, name, note, text)
     }
 
     // The symbol of a text.
     #[inline(never)]
-    fn take_known<O: Output, const SPELLS: bool>(
+    fn take_known<O: Output>(
         &mut self,
         sink: &mut Sink<O, A>,
         name: &[u8],
@@ -196,18 +222,36 @@ impl<A: Allocator + Copy> TextWriter<A> {
         text: &[u8],
     ) -> bool
         ensures { TakesScalar self.old self.new sink.old sink.new result
-            SPELLS name.now note.now (symbol_text (Known text.now)) }
+            name.now note.now (symbol_text (Known text.now)) }
     {
         if is_bare(text) {
-            self.take_text::<O, SPELLS>(sink, name, note, text)
-        } else {
-            self.take_quoted::<O, SPELLS>(sink, name, note, text)
+            return self.take_text(sink, name, note, text);
         }
+        if !stands_in_symbol(text) {
+            return false;
+        }
+        self.take_quoted(sink, name, note, text)
     }
 
-    // A symbol between quotes that has no escapes.
-    #[inline(always)]
-    fn take_quoted<O: Output, const SPELLS: bool>(
+    // A symbol between quotes, which has no escapes.
+    #[inline(never)]
+    fn take_quoted<O: Output>(
+        &mut self,
+        sink: &mut Sink<O, A>,
+        name: &[u8],
+        note: &[u8],
+        text: &[u8],
+    ) -> bool
+        requires { all_are (is_shown 39 256) text.now ≡ true }
+        ensures { TakesScalar self.old self.new sink.old sink.new result
+            name.now note.now (between_quotes 39 256 text.now) }
+    {
+        self.take_marked(sink, name, note, b"'", text, b"'")
+    }
+
+    // A string that has no escapes.
+    #[inline(never)]
+    fn take_string<O: Output>(
         &mut self,
         sink: &mut Sink<O, A>,
         name: &[u8],
@@ -215,25 +259,17 @@ impl<A: Allocator + Copy> TextWriter<A> {
         text: &[u8],
     ) -> bool
         ensures { TakesScalar self.old self.new sink.old sink.new result
-            SPELLS name.now note.now (between_quotes 39 256 text.now) }
+            name.now note.now (between_quotes 34 256 text.now) }
     {
-        if !put_quoted_symbol::<O, A, SPELLS>(
-            sink,
-            self.kinds.as_slice(),
-            self.empty,
-            name,
-            note,
-            text,
-        ) {
+        if !stands_in_string(text) {
             return false;
         }
-        self.empty = false;
-        true
+        self.take_marked(sink, name, note, b"\"", text, b"\"")
     }
 
     // An int.
     #[inline(always)]
-    fn take_int<O: Output, const SPELLS: bool>(
+    fn take_int<O: Output>(
         &mut self,
         sink: &mut Sink<O, A>,
         name: &[u8],
@@ -241,17 +277,17 @@ impl<A: Allocator + Copy> TextWriter<A> {
         int: Int,
     ) -> bool
         ensures { TakesScalar self.old self.new sink.old sink.new result
-            SPELLS name.now note.now (int_text int) }
+            name.now note.now (int_text int) }
     {
         if int.magnitude > u64::MAX as u128 {
             return false;
         }
-        self.take_narrow_int::<O, SPELLS>(sink, name, note, int.negative, int.magnitude as u64)
+        self.take_narrow_int(sink, name, note, int.negative, int.magnitude as u64)
     }
 
     // An int with this sign and a magnitude that 64 bits hold.
     #[inline(never)]
-    fn take_narrow_int<O: Output, const SPELLS: bool>(
+    fn take_narrow_int<O: Output>(
         &mut self,
         sink: &mut Sink<O, A>,
         name: &[u8],
@@ -259,29 +295,18 @@ impl<A: Allocator + Copy> TextWriter<A> {
         negative: bool,
         magnitude: u64,
     ) -> bool
-        ensures { TakesScalar self.old self.new sink.old sink.new result
-            SPELLS name.now note.now
+        ensures { TakesScalar self.old self.new sink.old sink.new result name.now note.now
             (int_text (record { negative = negative; magnitude = magnitude })) }
     {
-        if !put_int::<O, A, SPELLS>(
-            sink,
-            self.kinds.as_slice(),
-            self.empty,
-            name,
-            note,
-            negative,
-            magnitude,
-        ) {
-            return false;
-        }
-        self.empty = false;
-        true
+        let mut buffer = Buffer::new();
+        let digits = buffer.format(magnitude).as_bytes();
+        self.take_marked(sink, name, note, minus(negative), digits, b"")
     }
 
     // A decimal. It is in line, since what is handed to a call of its own would go by memory, which all ways
     // of `take_head` would clear.
     #[inline(always)]
-    fn take_decimal<O: Output, const SPELLS: bool>(
+    fn take_decimal<O: Output>(
         &mut self,
         sink: &mut Sink<O, A>,
         name: &[u8],
@@ -290,16 +315,16 @@ impl<A: Allocator + Copy> TextWriter<A> {
     ) -> bool
         requires { IsDecimal decimal }
         ensures { TakesScalar self.old self.new sink.old sink.new result
-            SPELLS name.now note.now (decimal_text decimal) }
+            name.now note.now (decimal_text decimal) }
     {
         let text = decimal_to_text(decimal);
-        self.take_text::<O, SPELLS>(sink, name, note, text.as_str().as_bytes())
+        self.take_text(sink, name, note, text.as_str().as_bytes())
     }
 
     // A timestamp, by a call that is not in line. What is handed to that goes by memory, which is of this way
     // alone: where the call stands in `take_head`, all ways there clear it.
     #[inline(always)]
-    fn take_timestamp<O: Output, const SPELLS: bool>(
+    fn take_timestamp<O: Output>(
         &mut self,
         sink: &mut Sink<O, A>,
         name: &[u8],
@@ -308,14 +333,14 @@ impl<A: Allocator + Copy> TextWriter<A> {
     ) -> bool
         requires { IsTimestamp moment }
         ensures { TakesScalar self.old self.new sink.old sink.new result
-            SPELLS name.now note.now (timestamp_text moment) }
+            name.now note.now (timestamp_text moment) }
     {
-        self.take_timestamp_text::<O, SPELLS>(sink, name, note, moment)
+        self.take_timestamp_text(sink, name, note, moment)
     }
 
     // The text of a timestamp.
     #[inline(never)]
-    fn take_timestamp_text<O: Output, const SPELLS: bool>(
+    fn take_timestamp_text<O: Output>(
         &mut self,
         sink: &mut Sink<O, A>,
         name: &[u8],
@@ -324,34 +349,15 @@ impl<A: Allocator + Copy> TextWriter<A> {
     ) -> bool
         requires { IsTimestamp moment }
         ensures { TakesScalar self.old self.new sink.old sink.new result
-            SPELLS name.now note.now (timestamp_text moment) }
+            name.now note.now (timestamp_text moment) }
     {
         let text = timestamp_to_text(moment);
-        self.take_text::<O, SPELLS>(sink, name, note, text.as_str().as_bytes())
-    }
-
-    // A string that has no escapes.
-    #[inline(never)]
-    fn take_string<O: Output, const SPELLS: bool>(
-        &mut self,
-        sink: &mut Sink<O, A>,
-        name: &[u8],
-        note: &[u8],
-        text: &[u8],
-    ) -> bool
-        ensures { TakesScalar self.old self.new sink.old sink.new result
-            SPELLS name.now note.now (between_quotes 34 256 text.now) }
-    {
-        if !put_string::<O, A, SPELLS>(sink, self.kinds.as_slice(), self.empty, name, note, text) {
-            return false;
-        }
-        self.empty = false;
-        true
+        self.take_text(sink, name, note, text.as_str().as_bytes())
     }
 
     // The beginning of a container.
     #[inline(never)]
-    fn take_begin<O: Output, const SPELLS: bool>(
+    fn take_begin<O: Output>(
         &mut self,
         meter: &mut Meter<A>,
         sink: &mut Sink<O, A>,
@@ -362,21 +368,19 @@ impl<A: Allocator + Copy> TextWriter<A> {
         requires can_step { CanStep self.old meter.old }
         requires deep { length self.old.kinds < self.old.limits.depth }
         ensures { TakesHead self.old self.new meter.old meter.new sink.old sink.new result
-            (plain_begin (opened_in self.old)
-            (spelled_by SPELLS name.now) (spelled_by SPELLS note.now) (opener kind))
+            (plain_begin (opened_in self.old) name.now note.now (opener kind))
             ((kind, true) ∷ with_member (opened_in self.old)) }
     {
-        let Some(front) = front_of::<SPELLS>(name, note) else {
-            return false;
-        };
-        if !has_room(sink, front, 1) {
+        if !has_room(sink, name, note, 1) {
             return false;
         }
         let mark = before(self.kinds.as_slice(), self.empty);
         if !self.kinds.push_within(meter, kind) {
             return false;
         }
-        put_begin(sink, mark, front, kind);
+        put_mark(sink, mark);
+        put_front(sink, name, note);
+        put_mark(sink, opener(kind));
         self.empty = true;
         true
     }
@@ -388,9 +392,11 @@ impl<A: Allocator + Copy> TextWriter<A> {
         ensures { TakesHead self.old self.new meter.old meter.new sink.old sink.new result
             (end_text (opened_in self.old)) (drop 1 (opened_in self.old)) }
     {
-        if !put_end(sink, self.kinds.as_slice(), self.empty) {
+        if sink.room() < 2 {
             return false;
         }
+        put_mark(sink, closing(self.kinds.as_slice()));
+        put_mark(sink, behind_end(self.kinds.as_slice()));
         self.kinds.pop(meter);
         self.empty = false;
         true
@@ -398,65 +404,82 @@ impl<A: Allocator + Copy> TextWriter<A> {
 
     // A head, which may come with its text.
     #[inline(always)]
-    fn take_head<O: Output, const SPELLS: bool>(
+    fn take_head<O: Output>(
         &mut self,
         meter: &mut Meter<A>,
         sink: &mut Sink<O, A>,
         name: &[u8],
         note: &[u8],
         head: Head<'_>,
-        spelled: Option<&[u8]>,
+        spelled: Option<FormedText<'_>>,
     ) -> bool
         requires can_step { CanStep self.old meter.old }
         requires comes { MayCome self.old (raw_head head) }
-        requires spelled { IfSome spelled (λ text. IsTextOf text.now (raw_head head)) }
+        requires spelled { IfSome spelled (λ t. IsWrittenAs t.form t.text.now (raw_head head)) }
         ensures { TakesHead self.old self.new meter.old meter.new sink.old sink.new result
-            (head_text (opened_in self.old)
-            (plain_front (spelled_by SPELLS name.now) (spelled_by SPELLS note.now))
+            (head_text (opened_in self.old) (plain_front name.now note.now)
             (map_head user_symbol_at (raw_head head.entry)))
             (open_after (opened_in self.old) (map_head user_symbol_at (raw_head head.entry))) }
     {
-        if let Some(text) = spelled {
-            return self.take_text::<O, SPELLS>(sink, name, note, text);
+        if let Some(found) = spelled {
+            return match found.form {
+                Form::Bare => self.take_text(sink, name, note, found.text),
+                Form::Quoted => self.take_quoted(sink, name, note, found.text),
+                Form::Any => false,
+            };
         }
         match head {
-            Head::Null(of) => self.take_text::<O, SPELLS>(sink, name, note, null(of)),
-            Head::Bool(truth) => self.take_text::<O, SPELLS>(sink, name, note, bool_text(truth)),
-            Head::Int(int) => self.take_int::<O, SPELLS>(sink, name, note, int),
-            Head::Decimal(decimal) => self.take_decimal::<O, SPELLS>(sink, name, note, decimal),
-            Head::Timestamp(moment) => self.take_timestamp::<O, SPELLS>(sink, name, note, moment),
-            Head::Symbol(at) => self.take_symbol::<O, SPELLS>(sink, name, note, at.sym),
-            Head::String(text) => self.take_string::<O, SPELLS>(sink, name, note, text),
-            Head::Begin(kind) => self.take_begin::<O, SPELLS>(meter, sink, name, note, kind),
+            Head::Null(of) => self.take_text(sink, name, note, null(of)),
+            Head::Bool(truth) => self.take_text(sink, name, note, bool_text(truth)),
+            Head::Int(int) => self.take_int(sink, name, note, int),
+            Head::Decimal(decimal) => self.take_decimal(sink, name, note, decimal),
+            Head::Timestamp(moment) => self.take_timestamp(sink, name, note, moment),
+            Head::Symbol(at) => self.take_symbol(sink, name, note, at.sym),
+            Head::String(text) => self.take_string(sink, name, note, text),
+            Head::Begin(kind) => self.take_begin(meter, sink, name, note, kind),
             Head::End => self.take_end(meter, sink),
             _ => false,
         }
     }
 
-    // A head whose name or annotation may stand between quotes. It is marked as cold, so that
-    // what leads to it stands apart from what is frequent, and takes no register from it.
+    // An item whose name or annotation may stand between quotes, or that has two annotations: they
+    // are spelled first. It is marked as cold, so that what leads to it stands apart from what is
+    // frequent, and takes no register from it.
     #[cold]
     #[inline(never)]
-    fn take_quoted_names<O: Output>(
+    fn take_spelled<O: Output>(
         &mut self,
         meter: &mut Meter<A>,
         sink: &mut Sink<O, A>,
-        name: &[u8],
-        note: &[u8],
-        head: Head<'_>,
-        spelled: Option<&[u8]>,
+        item: PlainItem<'_, '_>,
     ) -> bool
         requires can_step { CanStep self.old meter.old }
-        requires comes { MayCome self.old (raw_head head) }
-        requires spelled { IfSome spelled (λ text. IsTextOf text.now (raw_head head)) }
+        requires comes { MayCome self.old (raw_head item.head) }
+        requires formed { SaysRightly item }
+        requires spelled { IsSpelled item }
         ensures { TakesHead self.old self.new meter.old meter.new sink.old sink.new result
-            (head_text (opened_in self.old)
-            (plain_front (spelling name.now) (spelling note.now))
-            (map_head user_symbol_at (raw_head head.entry)))
-            (open_after (opened_in self.old) (map_head user_symbol_at (raw_head head.entry))) }
+            (item_text (opened_in self.old) (user_item (placed_item item.entry)))
+            (open_after (opened_in self.old) (user_item (placed_item item.entry)).head) }
     {
-        self.take_head::<O, true>(meter, sink, name, note, head, spelled)
+        let mut front = ArrayVec::new();
+        if !spell(&mut front, item.field) {
+            return false;
+        }
+        let cut = front.len();
+        if !spell_notes(&mut front, item.annotation, item.second) {
+            return false;
+        }
+        let (name, note) = front.as_slice().split_at(cut);
+        self.take_head(meter, sink, name, note, item.head, item.spelled)
     }
+}
+
+// The minus of a number below zero.
+#[inline(always)]
+fn minus(negative: bool) -> &'static [u8]
+    ensures { result.now ≡ (if negative then 45 ∷ [] else []) }
+{
+    if negative { b"-" } else { b"" }
 }
 
 impl<O: Output, A: Allocator + Copy> ValueWriter<O, A> for TextWriter<A> {
@@ -515,21 +538,14 @@ impl<O: Output, A: Allocator + Copy> ValueWriter<O, A> for TextWriter<A> {
         item: PlainItem<'_, '_>,
     ) -> bool {
         let name = text_in(item.field);
-        let note = notes_in(item.annotation, item.second);
-        if !both(name.1, note.1) {
-            // The text of two annotations would be spelled as that of one.
-            if item.second.is_some() {
-                return false;
-            }
-            if !has_spelling(name.0, name.1) {
-                return false;
-            }
-            if !has_spelling(note.0, note.1) {
-                return false;
-            }
-            return self.take_quoted_names(meter, sink, name.0, note.0, item.head, item.spelled);
+        let note = text_in(item.annotation);
+        if !all(name.1, note.1, item.second.is_none()) {
+            // An aggregate that goes to a call is zeroed where the function begins: this one is built here,
+            // so that other items do not pay for it.
+            let item = PlainItem { ..item };
+            return self.take_spelled(meter, sink, item);
         }
-        self.take_head::<O, false>(meter, sink, name.0, note.0, item.head, item.spelled)
+        self.take_head(meter, sink, name.0, note.0, item.head, item.spelled)
     }
 
     ghost grows = { text_grows };

@@ -1,12 +1,13 @@
 -- What is seen of plain items: those whose symbols are texts, with two annotations at most.
-use Rattle.std.specs.Prelude.{◌≡◌, ◌==◌, ℕ, true, false, List, [], ◌∷◌, ◌++◌, Option, Some, None, option_map, IfSome, ⊤, codes}
+use Rattle.std.specs.Prelude.{◌≡◌, ◌==◌, ℕ, true, false, List, [], ◌∷◌, ◌++◌, Option, Some, None, option_map, IfSome, ⊤}
 use Rattle.ion_value.specs.declared.plain_item.TextAt.{TextAt}
-use Rattle.ion_value.specs.declared.plain_item.SecondAt.{SecondAt}
+use Rattle.ion_value.specs.declared.form.Form.{Form}
+use Rattle.ion_value.specs.declared.form.Form.TheVariants as form
 use Rattle.ion_value.specs.declared.plain_item.PlainItem.{PlainItem}
 use Rattle.ion_value.specs.Decimal.{decimal_text}
 use Rattle.ion_value.specs.Digits.{first_is}
 use Rattle.ion_value.specs.Int.{int_text}
-use Rattle.ion_value.specs.Name.{is_simple}
+use Rattle.ion_value.specs.Name.{IsFormedAs}
 use Rattle.ion_value.specs.Items.{raw_head}
 use Rattle.ion_value.specs.Timestamp.{timestamp_text}
 use Rattle.ion_value.specs.Value.{Symbol, Text, Id, SymbolAt, Scalar, null, bool, int, decimal, timestamp, symbol, string, clob, blob, Head, whole, begin, end, marker, PlacedItem}
@@ -20,14 +21,10 @@ abbrev pub listed : Option SymbolAt → List SymbolAt
 listed None = []
 listed (Some s) = s ∷ []
 
--- a second annotation, as a symbol
-abbrev pub second_text : SecondAt → SymbolAt
-second_text s = record { symbol = Text s.text.now; place = s.place }
-
 -- the annotations with a second one behind the first, if there is one
-abbrev pub with_second : List SymbolAt → Option SecondAt → List SymbolAt
+abbrev pub with_second : List SymbolAt → Option TextAt → List SymbolAt
 with_second notes None = notes
-with_second notes (Some s) = notes ++ second_text s ∷ []
+with_second notes (Some s) = notes ++ placed_text s ∷ []
 
 -- the item without its second annotation
 abbrev pub single_item : PlainItem → PlacedItem
@@ -98,42 +95,47 @@ pub record IsPlainItem (item : PlacedItem) : Type 0 where
 
 -- ---- what is said of a name or an annotation
 
--- a text that is said to be simple is
-abbrev pub IsRightlySimple : TextAt → Type 0
-IsRightlySimple t = t.simple ≡ true → is_simple t.text.now ≡ true
+-- a text is written as is said
+abbrev pub IsRightlyFormed : TextAt → Type 0
+IsRightlyFormed t = IsFormedAs t.form t.text.now
 
--- a second annotation stands right behind the two colons of the first, and both are simple
-pub record IsPair (one : TextAt) (other : SecondAt) : Type 0 where
-  pub first : is_simple one.text.now ≡ true
-  pub second : is_simple other.text.now ≡ true
-  pub pair : other.pair.now ≡ one.text.now ++ (codes "::" ++ other.text.now)
-
--- the same where the first may not be there: then there is no second one
-abbrev pub StandsBehind : Option TextAt → SecondAt → Type 0
+-- a second annotation stands behind a first one
+abbrev pub StandsBehind : Option TextAt → TextAt → Type 0
 StandsBehind None second = ⊥
-StandsBehind (Some first) second = IsPair first second
+StandsBehind (Some first) second = IsRightlyFormed second
 
 -- so are an item's name and its annotations
 pub record SaysRightly (item : PlainItem) : Type 0 where
-  pub field : IfSome item.field IsRightlySimple
-  pub annotation : IfSome item.annotation IsRightlySimple
+  pub field : IfSome item.field IsRightlyFormed
+  pub annotation : IfSome item.annotation IsRightlyFormed
   pub second : IfSome item.second (StandsBehind item.annotation)
 
 -- ---- items that come with a text
 
--- a symbol is a simple text, which is its own canonical text
-abbrev pub IsOwnText : List ℕ → Symbol → Type 0
-IsOwnText text (Text bytes) = (is_simple bytes ≡ true) × (text ≡ bytes)
-IsOwnText text (Id id) = ⊥
+-- a symbol is a text, which is written so
+abbrev pub IsOwnText : Form → List ℕ → Symbol → Type 0
+IsOwnText form text (Text bytes) = IsFormedAs form bytes × (text ≡ bytes)
+IsOwnText form text (Id id) = ⊥
 
 -- a text is the canonical one of an int, a decimal, a timestamp or a simple symbol: nothing else comes with one
 abbrev pub IsTextOf : List ℕ → Head SymbolAt → Type 0
 IsTextOf text (whole (int number)) = text ≡ int_text number
 IsTextOf text (whole (decimal number)) = text ≡ decimal_text number
 IsTextOf text (whole (timestamp moment)) = text ≡ timestamp_text moment
-IsTextOf text (whole (symbol s)) = IsOwnText text s.symbol
+IsTextOf text (whole (symbol s)) = IsOwnText form.Bare text s.symbol
 IsTextOf text _ = ⊥
 
--- the text that an item comes with, if there is one, is the canonical text of its head
+-- a text is that of a symbol without its quotes
+abbrev pub IsQuotedIn : List ℕ → Head SymbolAt → Type 0
+IsQuotedIn text (whole (symbol s)) = IsOwnText form.Quoted text s.symbol
+IsQuotedIn text _ = ⊥
+
+-- a head is written by a text of this form
+abbrev pub IsWrittenAs : Form → List ℕ → Head SymbolAt → Type 0
+IsWrittenAs form.Bare text head = IsTextOf text head
+IsWrittenAs form.Quoted text head = IsQuotedIn text head
+IsWrittenAs form.Any text head = ⊥
+
+-- the text that an item comes with, if there is one, is that of its head
 abbrev pub IsSpelled : PlainItem → Type 0
-IsSpelled item = IfSome item.spelled (λ text. IsTextOf text.now (raw_head item.head))
+IsSpelled item = IfSome item.spelled (λ t. IsWrittenAs t.form t.text.now (raw_head item.head))

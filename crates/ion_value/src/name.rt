@@ -3,7 +3,9 @@
 ghost use Rattle.std.specs.Prelude.{◌≡◌, ◌==◌, ◌&&◌, true, not, drop, is_none, codes};
 ghost use Rattle.std.specs.Str.{bytes_eq};
 ghost use Rattle.ion_value.specs.Digits.{all_are, cut_at, first_is, is_digit};
-ghost use Rattle.ion_value.specs.Name.{is_id, is_identifier, is_identifier_byte, is_identifier_start, is_number, is_plain, is_simple, is_version, keyword, version_word};
+ghost use Rattle.ion_value.specs.Name.{form_of, is_id, is_identifier, is_identifier_byte, is_identifier_start, is_number, is_own_in_quotes, is_plain, is_simple, is_version, keyword, version_word};
+
+use crate::form::Form;
 
 /// Whether a text is written as a symbol without quotes: an identifier that means nothing else.
 #[inline]
@@ -20,6 +22,32 @@ pub fn is_simple(name: &[u8]) -> bool
     ensures { result ≡ is_simple name.now }
 {
     is_plain(name) && !begins_with_dollar(name)
+}
+
+/// How a text is written as a symbol. Of one that begins with a dollar sign, or has an escape between
+/// quotes, nothing is said.
+pub fn form_of(name: &[u8]) -> Form
+    ensures { result ≡ form_of name.now }
+{
+    if is_simple(name) {
+        return Form::Bare;
+    }
+    if is_plain(name) || !stands_in_quotes(name) {
+        return Form::Any;
+    }
+    Form::Quoted
+}
+
+// Whether each byte stands for itself between the quotes of a symbol.
+fn stands_in_quotes(name: &[u8]) -> bool
+    ensures { result ≡ all_are is_own_in_quotes name.now }
+{
+    'bytes: for byte in name {
+        if *byte < b' ' || *byte == 127 || *byte == b'\'' || *byte == b'\\' {
+            return false;
+        }
+    }
+    true
 }
 
 // Whether the first byte is a dollar sign.

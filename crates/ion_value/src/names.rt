@@ -1,6 +1,8 @@
 //! The texts that ids stand for.
-ghost use Rattle.std.specs.Prelude.{◌≡◌, ℕ, List, Option, Some, None, true, MatchOption, IfSome};
-ghost use Rattle.ion_value.specs.Name.{is_simple};
+ghost use Rattle.std.specs.Prelude.{◌≡◌, ℕ, List, Option, Some, None, MatchOption};
+ghost use Rattle.ion_value.specs.Name.{IsFormedAs};
+
+use crate::form::FormedText;
 
 /// A symbol table as items see it: which ids have a text.
 pub trait Names {
@@ -12,11 +14,10 @@ pub trait Names {
         ensures { MatchOption result (text self.now id ≡ None)
             (λ t. text self.now id ≡ Some t.now) };
 
-    /// The text of an id, where it has one that is simple: an identifier that means nothing else and
-    /// does not begin with a dollar sign. It may answer none of such an id too.
-    fn simple_text(&self, id: u32) -> Option<&[u8]>
-        ensures { IfSome result (λ t. (text self.now id ≡ Some t.now)
-            × (is_simple t.now ≡ true)) };
+    /// The text of an id and how it is written, or none where it has none.
+    fn formed_text(&self, id: u32) -> Option<FormedText<'_>>
+        ensures { MatchOption result (text self.now id ≡ None)
+            (λ t. (text self.now id ≡ Some t.text.now) × IsFormedAs t.form t.text.now) };
 }
 
 /// No id has a text, so that ids stay ids.
@@ -30,7 +31,7 @@ impl Names for NoNames {
         None
     }
 
-    fn simple_text(&self, _id: u32) -> Option<&[u8]> {
+    fn formed_text(&self, _id: u32) -> Option<FormedText<'_>> {
         None
     }
 }

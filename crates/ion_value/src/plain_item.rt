@@ -1,29 +1,18 @@
 //! Items whose symbols are texts, with two annotations at most: what most items are, and what is copied
 //! with the fewest steps.
 
+use crate::form::{Form, FormedText};
 use crate::item::Head;
 
-/// A text and the place of its first byte in the input, counted from 0.
+/// The text of a name or an annotation, and the place of its first byte in the input, counted from 0.
 #[derive(Clone, Copy, Debug, PartialEq, Eq)]
 pub struct TextAt<'a> {
     /// The bytes of the text in UTF-8.
     pub text: &'a [u8],
-    /// Whether it is known to be simple: an identifier that means nothing else and does not begin with
-    /// a dollar sign. Where it is false, nothing is known.
-    pub simple: bool,
+    /// How it is written.
+    pub form: Form,
     /// The place of its first byte.
     pub place: u64,
-}
-
-/// A second annotation, right behind the two colons of the first. Both are known to be simple.
-#[derive(Clone, Copy, Debug, PartialEq, Eq)]
-pub struct SecondAt<'a> {
-    /// The bytes of the text in UTF-8.
-    pub text: &'a [u8],
-    /// The place of its first byte.
-    pub place: u64,
-    /// The bytes of both, with the two colons between them: `a::b`.
-    pub pair: &'a [u8],
 }
 
 /// An item of a user value that has two annotations at most. Its name, its annotations and its head,
@@ -37,12 +26,12 @@ pub struct PlainItem<'n, 'h> {
     /// The annotation, if there is one, or the first of two.
     pub annotation: Option<TextAt<'n>>,
     /// The second annotation, if there are two.
-    pub second: Option<SecondAt<'n>>,
+    pub second: Option<TextAt<'n>>,
     /// What the item is.
     pub head: Head<'h>,
     /// The canonical text of the head, where a reader has it: of an int, a decimal, a timestamp or a
-    /// symbol whose text is simple. A writer of text puts it as it stands.
-    pub spelled: Option<&'h [u8]>,
+    /// symbol, each as it stands, or that of a symbol without its quotes.
+    pub spelled: Option<FormedText<'h>>,
     /// The place of the head's first byte in the input.
     pub place: u64,
     /// The place of the first byte of the value at top level that the item belongs to.

@@ -1,6 +1,6 @@
 //! What stands in front of the head of an item that lies whole in the window.
 ghost use Rattle.std.specs.Prelude.{◌≡◌, ◌+◌, ◌^◌, ◌<◌, length, false, true, Option, Some, None, IfSome};
-ghost use Rattle.ion_binary.specs.Lane.{EndsHere, GoesOn, IsAround, FillsTo, ShowsField, ShowsFront, frame_in, inner_region, kind_around};
+ghost use Rattle.ion_binary.specs.Lane.{EndsHere, GoesOn, IsAround, IsNote, IsSecondNote, FillsTo, ShowsField, ShowsFront, frame_in, inner_region, kind_around};
 ghost use Rattle.ion_binary.specs.Descriptor.{Region};
 ghost use Rattle.ion_binary.specs.Shown.{Bounds};
 ghost use Rattle.ion_binary.specs.Wrappers.{as_frames, innermost};
@@ -11,6 +11,7 @@ use crate::body::id_of;
 use crate::shown::{shown_note, shown_var};
 use crate::wrapper::Frame;
 use ion_meter::limits::Limits;
+use ion_value::form::Form;
 use ion_value::ion_type::Kind;
 use ion_value::names::Names;
 use ion_value::plain_item::TextAt;
@@ -64,8 +65,8 @@ pub(super) fn inside(frame: Frame) -> Around
 }
 
 // The name of a field that stands before a member, and how many octets its id has; none outside
-// structs. It answers none where the window does not show an id that has a text that is known to be
-// simple, or any text where `any` says so.
+// structs. It answers none where the window does not show an id whose text is written as it stands, or
+// any text where `any` says so.
 #[inline(always)]
 pub(super) fn shown_field<'n, N: Names>(
     octets: &[u8],
@@ -101,13 +102,13 @@ pub(super) fn ends_here(around: Around, place: u64) -> bool
     around.end <= place
 }
 
-// What stands in front of the head of an item that is shown: a field's name and an annotation, where what is
-// behind the field's id begins among the octets, where the head does, and the place of the end of a wrapper
-// around it.
+// What stands in front of the head of an item that is shown: a field's name, an annotation and a second one,
+// the offsets of what comes after the field's id and of the head, and where a wrapper around it ends.
 #[derive(Clone, Copy)]
 pub(crate) struct Front<'n> {
     pub(super) field: Option<TextAt<'n>>,
     pub(super) annotation: Option<TextAt<'n>>,
+    pub(super) second: Option<TextAt<'n>>,
     pub(super) at: usize,
     pub(super) head: usize,
     pub(super) wrapper: Option<u64>,
@@ -119,6 +120,7 @@ pub(super) fn bare_front<'n>(field: Option<TextAt<'n>>, at: usize) -> Front<'n>
     ensures { result ≡ record {
       field = field.entry;
       annotation = None;
+      second = None;
       at = at;
       head = at;
       wrapper = None;
@@ -127,14 +129,15 @@ pub(super) fn bare_front<'n>(field: Option<TextAt<'n>>, at: usize) -> Front<'n>
     Front {
         field,
         annotation: None,
+        second: None,
         at,
         head: at,
         wrapper: None,
     }
 }
 
-// The front of an item in the annotation wrapper that begins at a place behind a field. It answers none where
-// the window does not show one that has one annotation, of a text that does not begin with a dollar sign.
+// The front of an item in the annotation wrapper that begins at an offset, after a field. It answers none
+// where the window does not show one with an annotation or two, each a text with no dollar sign in front.
 #[inline(always)]
 pub(super) fn noted_front<'n, N: Names>(
     octets: &[u8],
@@ -149,7 +152,7 @@ pub(super) fn noted_front<'n, N: Names>(
     requires field { ShowsField (N.text names.now) octets.now here
         (innermost (frame_in around)) field at }
     ensures { IfSome result (λ f. ShowsFront (N.text names.entry.now) limits octets.now here
-        (innermost (frame_in around)) f.field f.annotation f.at f.head f.wrapper) }
+        (innermost (frame_in around)) f) }
 {
     if at >= octets.len() {
         return None;
@@ -157,54 +160,60 @@ pub(super) fn noted_front<'n, N: Names>(
     let Some(note) = shown_note(octets, here, at, around.end, limits) else {
         return None;
     };
-    let place = here + note.from as u64;
-    let Some(text) = shown_text(id_of(note.id), place, names, true) else {
+    let Some(first) = noted_text(note.id, here + note.from as u64, names) else {
         return None;
     };
-    if begins_with_dollar(text) {
+    let Some(second) = second_text(note.second, here, names) else {
         return None;
-    }
+    };
     Some(Front {
         field,
-        annotation: Some(text),
+        annotation: Some(first),
+        second,
         at,
         head: note.inner,
         wrapper: Some(note.end),
     })
 }
 
-// The front of an item that the loop over most leaves: one with an annotation, or with a name that is not
-// known to be simple. It answers none of others, which were declined there.
+// The text of an annotation's id, where it has one with no dollar sign in front.
 #[inline(always)]
-pub(super) fn other_front<'n, N: Names>(
-    octets: &[u8],
-    here: u64,
-    around: Around,
-    field: Option<TextAt<'n>>,
-    at: usize,
-    limits: Limits,
-    names: &'n N,
-) -> Option<Front<'n>>
-    requires small { here + length octets.now < 2 ^ 63 }
-    requires field { ShowsField (N.text names.now) octets.now here
-        (innermost (frame_in around)) field at }
-    ensures { IfSome result (λ f. ShowsFront (N.text names.entry.now) limits octets.now here
-        (innermost (frame_in around)) f.field f.annotation f.at f.head f.wrapper) }
+fn noted_text<'n, N: Names>(id: u64, place: u64, names: &'n N) -> Option<TextAt<'n>>
+    ensures { IfSome result (IsNote (N.text names.entry.now) id place) }
 {
-    if let Some(front) = noted_front(octets, here, around, field, at, limits, names) {
-        return Some(front);
-    }
-    if is_said_simple(field) {
+    let Some(text) = shown_text(id_of(id), place, names, true) else {
+        return None;
+    };
+    if begins_with_dollar(text) {
         return None;
     }
-    Some(bare_front(field, at))
+    Some(text)
 }
 
-// Whether a name, where there is one, is known to be simple.
+// The text of the id of a second annotation, if there is one.
 #[inline(always)]
-fn is_said_simple(name: Option<TextAt<'_>>) -> bool {
+fn second_text<'n, N: Names>(
+    second: Option<(u64, usize)>,
+    here: u64,
+    names: &'n N,
+) -> Option<Option<TextAt<'n>>>
+    requires { IfSome second (λ s. here + s.1 < 2 ^ 64) }
+    ensures { IfSome result (IsSecondNote (N.text names.entry.now) here second) }
+{
+    let Some((id, at)) = second else {
+        return Some(None);
+    };
+    match noted_text(id, here + at as u64, names) {
+        Some(text) => Some(Some(text)),
+        None => None,
+    }
+}
+
+// Whether a name, where there is one, is known to be written as it stands.
+#[inline(always)]
+pub(super) fn is_bare(name: Option<TextAt<'_>>) -> bool {
     match name {
-        Some(name) => name.simple,
+        Some(name) => matches!(name.form, Form::Bare),
         None => true,
     }
 }

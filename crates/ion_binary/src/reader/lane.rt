@@ -1,7 +1,7 @@
 //! Items that lie whole in the window, handed to a writer.
 ghost use Rattle.std.specs.Prelude.{◌≡◌, ◌+◌, ◌*◌, ◌-◌, ◌^◌, ◌<◌, ◌≤◌, get_or, length, drop, false, true, Option, Some, None, IfSome};
 ghost use Rattle.ion_value.specs.Items.{named_at, named_item, raw_head};
-ghost use Rattle.ion_value.specs.PlainItems.{IsKnownHead, IsTextOf};
+ghost use Rattle.ion_value.specs.PlainItems.{IsKnownHead, IsWrittenAs};
 ghost use Rattle.ion_binary.specs.Reader.{kinds_of};
 ghost use Rattle.ion_binary.specs.Lane.{CanHand, CanHandFront, CanHandMember, CanHandOn, CanHandShape, HandsAt, EndsHere, HandsOn, IsAround, FillsTo, frame_in, inner_region};
 ghost use Rattle.ion_value.specs.Outcome.{one_if_closed};
@@ -18,7 +18,7 @@ ghost use Rattle.ion_binary.specs.Wrappers.{as_frames, innermost};
 ghost use Rattle.ion_value.specs.Value.{Text, map_head, symbol, whole};
 
 use super::front::{
-    Around, Front, Level, around_in, bare_front, ends_here, fills, inner_end, inside, other_front,
+    Around, Front, Level, around_in, bare_front, ends_here, fills, inner_end, inside, is_bare,
     shown_field,
 };
 use super::{BinReader, ItemKind};
@@ -28,17 +28,18 @@ use crate::wrapper::Frame;
 use ion_meter::device::{Input, Output};
 use ion_meter::meter::Meter;
 use ion_meter::sink::Sink;
+use ion_value::form::{Form, FormedText, bare};
 use ion_value::item::{Head, Sym, SymAt};
 use ion_value::names::Names;
 use ion_value::plain_item::PlainItem;
 use ion_value::writer::ValueWriter;
 use std::alloc::Allocator;
 
-// A head, and its canonical text where it is a symbol whose text is simple.
+// A head, and its text where it is a symbol whose form is known.
 #[derive(Clone, Copy)]
 struct SpelledHead<'h> {
     head: Head<'h>,
-    spelled: Option<&'h [u8]>,
+    spelled: Option<FormedText<'h>>,
 }
 
 // A head that comes without its text.
@@ -64,7 +65,7 @@ fn shown_head<'h, N: Names>(
         (whole (placed_scalar place (shown_scalar scalar.entry)))) }
     ensures known { IfSome result (λ h. IsKnownHead (raw_head h.head)) }
     ensures spelled { IfSome result
-        (λ h. IfSome h.spelled (λ text. IsTextOf text.now (raw_head h.head))) }
+        (λ h. IfSome h.spelled (λ t. IsWrittenAs t.form t.text.now (raw_head h.head))) }
 {
     match scalar {
         ShownScalar::Null(of) => Some(unspelled(Head::Null(of))),
@@ -85,17 +86,22 @@ fn shown_symbol<'h, N: Names>(id: u32, place: u64, names: &'h N) -> Option<Spell
         (whole (placed_scalar place (shown_scalar (ShownScalar.Symbol id))))) }
     ensures known { IfSome result (λ h. IsKnownHead (raw_head h.head)) }
     ensures spelled { IfSome result
-        (λ h. IfSome h.spelled (λ text. IsTextOf text.now (raw_head h.head))) }
+        (λ h. IfSome h.spelled (λ t. IsWrittenAs t.form t.text.now (raw_head h.head))) }
 {
-    if let Some(text) = names.simple_text(id) {
-        return Some(SpelledHead {
-            head: symbol_head(text, place),
-            spelled: Some(text),
-        });
-    }
-    match names.text_of(id) {
-        Some(text) => Some(unspelled(symbol_head(text, place))),
-        None => None,
+    let Some(found) = names.formed_text(id) else {
+        return None;
+    };
+    let head = symbol_head(found.text, place);
+    match found.form {
+        Form::Bare => Some(SpelledHead {
+            head,
+            spelled: Some(bare(found.text)),
+        }),
+        Form::Quoted => Some(SpelledHead {
+            head,
+            spelled: Some(found),
+        }),
+        Form::Any => Some(unspelled(head)),
     }
 }
 
@@ -144,7 +150,7 @@ fn item_behind<'n, 'h>(
     ensures { result ≡ record {
       field = front.entry.field;
       annotation = front.entry.annotation;
-      second = None;
+      second = front.entry.second;
       head = shown.entry.head;
       spelled = shown.entry.spelled;
       place = place;
@@ -154,7 +160,7 @@ fn item_behind<'n, 'h>(
     PlainItem {
         field: front.field,
         annotation: front.annotation,
-        second: None,
+        second: front.second,
         head: shown.head,
         spelled: shown.spelled,
         place,
@@ -199,8 +205,8 @@ impl<I: Input, A: Allocator + Copy> BinReader<I, A> {
     }
 
     // Hands the next item on, where that is possible and it is one of those that `OTHERS` asks for: the
-    // members with an annotation, or with a name that is not known to be simple, or else all but these. It
-    // answers false where it is not, and nothing is changed.
+    // members with a name that is not known to be written as it stands, or else all but these. It answers
+    // false where it is not, and nothing is changed.
     #[inline(always)]
     fn hand<N: Names, W: ValueWriter<O, A>, O: Output, const OTHERS: bool>(
         &mut self,
@@ -221,10 +227,7 @@ impl<I: Input, A: Allocator + Copy> BinReader<I, A> {
             }
             return self.hand_end(around, meter, names, writer, sink);
         }
-        if OTHERS {
-            return self.hand_other(around, meter, names, writer, sink);
-        }
-        self.hand_member(around, meter, names, writer, sink)
+        self.hand_member::<N, W, O, OTHERS>(around, meter, names, writer, sink)
     }
 
     // The end of the innermost container, which stands here.
@@ -283,7 +286,7 @@ impl<I: Input, A: Allocator + Copy> BinReader<I, A> {
 
     // The next member of the innermost container, or a value at top level.
     #[inline(always)]
-    fn hand_member<N: Names, W: ValueWriter<O, A>, O: Output>(
+    fn hand_member<N: Names, W: ValueWriter<O, A>, O: Output, const OTHERS: bool>(
         &mut self,
         around: &mut Around,
         meter: &mut Meter<A>,
@@ -297,38 +300,14 @@ impl<I: Input, A: Allocator + Copy> BinReader<I, A> {
     {
         let here = self.source.place();
         let octets = self.source.buffer();
-        let Some((field, at)) = shown_field(octets, here, *around, names, false) else {
+        let Some((field, at)) = shown_field(octets, here, *around, names, OTHERS) else {
             return false;
         };
+        if OTHERS && is_bare(field) {
+            return false;
+        }
         let front = bare_front(field, at);
-        self.hand_head::<N, W, O, false>(around, front, meter, names, writer, sink)
-    }
-
-    // Hands the next member on, or value at top level, where it has an annotation or a name that is not known
-    // to be simple, and that is possible.
-    #[inline(always)]
-    fn hand_other<N: Names, W: ValueWriter<O, A>, O: Output>(
-        &mut self,
-        around: &mut Around,
-        meter: &mut Meter<A>,
-        names: &N,
-        writer: &mut W,
-        sink: &mut Sink<O, A>,
-    ) -> bool
-        requires { CanHandMember W.ValueWriter self.old around.old writer.old sink.old meter.old }
-        ensures { HandsAt I.Input W.ValueWriter (named_item (N.text names.now)) self.old self.new
-            writer.old writer.new sink.old sink.new meter.old meter.new around.new result }
-    {
-        let here = self.source.place();
-        let octets = self.source.buffer();
-        let Some((field, at)) = shown_field(octets, here, *around, names, true) else {
-            return false;
-        };
-        let limits = self.limits;
-        let Some(front) = other_front(octets, here, *around, field, at, limits, names) else {
-            return false;
-        };
-        self.hand_head::<N, W, O, true>(around, front, meter, names, writer, sink)
+        self.hand_head::<N, W, O, OTHERS>(around, front, meter, names, writer, sink)
     }
 
     // Hands on an item with this front. Each frequent shape of a head has a call of its own, so that

@@ -16,8 +16,8 @@ use std::alloc::Allocator;
 
 impl<I: Input, A: Allocator + Copy> BinReader<I, A> {
     // Hands on items that the loop over most leaves, behind so many values at top level: one that has an
-    // annotation, or else those that each have an annotation or a name that is not known to be simple. It
-    // answers how many values ended.
+    // annotation, or else those whose names are not known to be written as they stand. It answers how many
+    // values ended.
     #[inline(always)]
     pub(super) fn hand_rare<N: Names, W: ValueWriter<O, A>, O: Output>(
         &mut self,
@@ -90,8 +90,8 @@ impl<I: Input, A: Allocator + Copy> BinReader<I, A> {
         self.hand_shape(shape, around, front, meter, names, writer, sink)
     }
 
-    // Hands items on that each have an annotation, or a name that is not known to be simple. It is a
-    // loop and a call of its own, so that the loop over all others is compiled without them.
+    // Hands items on that each have a name that is not known to be written as it stands, and no annotation.
+    // It is a loop and a call of its own, so that the loop over all others is compiled without them.
     #[inline(never)]
     fn hand_others<N: Names, W: ValueWriter<O, A>, O: Output>(
         &mut self,

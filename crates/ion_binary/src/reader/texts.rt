@@ -1,13 +1,14 @@
 //! Texts of the ids of names and annotations.
 ghost use Rattle.std.specs.Prelude.{◌≡◌, ◌==◌, Some, IfSome};
 ghost use Rattle.ion_value.specs.Digits.{first_is};
-ghost use Rattle.ion_value.specs.PlainItems.{IsRightlySimple};
+ghost use Rattle.ion_value.specs.PlainItems.{IsRightlyFormed};
 
+use ion_value::form::Form;
 use ion_value::names::Names;
 use ion_value::plain_item::TextAt;
 
-// The text of an id that stands at a place, where it has one that is known to be simple, or any text
-// where `any` says so. Where that is a constant, so is what is said of the text, or it is one of a call.
+// The text of an id that stands at an offset, where it has one that is written as it stands, or any text
+// where `any` says so. Where that is false, the form is a constant.
 #[inline(always)]
 pub(super) fn shown_text<'n, N: Names>(
     id: u32,
@@ -17,35 +18,33 @@ pub(super) fn shown_text<'n, N: Names>(
 ) -> Option<TextAt<'n>>
     ensures text { IfSome result (λ t. N.text names.entry.now id ≡ Some t.text.now) }
     ensures place { IfSome result (λ t. t.place ≡ place) }
-    ensures simple { IfSome result IsRightlySimple }
+    ensures formed { IfSome result IsRightlyFormed }
 {
-    if let Some(text) = names.simple_text(id) {
-        return Some(TextAt {
-            text,
-            simple: true,
-            place,
-        });
-    }
-    if !any {
+    let Some(found) = names.formed_text(id) else {
         return None;
-    }
-    match names.text_of(id) {
-        Some(text) => Some(TextAt {
-            text,
-            simple: false,
+    };
+    match found.form {
+        Form::Bare => Some(TextAt {
+            text: found.text,
+            form: Form::Bare,
             place,
         }),
-        None => None,
+        form if any => Some(TextAt {
+            text: found.text,
+            form,
+            place,
+        }),
+        _ => None,
     }
 }
 
-// Whether a text begins with a dollar sign, as no simple one does.
+// Whether a text begins with a dollar sign, as none does that is written as it stands.
 #[inline(always)]
 pub(super) fn begins_with_dollar(text: TextAt<'_>) -> bool
-    requires { IsRightlySimple text }
+    requires { IsRightlyFormed text }
     ensures { result ≡ first_is (λ b. b == 36) text.entry.text.now }
 {
-    if text.simple {
+    if let Form::Bare = text.form {
         return false;
     }
     match text.text {

@@ -22,7 +22,7 @@ use ion_value::decimal::Decimal;
 use ion_value::int::Int;
 use ion_value::ion_type::Kind;
 use ion_value::item::{Head, Sym, SymAt};
-use ion_value::plain_item::SecondAt;
+use ion_value::plain_item::TextAt;
 use std::alloc::Allocator;
 
 impl<A: Allocator + Copy> BinWriter<A> {
@@ -33,7 +33,7 @@ impl<A: Allocator + Copy> BinWriter<A> {
         &mut self,
         meter: &mut Meter<A>,
         item: SingleItem<'_, '_>,
-        second: Option<SecondAt<'_>>,
+        second: Option<TextAt<'_>>,
     ) -> bool
         requires can_take { CanTake self.old meter.old }
         requires comes { MayCome self.old.limits self.old.open_value (as_pair item second) }

@@ -1,6 +1,7 @@
 //! Items and their symbols.
 
 use crate::same::same;
+use ion_value::form::{FormedText, bare};
 use ion_value::item::{Annotation, Annotations, Head, Item, Sym, SymAt};
 use ion_value::names::{Names, NoNames};
 use std::process::Abort;
@@ -18,8 +19,8 @@ impl Names for OneName {
         if id == 10 { Some(b"name") } else { None }
     }
 
-    fn simple_text(&self, id: u32) -> Option<&[u8]> {
-        self.text_of(id)
+    fn formed_text(&self, id: u32) -> Option<FormedText<'_>> {
+        if id == 10 { Some(bare(b"name")) } else { None }
     }
 }
 
@@ -73,5 +74,5 @@ fn gives_ids_as_they_are_and_as_their_texts(rt: HostRuntime) {
 fn there_may_be_no_annotations_and_no_names(rt: HostRuntime) {
     assert!(rt; Annotations::new(&[], &[], &NoNames).is_empty());
     same(&rt, NoNames.text_of(10), None);
-    same(&rt, NoNames.simple_text(10), None);
+    same(&rt, NoNames.formed_text(10), None);
 }

@@ -40,7 +40,7 @@ pub(super) fn any_value<'a, W: ValueWriter<O, A>, O: Output, A: Allocator + Copy
         (lane kinds.old spot.entry writer.old sink.old meter.old)
         (lane kinds.new result.spot writer.new sink.new meter.new) }
 {
-    let further = with_second(spot, start, bounds);
+    let further = with_second(start, bounds);
     let next = further.start.next;
     let Some(found) = scan_head(bounds.limits, bounds.end - next.rest.len() as u64, next) else {
         return Turned { spot, more: false };

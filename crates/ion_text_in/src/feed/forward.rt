@@ -1,8 +1,10 @@
 //! Items that go from a lane to the writer.
-ghost use Rattle.std.specs.Prelude.{◌≡◌, ◌+◌, ◌*◌, ◌-◌, ◌^◌, ◌<◌, ◌≤◌, ℕ, List, Option, None, Some, true, false, length};
+ghost use Rattle.std.specs.Prelude.{◌≡◌, ◌+◌, ◌*◌, ◌-◌, ◌^◌, ◌<◌, ◌≤◌, ℕ, List, Option, None, Some, true, false, length, IfSome};
 ghost use Rattle.ion_meter.specs.Counts.{Shrinks};
 ghost use Rattle.ion_value.specs.declared.ion_type.Kind as kind_of;
 ghost use Rattle.ion_value.specs.Items.{raw_head};
+ghost use Rattle.ion_value.specs.PlainItems.{IsTextOf, IsWrittenAs};
+ghost use Rattle.ion_value.specs.Value.{Head as ReadHead, SymbolAt};
 ghost use Rattle.ion_text_in.specs.Feeding.{begun, begun_cost, lane, passed, place_in, with_begun, CanFeed, IsFound, IsFoundBy, IsFoundRead, IsStart, IsStartBy, IsStartRead, Opens, Turns, TurnsBy};
 ghost use Rattle.ion_text_in.specs.Positions.{innermost};
 
@@ -11,6 +13,7 @@ use ion_meter::device::Output;
 use ion_meter::meter::Meter;
 use ion_meter::sink::Sink;
 use ion_meter::stack::Stack;
+use ion_value::form::{FormedText, bare};
 use ion_value::ion_type::Kind;
 use ion_value::item::Head;
 use ion_value::plain_item::PlainItem;
@@ -94,6 +97,18 @@ fn pass_item<'a>(
     pass_value(at, found.rest, top, inner);
 }
 
+// A text that is written as it stands, if there is one.
+#[inline(always)]
+fn as_bare(text: Option<&[u8]>) -> Option<FormedText<'_>>
+    ensures { (head : ReadHead SymbolAt) → IfSome text.entry (λ t. IsTextOf t.now head)
+        → IfSome result (λ t. IsWrittenAs t.form t.text.now head) }
+{
+    match text {
+        Some(text) => Some(bare(text)),
+        None => None,
+    }
+}
+
 /// Hands on an item, whose name or which itself may be an id, and says whether it did.
 #[inline(always)]
 pub(super) fn forward_any<'a, W: ValueWriter<O, A>, O: Output, A: Allocator + Copy>(
@@ -132,7 +147,7 @@ pub(super) fn forward_any<'a, W: ValueWriter<O, A>, O: Output, A: Allocator + Co
         annotation: start.note,
         second,
         head: found.head,
-        spelled: found.spelled,
+        spelled: as_bare(found.spelled),
         place,
         top,
     };

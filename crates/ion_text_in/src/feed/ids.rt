@@ -17,6 +17,8 @@ use ion_meter::limits::Limits;
 use ion_meter::meter::Meter;
 use ion_meter::sink::Sink;
 use ion_meter::stack::Stack;
+use ion_value::form::Form::Bare;
+use ion_value::form::FormedText;
 use ion_value::ion_type::Kind;
 use ion_value::item::{Head, Sym, SymAt};
 use ion_value::names::Names;
@@ -140,7 +142,7 @@ fn id_name<'a, N: Names>(
     };
     let name = TextAt {
         text: id.text,
-        simple: true,
+        form: Bare,
         place,
     };
     behind_name(name, behind(id.count, bytes))
@@ -154,9 +156,9 @@ fn id_text<'a, N: Names>(bytes: &[u8], names: &'a N, limit: u64) -> Option<IdTex
         (λ id. IsIdOf (N.text names.now) limit bytes.now id.text.now id.count) }
 {
     match scan_word(limit, bytes) {
-        Scanned::Whole(Word::Id(id), count) => match names.simple_text(id) {
-            Some(text) => Some(IdText { text, count }),
-            None => None,
+        Scanned::Whole(Word::Id(id), count) => match names.formed_text(id) {
+            Some(FormedText { text, form: Bare }) => Some(IdText { text, count }),
+            _ => None,
         },
         _ => None,
     }

@@ -17,7 +17,7 @@ use ion_meter::limits::Limits;
 use ion_meter::stack::Stack;
 use ion_value::ion_type::Kind;
 use ion_value::item::Head;
-use ion_value::plain_item::{SecondAt, TextAt};
+use ion_value::plain_item::TextAt;
 use std::alloc::Allocator;
 
 /// Where a lane stands between two items.
@@ -70,7 +70,7 @@ pub(crate) struct Further<'a> {
     /// The beginning behind both.
     pub(super) start: Start<'a>,
     /// The second annotation, if there are two.
-    pub(super) second: Option<SecondAt<'a>>,
+    pub(super) second: Option<TextAt<'a>>,
 }
 
 /// The head of an item.

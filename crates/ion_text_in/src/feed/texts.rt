@@ -1,12 +1,13 @@
 //! Texts of plain bytes alone, between quotes.
-ghost use Rattle.std.specs.Prelude.{◌≡◌, ◌<◌, length, false, IfSome};
-ghost use Rattle.ion_value.specs.PlainItems.{IsRightlySimple};
+ghost use Rattle.std.specs.Prelude.{◌≡◌, ◌<◌, length, IfSome};
+ghost use Rattle.ion_value.specs.PlainItems.{IsRightlyFormed};
 ghost use Rattle.ion_text_in.specs.Feeding.{IsBetween};
 ghost use Rattle.ion_text_in.specs.Quotes.{quote_of};
 
 use crate::quoted::{Quote, scan_text};
 use crate::scanned::Scanned;
 use crate::slice::{behind, front};
+use ion_value::form::Form;
 use ion_value::plain_item::TextAt;
 
 /// A text, and the bytes behind its closing quote.
@@ -37,12 +38,11 @@ pub(super) fn text_between(quote: Quote, limit: u64, bytes: &[u8]) -> Option<Bet
 pub(super) fn quoted_text<'a>(text: &'a [u8], place: u64) -> TextAt<'a>
     ensures text { result.text.now ≡ text.now }
     ensures place { result.place ≡ place }
-    ensures plain { result.simple ≡ false }
-    ensures says { IsRightlySimple result }
+    ensures says { IsRightlyFormed result }
 {
     TextAt {
         text,
-        simple: false,
+        form: Form::Any,
         place,
     }
 }

@@ -5,11 +5,8 @@ use Rattle.ion_text_out.proofs.scalar.put_body.Goals as goal
 pub returns-in-Clob : goal.returns-in-Clob
 returns-in-Clob g c = grind (arith, common_steps) steps 400000
 
-pub returns-in-Bool-false : goal.returns-in-Bool-false
-returns-in-Bool-false g c = grind (arith, common_steps)
-
-pub returns-in-Bool-true : goal.returns-in-Bool-true
-returns-in-Bool-true g c = grind (arith, common_steps)
+pub returns-in-Bool : goal.returns-in-Bool
+returns-in-Bool g c = grind (arith, common_steps)
 
 pub returns-in-End : goal.returns-in-End
 returns-in-End g c = grind (arith, common_steps)
@@ -20,8 +17,8 @@ returns-in-Begin g c = grind (arith, common_steps)
 pub returns-in-Symbol : goal.returns-in-Symbol
 returns-in-Symbol g c = grind (arith, common_steps)
 
-pub put_timestamp-requires-clause-range : goal.put_timestamp-requires-clause-range
-put_timestamp-requires-clause-range g c = grind (arith, common_steps)
+pub timestamp_to_text-requires : goal.timestamp_to_text-requires
+timestamp_to_text-requires g c = grind (arith, common_steps)
 
 pub returns-in-Null : goal.returns-in-Null
 returns-in-Null g c = grind (arith, common_steps)
@@ -41,8 +38,8 @@ returns-in-Decimal g c = grind (arith, common_steps)
 pub returns-in-Int : goal.returns-in-Int
 returns-in-Int g c = grind (arith, common_steps)
 
-pub put_decimal-requires-clause-range : goal.put_decimal-requires-clause-range
-put_decimal-requires-clause-range g c = grind (arith, common_steps)
+pub decimal_to_text-requires : goal.decimal_to_text-requires
+decimal_to_text-requires g c = grind (arith, common_steps)
 
-pub put_int-requires-clause-range : goal.put_int-requires-clause-range
-put_int-requires-clause-range g c = grind (arith, common_steps)
+pub int_to_text-requires : goal.int_to_text-requires
+int_to_text-requires g c = grind (arith, common_steps)

@@ -9,9 +9,6 @@ ends_here-requires g c = record { top = λ none. omega (arith, c.place.ensures, 
 pub returns-then-this-ne0 : goal.returns-then-this-ne0
 returns-then-this-ne0 g c = hands-none g.W.ValueWriter c.requires.can_hand (g.met.W.ValueWriter.within c.args.writer.now c.requires.can_hand.writer.sound)
 
-pub hand_other-requires : goal.hand_other-requires
-hand_other-requires g c = record { can_hand = c.requires.can_hand; around = c.requires.around; goes_on = grind (arith, common_steps) steps 400000 }
-
 pub hand_member-requires : goal.hand_member-requires
 hand_member-requires g c = record { can_hand = c.requires.can_hand; around = c.requires.around; goes_on = grind (arith, common_steps) steps 400000 }
 
@@ -20,9 +17,6 @@ hand_end-requires g c = record { can_hand = c.requires.can_hand; around = c.requ
 
 pub returns-then-ends_here : goal.returns-then-ends_here
 returns-then-ends_here g c = c.hand_end.ensures
-
-pub returns-then-this-ne0-2 : goal.returns-then-this-ne0-2
-returns-then-this-ne0-2 g c = c.hand_other.ensures
 
 pub returns : goal.returns
 returns g c = c.hand_member.ensures

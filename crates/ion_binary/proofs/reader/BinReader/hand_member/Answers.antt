@@ -14,5 +14,8 @@ hand_head-requires g c =
 pub returns-in_default : goal.returns-in_default
 returns-in_default g c = hands-none g.W.ValueWriter c.requires.can_hand (g.met.W.ValueWriter.within c.args.writer.now c.requires.can_hand.writer.sound)
 
+pub returns-then-is_bare : goal.returns-then-is_bare
+returns-then-is_bare g c = hands-none g.W.ValueWriter c.requires.can_hand (g.met.W.ValueWriter.within c.args.writer.now c.requires.can_hand.writer.sound)
+
 pub returns : goal.returns
 returns g c = c.hand_head.ensures

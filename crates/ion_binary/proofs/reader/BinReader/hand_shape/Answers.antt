@@ -34,11 +34,11 @@ take_plain-requires-in-Begin-clause-plain g c =
     rw (c.item_behind-item-in-Begin.ensures, c.unspelled.ensures) (record { field = shown-known c.args.front.field; annotations = c.requires.item.front.free; head = tt })
 
 pub take_plain-requires-clause-simple : goal.take_plain-requires-clause-simple
-take_plain-requires-clause-simple g c = rw c.item_behind-item.ensures (record { field = c.requires.item.front.name.simple; annotation = c.requires.item.front.simple; second = tt })
+take_plain-requires-clause-simple g c = rw c.item_behind-item.ensures (record { field = c.requires.item.front.name.formed; annotation = c.requires.item.front.formed; second = c.requires.item.front.second })
 
 pub take_plain-requires-in-Begin-clause-simple : goal.take_plain-requires-in-Begin-clause-simple
 take_plain-requires-in-Begin-clause-simple g c =
-    rw (c.item_behind-item-in-Begin.ensures, c.unspelled.ensures) (record { field = c.requires.item.front.name.simple; annotation = c.requires.item.front.simple; second = tt })
+    rw (c.item_behind-item-in-Begin.ensures, c.unspelled.ensures) (record { field = c.requires.item.front.name.formed; annotation = c.requires.item.front.formed; second = c.requires.item.front.second })
 
 pub take_plain-requires-clause-spelled : goal.take_plain-requires-clause-spelled
 take_plain-requires-clause-spelled g c = rw c.item_behind-item.ensures c.in-Some-shown_head.ensures.spelled
@@ -60,7 +60,7 @@ take_plain-requires-clause-path g c =
     let full = rw c.in-Scalar.is at c.in-Some.ensures.fills in
     let v = front.gives (length (as_frames r.frames)) c.in-Some.behind (shown.Scalar c.in-Scalar.scalar) shows full in
     let head = rw c.place-here.ensures at c.in-Some-shown_head.ensures.head in
-    let plain : PlainItem = record { field = c.args.front.field; annotation = c.args.front.annotation; second = None; head = c.in-Some-shown_head.shown.head; spelled = c.in-Some-shown_head.shown.spelled; place = c.place-here.result + c.args.front.head; top = c.top_at-top.result } in
+    let plain : PlainItem = record { field = c.args.front.field; annotation = c.args.front.annotation; second = c.args.front.second; head = c.in-Some-shown_head.shown.head; spelled = c.in-Some-shown_head.shown.spelled; place = c.place-here.result + c.args.front.head; top = c.top_at-top.result } in
     let fits = scalar_fits r.limits.depth r.frames f texts (r.source.place + c.args.front.head) (shown_scalar c.in-Scalar.scalar) plain inner name.there head v.may_be in
     let write = c.requires.item.member.can_hand.writer in
     rw c.item_behind-item.ensures (path_here w r.limits.depth (opened_in r) c.args.writer.now (PlainItems.placed_item plain) write.depth_of fits
@@ -79,7 +79,7 @@ take_plain-requires-in-Begin-clause-path g c =
     let shows = rw c.in-Begin.is at c.in-Some.ensures.shows in
     let full = rw c.in-Begin.is at c.in-Some.ensures.fills in
     let v = front.gives (length (as_frames r.frames)) c.in-Some.behind (shown.Begin c.in-Begin.kind c.in-Begin.end) shows full in
-    let plain : PlainItem = record { field = c.args.front.field; annotation = c.args.front.annotation; second = None; head = code.Begin c.in-Begin.kind; spelled = None; place = c.place-here.result + c.args.front.head; top = c.top_at-top.result } in
+    let plain : PlainItem = record { field = c.args.front.field; annotation = c.args.front.annotation; second = c.args.front.second; head = code.Begin c.in-Begin.kind; spelled = None; place = c.place-here.result + c.args.front.head; top = c.top_at-top.result } in
     let few : length r.frames < r.limits.depth = subst (λ n. n < r.limits.depth) (as_frames-length r.frames) v.may_be in
     let fits = begin_fits r.limits.depth r.frames f c.in-Begin.kind plain inner name.there refl few in
     let write = c.requires.item.member.can_hand.writer in
@@ -142,7 +142,7 @@ returns-else-not-take_plain g c = record {
         let full = rw c.in-Scalar.is at c.in-Some.ensures.fills in
         let v = front.gives (length (as_frames r.frames)) c.in-Some.behind (shown.Scalar c.in-Scalar.scalar) shows full in
         let head = rw c.place-here.ensures at c.in-Some-shown_head.ensures.head in
-        let plain : PlainItem = record { field = c.args.front.field; annotation = c.args.front.annotation; second = None; head = c.in-Some-shown_head.shown.head; spelled = c.in-Some-shown_head.shown.spelled; place = c.place-here.result + c.args.front.head; top = c.top_at-top.result } in
+        let plain : PlainItem = record { field = c.args.front.field; annotation = c.args.front.annotation; second = c.args.front.second; head = c.in-Some-shown_head.shown.head; spelled = c.in-Some-shown_head.shown.spelled; place = c.place-here.result + c.args.front.head; top = c.top_at-top.result } in
         let fits = scalar_fits r.limits.depth r.frames f texts (r.source.place + c.args.front.head) (shown_scalar c.in-Scalar.scalar) plain inner name.there head v.may_be in
         let write = c.requires.item.member.can_hand.writer in
         let taken = rw c.item_behind-item.ensures at c.if-not-take_plain.ensures in
@@ -198,7 +198,7 @@ returns-else-not-take_plain-2 g c = record {
         let shows = rw c.in-Begin.is at c.in-Some.ensures.shows in
         let full = rw c.in-Begin.is at c.in-Some.ensures.fills in
         let v = front.gives (length (as_frames r.frames)) c.in-Some.behind (shown.Begin c.in-Begin.kind c.in-Begin.end) shows full in
-        let plain : PlainItem = record { field = c.args.front.field; annotation = c.args.front.annotation; second = None; head = code.Begin c.in-Begin.kind; spelled = None; place = c.place-here.result + c.args.front.head; top = c.top_at-top.result } in
+        let plain : PlainItem = record { field = c.args.front.field; annotation = c.args.front.annotation; second = c.args.front.second; head = code.Begin c.in-Begin.kind; spelled = None; place = c.place-here.result + c.args.front.head; top = c.top_at-top.result } in
         let few : length r.frames < r.limits.depth = subst (λ n. n < r.limits.depth) (as_frames-length r.frames) v.may_be in
         let fits = begin_fits r.limits.depth r.frames f c.in-Begin.kind plain inner name.there refl few in
         let write = c.requires.item.member.can_hand.writer in

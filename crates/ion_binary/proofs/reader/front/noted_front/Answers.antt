@@ -1,21 +1,23 @@
-use Rattle.std.proofs.Common.{◌≡◌, ◌∙◌, Some, sym, subst, arith}
+use Rattle.std.proofs.Common.{arith}
 use Rattle.ion_binary.specs.Lane.{frame_in}
 use Rattle.ion_binary.specs.Reading.{region_of}
 use Rattle.ion_binary.specs.Wrappers.{innermost}
 use Rattle.ion_binary.proofs.Handing.{bounds_around, front_noted}
+use Rattle.ion_binary.proofs.ShownParts.{if_some}
 use Rattle.ion_binary.proofs.reader.front.noted_front.Goals as goal
 
-pub overflow_add-place : goal.overflow_add-place
-overflow_add-place g c =
+pub overflow_add-here : goal.overflow_add-here
+overflow_add-here g c =
     let shows = c.in-Some.ensures (region_of (innermost (frame_in c.args.around))) (bounds_around c.args.around) in
     omega (arith, shows.starts, shows.within, c.requires.small)
 
+pub second_text-requires : goal.second_text-requires
+second_text-requires g c =
+    let shows = c.in-Some.ensures (region_of (innermost (frame_in c.args.around))) (bounds_around c.args.around) in
+    if_some c.in-Some.note.second (λ s h. omega (arith, h, shows.within, c.requires.small)) shows.second
+
 pub returns : goal.returns
 returns g c =
-    let text = c.in-Some-shown_text.text in
-    let shown = c.in-Some-shown_text.ensures in
-    let note = c.in-Some.note in
-    let has = subst (λ n. g.N.Names.text c.args.names.now n ≡ Some text.text.now) c.id_of.ensures shown.text in
-    let free = sym c.begins_with_dollar.ensures ∙ c.if-begins_with_dollar.false in
-    front_noted (g.N.Names.text c.args.names.now) c.args.limits c.args.octets.now c.args.here (innermost (frame_in c.args.around)) c.args.field c.args.at note.from note.inner note.end note.id
-    text c.requires.field (c.in-Some.ensures (region_of (innermost (frame_in c.args.around))) (bounds_around c.args.around)) has free shown.simple shown.place
+    front_noted (g.N.Names.text c.args.names.now) c.args.limits c.args.octets.now c.args.here (innermost (frame_in c.args.around)) c.args.field c.args.at c.in-Some.note
+    c.in-Some-noted_text.first c.in-Some-second_text.second c.requires.field (c.in-Some.ensures (region_of (innermost (frame_in c.args.around))) (bounds_around c.args.around))
+    c.in-Some-noted_text.ensures c.in-Some-second_text.ensures

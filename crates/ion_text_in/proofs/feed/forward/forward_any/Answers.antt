@@ -23,6 +23,9 @@ take_plain-requires-clause-path g c =
     may-take g.W.ValueWriter depth (reverse a.kinds.now) a.writer.now a.sink.now _ r.can.takes
     (head-stands a.kinds.now a.at.now start (raw_head a.found.head) c.top_at-top.result (place_in a.bounds start.next.rest.now) a.found.rest.now r.can.expects r.start.read found passes.place)
 
+pub take_plain-requires-clause-spelled : goal.take_plain-requires-clause-spelled
+take_plain-requires-clause-spelled g c = c.as_bare.ensures (raw_head c.args.found.head) c.requires.found.spelled
+
 pub returns-then-not-open_begun : goal.returns-then-not-open_begun
 returns-then-not-open_begun g c = λ texts start found. let d = c.open_begun.ensures.declines c.if-not-open_begun.true in rw (d.0, d.1) (turns-none c.requires.can)
 

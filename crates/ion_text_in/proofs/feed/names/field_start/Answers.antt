@@ -1,4 +1,5 @@
-use Rattle.std.proofs.Common.{◌∙◌, ◌<◌, ℕ, List, refl, true, false, ap, arith}
+use Rattle.std.proofs.Common.{◌∙◌, ◌<◌, ℕ, List, refl, false, ap, arith}
+use Rattle.ion_value.specs.declared.form.Form.TheVariants as form
 use Rattle.ion_value.specs.declared.plain_item.TextAt.{TextAt}
 use Rattle.ion_value.specs.Name.{is_simple}
 use Rattle.ion_text_in.proofs.FeedHeads.{told-begins, token-word}
@@ -12,8 +13,8 @@ returns c =
     let some : 0 < a.next.told = omega (arith, told) in
     let begins = c.requires some in
     let word = c.in-Some.ensures in
-    let name : TextAt = record { text = c.front.result; simple = true; place = a.place } in
+    let name : TextAt = record { text = c.front.result; form = form.Bare; place = a.place } in
     named-start name c.behind_name.result
     (name-token (token-word c.behind.ensures word (told-begins begins (omega arith) told)) may-word
     (symbol-names a.limits a.place false name _ refl c.front.ensures))
-    (λ _. ap (λ (l : List ℕ). is_simple l) c.front.ensures ∙ word.simple) begins.some c.behind_name.ensures
+    (ap (λ (l : List ℕ). is_simple l) c.front.ensures ∙ word.simple) begins.some c.behind_name.ensures

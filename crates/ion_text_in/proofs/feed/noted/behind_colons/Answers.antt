@@ -11,7 +11,6 @@ returns c =
     let some = not-empty value.rest.now (sym c.is_empty.ensures ∙ c.if-is_empty.false) in
     record {
       two = colons.some refl;
-      same = colons.same refl;
       shown = colons.begins refl;
       passes = is.passes some;
       begins = next-begins is some;

@@ -1,15 +1,16 @@
-use Rattle.std.proofs.Common.{◌∙◌, ℕ, List, true, false, refl, ap}
+use Rattle.std.proofs.Common.{◌∙◌, ℕ, List, false, refl, ap}
+use Rattle.ion_value.specs.declared.form.Form.TheVariants as form
 use Rattle.ion_value.specs.declared.plain_item.TextAt.{TextAt}
 use Rattle.ion_value.specs.Name.{is_simple}
 use Rattle.ion_text_in.proofs.FeedHeads.{simple-free, token-word}
-use Rattle.ion_text_in.proofs.FeedNoted.{note-behind, stands-word, symbol-token}
+use Rattle.ion_text_in.proofs.FeedNoted.{note-behind, symbol-token}
 use Rattle.ion_text_in.proofs.feed.noted.noted.Goals as goal
 
 pub returns : goal.returns
 returns c =
     let a = c.args in
-    let note : TextAt = record { text = c.front.result; simple = true; place = a.place } in
+    let note : TextAt = record { text = c.front.result; form = form.Bare; place = a.place } in
     let word = c.requires.word in
     let simple = ap (λ (l : List ℕ). is_simple l) c.front.ensures ∙ word.simple in
     note-behind c.args.start c.behind_note.result (symbol-token false note refl c.front.ensures (token-word c.behind.ensures word c.requires.begins))
-    (λ _. simple) (λ two _. stands-word a.place a.count note a.start.next.rest.now c.behind.result.now refl c.front.ensures c.behind.ensures two) (simple-free c.front.result.now simple) c.behind_note.ensures
+    simple (simple-free c.front.result.now simple) c.behind_note.ensures

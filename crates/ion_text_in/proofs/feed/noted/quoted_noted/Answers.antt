@@ -1,5 +1,4 @@
 use Rattle.std.proofs.Common.{◌∙◌, List, ℕ, true, sym, ap}
-use Rattle.std.proofs.lemmas.Bool.{false≢true}
 use Rattle.std.specs.Prelude.{◌==◌}
 use Rattle.ion_value.specs.Digits.{first_is}
 use Rattle.ion_text_in.proofs.FeedHeads.{token-quoted}
@@ -10,4 +9,4 @@ pub returns : goal.returns
 returns c =
     let says = c.quoted_text.ensures in
     note-behind c.args.start c.behind_note.result (symbol-token true c.quoted_text.result says.place says.text (token-quoted c.in-Some.ensures c.requires))
-    says.says (λ _ simple. absurd (false≢true (sym says.plain ∙ simple))) (ap (λ (l : List ℕ). first_is (λ b. b == 36) l) says.text ∙ (sym c.begins_dollar.ensures ∙ c.if-begins_dollar.false)) c.behind_note.ensures
+    says.says (ap (λ (l : List ℕ). first_is (λ b. b == 36) l) says.text ∙ (sym c.begins_dollar.ensures ∙ c.if-begins_dollar.false)) c.behind_note.ensures

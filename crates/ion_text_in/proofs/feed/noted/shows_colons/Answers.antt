@@ -1,12 +1,6 @@
 use Rattle.std.proofs.Common.{◌≤◌, length, arith}
-use Rattle.ion_text_in.proofs.FeedNoted.{colons-begin, colons-same}
+use Rattle.ion_text_in.proofs.FeedNoted.{colons-begin}
 use Rattle.ion_text_in.proofs.feed.noted.shows_colons.Goals as goal
-
-pub returns-clause-same : goal.returns-clause-same
-returns-clause-same c _ =
-    let bytes = c.args.bytes.now in
-    let two : 2 ≤ length bytes = grind (arith, c.if-bytes-lt2.false) in
-    colons-same bytes two (grind (arith, c.if-bytes-ne58.false)) (grind (arith, c.if-bytes-ne58-2.false))
 
 pub returns-clause-begins : goal.returns-clause-begins
 returns-clause-begins c _ =

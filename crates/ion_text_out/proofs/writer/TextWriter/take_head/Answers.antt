@@ -1,12 +1,11 @@
 use Rattle.std.proofs.Common.{refl, ap, subst, length, arith}
 use Rattle.std.proofs.lemmas.Grind.{common_steps}
-use Rattle.std.specs.Prelude.{IfSome}
 use Rattle.ion_value.specs.Items.{raw_head, symbol_at}
-use Rattle.ion_value.specs.PlainItems.{IsTextOf}
 use Rattle.ion_value.specs.Value as value
 use Rattle.ion_value.specs.Value.{Head, SymbolAt}
 use Rattle.ion_text_out.specs.Writing.{HasRoom}
-use Rattle.ion_text_out.proofs.Taken.{begin_taken, end_taken, scalar_taken, spelled_taken}
+use Rattle.ion_text_out.proofs.Taken.{begin_taken, end_taken, quoted_taken, scalar_taken, spelled_taken}
+use Rattle.ion_text_out.proofs.Plain.{quoted_body}
 use Rattle.ion_text_out.proofs.writer.TextWriter.take_head.Goals as goal
 
 pub take_begin-requires-clause-deep : goal.take_begin-requires-clause-deep
@@ -36,15 +35,20 @@ pub returns-in-String : goal.returns-in-String
 returns-in-String g c = scalar_taken (raw_head c.args.head) (value.string c.in-String.text.now) c.requires.can_step c.take_string.ensures (ap raw_head c.in-String.is) refl
 
 pub returns-in-Begin : goal.returns-in-Begin
-returns-in-Begin g c = begin_taken _ _ (raw_head c.args.head) c.in-Begin.kind (ap raw_head c.in-Begin.is) c.take_begin.ensures
+returns-in-Begin g c = begin_taken c.args.name.now c.args.note.now (raw_head c.args.head) c.in-Begin.kind (ap raw_head c.in-Begin.is) c.take_begin.ensures
 
 pub returns-in-End : goal.returns-in-End
 returns-in-End g c = end_taken _ (raw_head c.args.head) (ap raw_head c.in-End.is) c.take_end.ensures
 
-pub returns-in-Some : goal.returns-in-Some
-returns-in-Some g c =
-    let spelled : IfSome c.args.spelled (λ text. IsTextOf text.now (raw_head c.args.head)) = c.requires.spelled in
-    spelled_taken (raw_head c.args.head) c.requires.can_step c.take_text.ensures (rw c.in-Some.is at spelled)
+pub returns-in-Bare : goal.returns-in-Bare
+returns-in-Bare g c = spelled_taken (raw_head c.args.head) c.requires.can_step c.take_text.ensures (rw (c.in-Some.is, c.in-Bare.is) at c.requires.spelled)
+
+pub take_quoted-requires : goal.take_quoted-requires
+take_quoted-requires g c = (quoted_body c.in-Some.found.text.now (raw_head c.args.head) (rw (c.in-Some.is, c.in-Quoted.is) at c.requires.spelled)).3
+
+pub returns-in-Quoted : goal.returns-in-Quoted
+returns-in-Quoted g c =
+    quoted_taken c.in-Some.found.text.now (raw_head c.args.head) c.requires.can_step c.take_quoted.ensures (rw (c.in-Some.is, c.in-Quoted.is) at c.requires.spelled)
 
 pub returns-in_default-head : goal.returns-in_default-head
 returns-in_default-head g c = grind (arith, common_steps)

@@ -1,0 +1,34 @@
+//! How symbols are written in canonical text.
+ghost use Rattle.std.specs.Prelude.{◌≡◌};
+
+/// How the text of a symbol is written in canonical text, as far as that is known.
+#[derive(Clone, Copy, Debug, PartialEq, Eq)]
+pub enum Form {
+    /// As it stands: an identifier that means nothing else and does not begin with a dollar sign.
+    Bare,
+    /// As it stands between quotes: no identifier that means nothing else, and no byte has an escape.
+    Quoted,
+    /// Nothing is known.
+    Any,
+}
+
+/// A text and how it is written.
+#[derive(Clone, Copy, Debug, PartialEq, Eq)]
+pub struct FormedText<'a> {
+    /// The bytes of the text in UTF-8.
+    pub text: &'a [u8],
+    /// How it is written.
+    pub form: Form,
+}
+
+/// A text that is written as it stands.
+#[inline(always)]
+pub fn bare(text: &[u8]) -> FormedText<'_>
+    ensures text { result.text.now ≡ text.now }
+    ensures form { result.form ≡ Form.Bare }
+{
+    FormedText {
+        text,
+        form: Form::Bare,
+    }
+}

@@ -35,7 +35,7 @@ use Rattle.ion_value.specs.Feeding.{Hands}
 use Rattle.ion_value.specs.Items.{named_at, named_item, raw_head}
 use Rattle.ion_value.specs.Outcome.{one_if_closed}
 use Rattle.ion_value.specs.PlainItems as PlainItems
-use Rattle.ion_value.specs.PlainItems.{HasKnownName, HaveNoDollar, IsPlainItem, IsRightlyFormed, StandsBehind, placed_text, with_second}
+use Rattle.ion_value.specs.PlainItems.{HasKnownName, HaveNoDollar, IsPlainItem, IsRightlyQuoted, StandsBehind, placed_text, with_second}
 use Rattle.ion_value.specs.Reading.{Reading}
 use Rattle.ion_value.specs.Standing.{Continues, HasAnnotations, HasPlace, InRange, has_field, is_marker, open_after, open_behind}
 use Rattle.ion_value.specs.Value.{Head, Scalar, Symbol, map_head, map_scalar}
@@ -108,12 +108,12 @@ shown-known (Some t) = tt
 
 -- a field whose id has a text
 pub shows_named : (texts : ℕ → Option (List ℕ)) (octets : List ℕ) (here : ℕ) (f : frame.Frame) (id behind : ℕ) (t : TextAt) → f.kind ≡ kind.Struct → ShowsVar octets 0 behind id
-    → texts (raw_id id) ≡ Some t.text.now → IsRightlyFormed t → t.place ≡ here → ShowsField texts octets here (innermost (Some f)) (Some t) behind
-shows_named texts octets here f id behind t struct v has formed at = record {
+    → texts (raw_id id) ≡ Some t.text.now → IsRightlyQuoted t → t.place ≡ here → ShowsField texts octets here (innermost (Some f)) (Some t) behind
+shows_named texts octets here f id behind t struct v has quoted at = record {
   raw = Some (symbol_id id here);
   within = v.within;
   named = rw (has, at) refl;
-  formed = formed;
+  quoted = quoted;
   there = rw struct refl;
   gives = λ more reaches. named_field f (window here octets more) (skip behind (window here octets more)) struct
       (ap (var_uint_at (Some f.end)) (sym (skip-none here octets more)) ∙ v.gives here more (Some f.end) reaches);
@@ -127,7 +127,7 @@ front_bare texts limits octets here frames field at name = record {
   raws = [];
   named = refl;
   free = tt;
-  formed = tt;
+  quoted = tt;
   second = tt;
   within = name.within;
   gives = λ depth behind found v full. shows_plain limits octets here (region_of frames) depth at behind found v;
@@ -147,11 +147,11 @@ module _ (texts : ℕ → Option (List ℕ)) (here id from : ℕ) (t : TextAt) (
   notes-free (Some s) None m = absurd m
   notes-free (Some s) (Some u) m = (n.free, (m.free, tt))
 
-second-formed : (texts : ℕ → Option (List ℕ)) (here : ℕ) (t : TextAt) (second : Option (ℕ × ℕ)) (u : Option TextAt) → IsSecondNote texts here second u → IfSome u (StandsBehind (Some t))
-second-formed texts here t None None m = tt
-second-formed texts here t None (Some u) m = absurd m
-second-formed texts here t (Some s) None m = absurd m
-second-formed texts here t (Some s) (Some u) m = m.formed
+second-quoted : (texts : ℕ → Option (List ℕ)) (here : ℕ) (t : TextAt) (second : Option (ℕ × ℕ)) (u : Option TextAt) → IsSecondNote texts here second u → IfSome u (StandsBehind (Some t))
+second-quoted texts here t None None m = tt
+second-quoted texts here t None (Some u) m = absurd m
+second-quoted texts here t (Some s) None m = absurd m
+second-quoted texts here t (Some s) (Some u) m = m.quoted
 
 -- a wrapper whose one id or two have texts without a dollar sign in front
 pub front_noted : (texts : ℕ → Option (List ℕ)) (limits : Limits) (octets : List ℕ) (here : ℕ) (frames : List Frame) (field : Option TextAt) (at : ℕ) (note : ShownNote) (t : TextAt) (u : Option TextAt)
@@ -162,8 +162,8 @@ front_noted texts limits octets here frames field at note t u name n first secon
   raws = noted_ids here note;
   named = notes-named texts here note.id note.from t first note.second u second;
   free = notes-free texts here note.id note.from t first note.second u second;
-  formed = first.formed;
-  second = second-formed texts here t note.second u second;
+  quoted = first.quoted;
+  second = second-quoted texts here t note.second u second;
   within = n.within;
   gives = λ depth behind found v full. shows_noted limits octets here (region_of frames) depth at behind note found n v full;
 }

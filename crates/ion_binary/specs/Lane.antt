@@ -14,7 +14,7 @@ use Rattle.ion_value.specs.declared.plain_item.TextAt.{TextAt}
 use Rattle.ion_value.specs.Items.{named_at}
 use Rattle.ion_value.specs.Digits.{first_is}
 use Rattle.ion_value.specs.Name.{raw_id}
-use Rattle.ion_value.specs.PlainItems.{HaveNoDollar, IsRightlyFormed, StandsBehind, listed, placed_text, with_second}
+use Rattle.ion_value.specs.PlainItems.{HaveNoDollar, IsRightlyQuoted, StandsBehind, listed, placed_text, with_second}
 use Rattle.ion_value.specs.Standing.{in_struct}
 use Rattle.ion_value.specs.Value.{PlacedItem, SymbolAt}
 use Rattle.ion_binary.specs.declared.wrapper.Frame as frame
@@ -106,7 +106,7 @@ pub record ShowsField (texts : ℕ → Option (List ℕ)) (octets : List ℕ) (h
   pub raw : Option SymbolAt
   pub within : behind ≤ length octets
   pub named : option_map (named_at texts) raw ≡ option_map placed_text field
-  pub formed : IfSome field IsRightlyFormed
+  pub quoted : IfSome field IsRightlyQuoted
   pub there : is_some field ≡ in_struct (map (λ f. f.kind) frames)
   pub gives : (more : List ℕ) → Reaches (region_of frames) (here + behind) → field_at frames (window here octets more) ≡ Ok (raw, skip behind (window here octets more))
 
@@ -125,7 +125,7 @@ pub record IsNote (texts : ℕ → Option (List ℕ)) (id place : ℕ) (t : Text
   pub has : texts (raw_id id) ≡ Some t.text.now
   pub stands : t.place ≡ place
   pub free : first_is (λ b. b == 36) t.text.now ≡ false
-  pub formed : IsRightlyFormed t
+  pub quoted : IsRightlyQuoted t
 
 -- so is that of a second one, if there is one
 abbrev pub IsSecondNote : (ℕ → Option (List ℕ)) → ℕ → Option (ℕ × ℕ) → Option TextAt → Type 0
@@ -144,7 +144,7 @@ pub record ShowsFront (texts : ℕ → Option (List ℕ)) (limits : Limits) (oct
   pub raws : List SymbolAt
   pub named : map (named_at texts) raws ≡ notes_of f
   pub free : HaveNoDollar (notes_of f)
-  pub formed : IfSome f.annotation IsRightlyFormed
+  pub quoted : IfSome f.annotation IsRightlyQuoted
   pub second : IfSome f.second (StandsBehind f.annotation)
   pub within : f.head ≤ length octets
   pub gives : (depth behind : ℕ) (found : Shown) → ShowsValue limits octets here (inner_region f.wrapper (region_of frames)) depth f.head behind found

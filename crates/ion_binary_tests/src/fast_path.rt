@@ -1,7 +1,7 @@
 //! Which items a run hands on from its window, and which it puts one at a time.
 //!
 //! No clause says that `feed` hands on anything, that `take_plain` takes anything, or that
-//! `formed_text` knows a form, and without them a run gives what it gives with them, in many times
+//! `name_text` knows a quoting, and without them a run gives what it gives with them, in many times
 //! the time. So a table says of each kind of item how many are put one at a time today.
 ghost use Rattle.std.specs.Prelude.{◌≡◌, ◌+◌, ◌≤◌, [], None, true};
 ghost use Rattle.ion_meter.specs.Limits.{AreChecked};

@@ -2,7 +2,7 @@
 ghost use Rattle.std.specs.Prelude.{◌≡◌, ◌==◌, ◌+◌, List, [], true, false, None, IfSome};
 ghost use Rattle.ion_value.specs.Digits.{first_is};
 ghost use Rattle.ion_value.specs.Items.{raw_head};
-ghost use Rattle.ion_value.specs.PlainItems.{HasNoDollar, IsKnownHead, IsPlainItem, IsRightlyFormed, IsSpelled, SaysRightly, placed_item};
+ghost use Rattle.ion_value.specs.PlainItems.{HasNoDollar, IsKnownHead, IsPlainItem, IsRightlyQuoted, IsSpelled, SaysRightly, placed_item};
 ghost use Rattle.ion_value.specs.Standing.{Fits, HeadInRange, is_marker, open_behind};
 ghost use Rattle.ion_value.specs.Value.{PlacedItem, Text};
 
@@ -12,7 +12,7 @@ use crate::written::{FIELDS, Step, TEXTS, go_on};
 use ion_meter::device::Output;
 use ion_meter::meter::Meter;
 use ion_meter::sink::Sink;
-use ion_value::form::Form;
+use ion_value::quoting::Quoting;
 use ion_value::ion_type::Kind;
 use ion_value::item::{Annotation, Head, Sym};
 use ion_value::plain_item::{PlainItem, TextAt};
@@ -56,12 +56,12 @@ pub fn plain_of<'a>(
 
 // The field of an item.
 fn field_of(field: Option<&[u8]>, place: u64) -> Option<TextAt<'_>>
-    ensures { IfSome result IsRightlyFormed }
+    ensures { IfSome result IsRightlyQuoted }
 {
     let text = field?;
     Some(TextAt {
         text,
-        form: Form::Any,
+        quoting: Quoting::Any,
         place: place.saturating_add(FIELDS),
     })
 }
@@ -79,7 +79,7 @@ fn is_known(head: Head<'_>) -> bool
 
 // No annotation, or the only one, where it is a text without a dollar sign in front.
 fn only_note(annotations: &[Annotation]) -> Option<Option<TextAt<'static>>>
-    ensures said { IfSome result (λ a. IfSome a IsRightlyFormed) }
+    ensures said { IfSome result (λ a. IfSome a IsRightlyQuoted) }
     ensures plain { IfSome result (λ a. IfSome a (λ t. HasNoDollar (Text t.text.now))) }
 {
     match annotations {
@@ -94,7 +94,7 @@ fn only_note(annotations: &[Annotation]) -> Option<Option<TextAt<'static>>>
 
 // An annotation that is a text without a dollar sign in front.
 fn note_of(annotation: &Annotation) -> Option<TextAt<'static>>
-    ensures said { IfSome result IsRightlyFormed }
+    ensures said { IfSome result IsRightlyQuoted }
     ensures plain { IfSome result (λ t. HasNoDollar (Text t.text.now)) }
 {
     let Annotation::Text { from, to, place } = *annotation else {
@@ -106,7 +106,7 @@ fn note_of(annotation: &Annotation) -> Option<TextAt<'static>>
     }
     Some(TextAt {
         text,
-        form: Form::Any,
+        quoting: Quoting::Any,
         place,
     })
 }

@@ -3,12 +3,12 @@ use Rattle.std.proofs.Common.{◌≡◌, ℕ, zero, suc, ◌+◌, ◌-◌, ◌*�
 use Rattle.std.proofs.lemmas.List.{drop-append-le, map-append, take-append-le}
 use Rattle.std.proofs.lemmas.Bool.{false≢true}
 use Rattle.std.proofs.Math.Seq.{drop-append_seam, take-length}
-use Rattle.ion_value.specs.Name.{form_of, is_plain, is_simple, is_own_in_quotes, IsFormedAs}
+use Rattle.ion_value.specs.Name.{quoting_of, is_plain, is_simple, is_own_in_quotes, IsQuotedAs}
 use Rattle.ion_value.specs.Digits.{all_are}
-use Rattle.ion_value.specs.declared.form.Form.{Form}
-use Rattle.ion_value.specs.declared.form.Form.TheVariants.{Bare, Quoted, Any}
+use Rattle.ion_value.specs.declared.quoting.Quoting.{Quoting}
+use Rattle.ion_value.specs.declared.quoting.Quoting.TheVariants.{Bare, Quoted, Any}
 use Rattle.ion_symbols.specs.Table.{slots_cost, text_length}
-use Rattle.ion_symbols.specs.Kept.{kept_slot, kept_slots, slot_form, AreMarked, Tiles}
+use Rattle.ion_symbols.specs.Kept.{kept_slot, kept_slots, slot_quoting, AreMarked, Tiles}
 use Rattle.ion_symbols.specs.declared.slots.Part.{Part}
 
 pub tiles_within : (from : ℕ) (ps : List Part) (len : ℕ) → Tiles from ps len → from ≤ len
@@ -68,9 +68,9 @@ last_part texts t =
     ap (take ((length texts + length t) - length texts)) (drop-append_seam texts t) ∙ (ap (λ k. take k t) n ∙ take-length t)
 
 -- a slot with a text more
-pub kept_push : (texts t : List ℕ) (ps : List Part) (m : Form) → Tiles 0 ps (length texts) → kept_slots (texts ++ t) (ps ++ record { from = length texts; to = length texts + length t; known = true; form = m } ∷ []) ≡ kept_slots texts ps ++ Some t ∷ []
+pub kept_push : (texts t : List ℕ) (ps : List Part) (m : Quoting) → Tiles 0 ps (length texts) → kept_slots (texts ++ t) (ps ++ record { from = length texts; to = length texts + length t; known = true; quoting = m } ∷ []) ≡ kept_slots texts ps ++ Some t ∷ []
 kept_push texts t ps m h =
-    kept_append (texts ++ t) ps (record { from = length texts; to = length texts + length t; known = true; form = m } ∷ [])
+    kept_append (texts ++ t) ps (record { from = length texts; to = length texts + length t; known = true; quoting = m } ∷ [])
     ∙ (let a = kept_more texts t 0 ps (length texts) h (omega arith) in let b = last_part texts t in cc)
 
 pub cost_append : (xs ys : List (Option (List ℕ))) → slots_cost (xs ++ ys) ≡ slots_cost xs + slots_cost ys
@@ -86,82 +86,82 @@ kept_count texts [] = refl
 kept_count texts (p ∷ ps) = ap suc (kept_count texts ps)
 
 -- what a push of a text leaves: the parts tile the longer texts, and there is one slot more
-pub pushed_tiles : (texts t texts2 : List ℕ) (ps ps2 : List Part) (from : ℕ) (m : Form) → Tiles 0 ps (length texts) → from ≡ length texts → ps2 ≡ ps ++ record { from = from; to = from + length t; known = true; form = m } ∷ [] → texts2 ≡ texts ++ t → Tiles 0 ps2 (length texts2)
+pub pushed_tiles : (texts t texts2 : List ℕ) (ps ps2 : List Part) (from : ℕ) (m : Quoting) → Tiles 0 ps (length texts) → from ≡ length texts → ps2 ≡ ps ++ record { from = from; to = from + length t; known = true; quoting = m } ∷ [] → texts2 ≡ texts ++ t → Tiles 0 ps2 (length texts2)
 pushed_tiles texts t texts2 ps ps2 from m h f p q =
     let n : from + length t ≡ length texts2 = sym (ap length q ∙ (length-append texts t ∙ ap (λ k. k + length t) (sym f))) in
     subst (λ k. Tiles 0 ps2 k) n
     (subst (λ xs. Tiles 0 xs (from + length t)) (sym p)
-    (tiles_push 0 ps (length texts) (record { from = from; to = from + length t; known = true; form = m }) h f (omega (arith, f)) (λ u. absurd (no u))))
+    (tiles_push 0 ps (length texts) (record { from = from; to = from + length t; known = true; quoting = m }) h f (omega (arith, f)) (λ u. absurd (no u))))
   where
     no : true ≡ false → ⊥
     no e = false≢true (sym e)
 
-pub pushed_kept : (texts t texts2 : List ℕ) (ps ps2 : List Part) (from : ℕ) (m : Form) → Tiles 0 ps (length texts) → from ≡ length texts → ps2 ≡ ps ++ record { from = from; to = from + length t; known = true; form = m } ∷ [] → texts2 ≡ texts ++ t → kept_slots texts2 ps2 ≡ kept_slots texts ps ++ Some t ∷ []
+pub pushed_kept : (texts t texts2 : List ℕ) (ps ps2 : List Part) (from : ℕ) (m : Quoting) → Tiles 0 ps (length texts) → from ≡ length texts → ps2 ≡ ps ++ record { from = from; to = from + length t; known = true; quoting = m } ∷ [] → texts2 ≡ texts ++ t → kept_slots texts2 ps2 ≡ kept_slots texts ps ++ Some t ∷ []
 pushed_kept texts t texts2 ps ps2 from m h f p q = let k = kept_push texts t ps m h in rw (p, q, f) k
 
 -- a slot without one more
-pub kept_push_none : (texts : List ℕ) (ps ps2 : List Part) (from : ℕ) → ps2 ≡ ps ++ record { from = from; to = from; known = false; form = Any } ∷ [] → kept_slots texts ps2 ≡ kept_slots texts ps ++ None ∷ []
-kept_push_none texts ps ps2 from e = ap (kept_slots texts) e ∙ kept_append texts ps (record { from = from; to = from; known = false; form = Any } ∷ [])
+pub kept_push_none : (texts : List ℕ) (ps ps2 : List Part) (from : ℕ) → ps2 ≡ ps ++ record { from = from; to = from; known = false; quoting = Any } ∷ [] → kept_slots texts ps2 ≡ kept_slots texts ps ++ None ∷ []
+kept_push_none texts ps ps2 from e = ap (kept_slots texts) e ∙ kept_append texts ps (record { from = from; to = from; known = false; quoting = Any } ∷ [])
 
 -- ---- how texts are written
 
 -- slots more, whose parts say it too
 pub marked_append : (texts1 texts2 texts : List ℕ) (ps qs ns : List Part) → AreMarked texts1 ps → AreMarked texts2 qs
-    → map (λ (p : Part). p.form) ns ≡ map (λ (p : Part). p.form) ps ++ map (λ (p : Part). p.form) qs
+    → map (λ (p : Part). p.quoting) ns ≡ map (λ (p : Part). p.quoting) ps ++ map (λ (p : Part). p.quoting) qs
     → kept_slots texts ns ≡ kept_slots texts1 ps ++ kept_slots texts2 qs → AreMarked texts ns
 marked_append texts1 texts2 texts ps qs ns h k e f =
     e
-    ∙ (ap (λ (l : List Form). l ++ map (λ (p : Part). p.form) qs) h
-    ∙ (ap (λ (l : List Form). map slot_form (kept_slots texts1 ps) ++ l) k
-    ∙ (sym (map-append slot_form (kept_slots texts1 ps) (kept_slots texts2 qs)) ∙ ap (map slot_form) (sym f))))
+    ∙ (ap (λ (l : List Quoting). l ++ map (λ (p : Part). p.quoting) qs) h
+    ∙ (ap (λ (l : List Quoting). map slot_quoting (kept_slots texts1 ps) ++ l) k
+    ∙ (sym (map-append slot_quoting (kept_slots texts1 ps) (kept_slots texts2 qs)) ∙ ap (map slot_quoting) (sym f))))
 
 -- a slot more
 pub marked_push : (texts1 texts : List ℕ) (ps ns : List Part) (p : Part) (slot : Option (List ℕ)) → AreMarked texts1 ps → ns ≡ ps ++ p ∷ []
-    → kept_slots texts ns ≡ kept_slots texts1 ps ++ slot ∷ [] → p.form ≡ slot_form slot → AreMarked texts ns
+    → kept_slots texts ns ≡ kept_slots texts1 ps ++ slot ∷ [] → p.quoting ≡ slot_quoting slot → AreMarked texts ns
 marked_push texts1 texts ps ns p slot h e f m =
-    ap (map (λ (q : Part). q.form)) e
-    ∙ (map-append (λ (q : Part). q.form) ps (p ∷ [])
-    ∙ (ap (λ (l : List Form). l ++ p.form ∷ []) h
-    ∙ (ap (λ (b : Form). map slot_form (kept_slots texts1 ps) ++ b ∷ []) m
-    ∙ (sym (map-append slot_form (kept_slots texts1 ps) (slot ∷ [])) ∙ ap (map slot_form) (sym f)))))
+    ap (map (λ (q : Part). q.quoting)) e
+    ∙ (map-append (λ (q : Part). q.quoting) ps (p ∷ [])
+    ∙ (ap (λ (l : List Quoting). l ++ p.quoting ∷ []) h
+    ∙ (ap (λ (b : Quoting). map slot_quoting (kept_slots texts1 ps) ++ b ∷ []) m
+    ∙ (sym (map-append slot_quoting (kept_slots texts1 ps) (slot ∷ [])) ∙ ap (map slot_quoting) (sym f)))))
 
--- what the form of a text says of it
-formed_by : (t : List ℕ) (s p q : Bool) → is_simple t ≡ s → is_plain t ≡ p → all_are is_own_in_quotes t ≡ q
-    → IsFormedAs (if s then Bare else (if p || not q then Any else Quoted)) t
-formed_by t true p q a b c = a
-formed_by t false true q a b c = tt
-formed_by t false false true a b c = (b, c)
-formed_by t false false false a b c = tt
+-- what the quoting of a text says of it
+quoted_by : (t : List ℕ) (s p q : Bool) → is_simple t ≡ s → is_plain t ≡ p → all_are is_own_in_quotes t ≡ q
+    → IsQuotedAs (if s then Bare else (if p || not q then Any else Quoted)) t
+quoted_by t true p q a b c = a
+quoted_by t false true q a b c = tt
+quoted_by t false false true a b c = (b, c)
+quoted_by t false false false a b c = tt
 
-pub is_formed : (t : List ℕ) → IsFormedAs (form_of t) t
-is_formed t = formed_by t (is_simple t) (is_plain t) (all_are is_own_in_quotes t) refl refl refl
+pub is_quoted : (t : List ℕ) → IsQuotedAs (quoting_of t) t
+is_quoted t = quoted_by t (is_simple t) (is_plain t) (all_are is_own_in_quotes t) refl refl refl
 
 -- the text of a slot with one
-pub known_told : (t : List ℕ) (k : Bool) (f : Form) → f ≡ slot_form (if k then Some t else None) → k ≡ true → ((if k then Some t else None) ≡ Some t) × IsFormedAs f t
-known_told t true f e u = (refl, subst (λ g. IsFormedAs g t) (sym e) (is_formed t))
+pub known_told : (t : List ℕ) (k : Bool) (f : Quoting) → f ≡ slot_quoting (if k then Some t else None) → k ≡ true → ((if k then Some t else None) ≡ Some t) × IsQuotedAs f t
+known_told t true f e u = (refl, subst (λ g. IsQuotedAs g t) (sym e) (is_quoted t))
 known_told t false f e u = absurd (false≢true u)
 
 -- one that is bare has a text
-pub bare_told : (t : List ℕ) (k : Bool) → Bare ≡ slot_form (if k then Some t else None) → ((if k then Some t else None) ≡ Some t) × IsFormedAs Bare t
+pub bare_told : (t : List ℕ) (k : Bool) → Bare ≡ slot_quoting (if k then Some t else None) → ((if k then Some t else None) ≡ Some t) × IsQuotedAs Bare t
 bare_told t true e = known_told t true Bare e refl
 bare_told t false e = absurd (cc e)
 
 -- what stands past the last part
 abbrev pub no_part : Part
-no_part = record { from = 0; to = 0; known = false; form = Bare }
+no_part = record { from = 0; to = 0; known = false; quoting = Bare }
 
 -- the part that stands at an index, and its slot
 pub part_at : (texts : List ℕ) (ps : List Part) (i : ℕ) (d : Part) → AreMarked texts ps → i < length ps
-    → (slice_get (kept_slots texts ps) i ≡ Some (kept_slot texts (slice_index_or ps i d))) × ((slice_index_or ps i d).form ≡ slot_form (kept_slot texts (slice_index_or ps i d)))
+    → (slice_get (kept_slots texts ps) i ≡ Some (kept_slot texts (slice_index_or ps i d))) × ((slice_index_or ps i d).quoting ≡ slot_quoting (kept_slot texts (slice_index_or ps i d)))
 part_at texts [] i d h k = absurd (omega (arith, k))
-part_at texts (p ∷ ps) zero d h k = (refl, ap (λ (l : List Form). slice_index_or l 0 Any) h)
-part_at texts (p ∷ ps) (suc i) d h k = part_at texts ps i d (ap (λ (l : List Form). drop 1 l) h) (omega (arith, k))
+part_at texts (p ∷ ps) zero d h k = (refl, ap (λ (l : List Quoting). slice_index_or l 0 Any) h)
+part_at texts (p ∷ ps) (suc i) d h k = part_at texts ps i d (ap (λ (l : List Quoting). drop 1 l) h) (omega (arith, k))
 
 pub record StandsAt (texts : List ℕ) (now : List (Option (List ℕ))) (i : ℕ) (p : Part) : Type 0 where
   pub begins : p.from ≤ p.to
   pub ends : p.to ≤ length texts
   pub slot : slice_get now i ≡ Some (kept_slot texts p)
-  pub written : p.form ≡ slot_form (kept_slot texts p)
+  pub written : p.quoting ≡ slot_quoting (kept_slot texts p)
 
 pub stands_at : (texts : List ℕ) (ps lent : List Part) (now : List (Option (List ℕ))) (i : ℕ) → Tiles 0 ps (length texts) × AreMarked texts ps
     → kept_slots texts ps ≡ now → lent ≡ ps → i < length lent → StandsAt texts now i (slice_index_or lent i no_part)

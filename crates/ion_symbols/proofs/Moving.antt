@@ -2,7 +2,7 @@
 use Rattle.std.proofs.Common.{◌≡◌, ℕ, suc, ◌+◌, ◌-◌, ◌*◌, Bool, true, false, if◌then◌else◌, List, [], ◌∷◌, ◌++◌, length, take, drop, map, Option, Some, None, refl, ap, sym, subst, ◌∙◌, arith, length-append}
 use Rattle.std.proofs.lemmas.List.{map-append}
 use Rattle.ion_meter.specs.Counts.{Counts, Grows, Shrinks}
-use Rattle.ion_value.specs.declared.form.Form.{Form}
+use Rattle.ion_value.specs.declared.quoting.Quoting.{Quoting}
 use Rattle.ion_symbols.specs.Table.{slots_cost}
 use Rattle.ion_symbols.specs.Kept.{AreMarked, kept_slot, kept_slots, Tiles, moved, IsUndone}
 use Rattle.ion_symbols.specs.declared.slots.Part.{Part}
@@ -75,18 +75,18 @@ appended_kept t1 t2 t ps qs ns base h b e f =
     ∙ (ap (λ xs. xs ++ kept_slots (t1 ++ t2) (map (moved (length t1)) qs)) (kept_more t1 t2 0 ps (length t1) h (omega arith))
     ∙ ap (λ xs. kept_slots t1 ps ++ xs) (kept_moved t1 t2 qs)))))
 
-moved_marks : (base : ℕ) (qs : List Part) → map (λ (p : Part). p.form) (map (moved base) qs) ≡ map (λ (p : Part). p.form) qs
+moved_marks : (base : ℕ) (qs : List Part) → map (λ (p : Part). p.quoting) (map (moved base) qs) ≡ map (λ (p : Part). p.quoting) qs
 moved_marks base [] = refl
-moved_marks base (q ∷ qs) = ap (λ (l : List Form). q.form ∷ l) (moved_marks base qs)
+moved_marks base (q ∷ qs) = ap (λ (l : List Quoting). q.quoting ∷ l) (moved_marks base qs)
 
 -- and each part says how its text is written
 pub appended_marked : (t1 t2 t : List ℕ) (ps qs ns : List Part) (base : ℕ) → Tiles 0 ps (length t1) → AreMarked t1 ps → AreMarked t2 qs → base ≡ length t1 →
     t ≡ t1 ++ t2 → ns ≡ ps ++ map (moved base) qs → AreMarked t ns
 appended_marked t1 t2 t ps qs ns base h j k b e f =
     marked_append t1 t2 t ps qs ns j k
-    (ap (map (λ (p : Part). p.form)) f
-    ∙ (map-append (λ (p : Part). p.form) ps (map (moved base) qs)
-    ∙ ap (λ (l : List Form). map (λ (p : Part). p.form) ps ++ l) (moved_marks base qs)))
+    (ap (map (λ (p : Part). p.quoting)) f
+    ∙ (map-append (λ (p : Part). p.quoting) ps (map (moved base) qs)
+    ∙ ap (λ (l : List Quoting). map (λ (p : Part). p.quoting) ps ++ l) (moved_marks base qs)))
     (appended_kept t1 t2 t ps qs ns base h b e f)
 
 -- ---- what it costs

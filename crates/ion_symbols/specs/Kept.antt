@@ -1,10 +1,10 @@
 -- How slots are kept: the bytes of their texts, and where each stands; and how a growth is undone.
 use Rattle.std.specs.Prelude.{◌≡◌, ℕ, ◌+◌, ◌-◌, ◌^◌, ◌<◌, ◌≤◌, false, if◌then◌else◌, List, [], ◌∷◌, take, drop, map, Option, Some, None, MatchOption, max}
 use Rattle.ion_meter.specs.Counts.{Counts}
-use Rattle.ion_value.specs.Name.{form_of, IsFormedAs}
-use Rattle.ion_value.specs.declared.form.Form.{Form}
-use Rattle.ion_value.specs.declared.form.Form.TheVariants.{Any}
-use Rattle.ion_value.specs.declared.form.FormedText.{FormedText}
+use Rattle.ion_value.specs.Name.{quoting_of, IsQuotedAs}
+use Rattle.ion_value.specs.declared.quoting.Quoting.{Quoting}
+use Rattle.ion_value.specs.declared.quoting.Quoting.TheVariants.{Any}
+use Rattle.ion_value.specs.declared.quoting.NameText.{NameText}
 use Rattle.ion_symbols.specs.Table.{Slots}
 use Rattle.ion_symbols.specs.declared.slots.Part.{Part}
 
@@ -22,17 +22,17 @@ Tiles from [] length = from ≡ length
 Tiles from (p ∷ ps) length = (p.from ≡ from) × ((from ≤ p.to) × ((p.known ≡ false → p.to ≡ from) × Tiles p.to ps length))
 
 -- how the text of a slot is written, if it has one
-abbrev pub slot_form : Option (List ℕ) → Form
-slot_form None = Any
-slot_form (Some text) = form_of text
+abbrev pub slot_quoting : Option (List ℕ) → Quoting
+slot_quoting None = Any
+slot_quoting (Some text) = quoting_of text
 
 -- each part says how the text of its slot is written
 abbrev pub AreMarked : List ℕ → List Part → Type 0
-AreMarked texts parts = map (λ p. p.form) parts ≡ map slot_form (kept_slots texts parts)
+AreMarked texts parts = map (λ p. p.quoting) parts ≡ map slot_quoting (kept_slots texts parts)
 
 -- a part whose text stands so many bytes further on
 abbrev pub moved : ℕ → Part → Part
-moved base p = record { from = base + p.from; to = base + p.to; known = p.known; form = p.form }
+moved base p = record { from = base + p.from; to = base + p.to; known = p.known; quoting = p.quoting }
 
 -- a growth of some cost can be tried
 pub record CanGrow (cost : ℕ) (meter : Counts) : Type 0 where
@@ -58,6 +58,6 @@ abbrev pub text_in : Option (Option (List ℕ)) → Option (List ℕ)
 text_in None = None
 text_in (Some text) = text
 
--- an answer is a text and a form that it has, or none where there is no text
-abbrev pub IsFormed : Option FormedText → Option (List ℕ) → Type 0
-IsFormed answer text = MatchOption answer (text ≡ None) (λ t. (text ≡ Some t.text.now) × IsFormedAs t.form t.text.now)
+-- an answer is a text and a quoting that it has, or none where there is no text
+abbrev pub IsNameText : Option NameText → Option (List ℕ) → Type 0
+IsNameText answer text = MatchOption answer (text ≡ None) (λ t. (text ≡ Some t.text.now) × IsQuotedAs t.quoting t.text.now)

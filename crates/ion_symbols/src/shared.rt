@@ -4,7 +4,7 @@ ghost use Rattle.ion_meter.specs.declared.fault.Fault.TheVariants.{Memory};
 ghost use Rattle.ion_meter.specs.Counts.{Grows, Shrinks};
 ghost use Rattle.ion_value.specs.Items.{is_none_left};
 ghost use Rattle.ion_symbols.specs.Table.{shared_cost, text_length};
-ghost use Rattle.ion_symbols.specs.Kept.{IsFormed, IsUndone, Renames, text_in};
+ghost use Rattle.ion_symbols.specs.Kept.{IsNameText, IsUndone, Renames, text_in};
 ghost use Rattle.ion_symbols.specs.CatalogItems.{blank};
 ghost use Rattle.ion_symbols.specs.UserValues.{SlotsAreText};
 
@@ -12,7 +12,7 @@ use crate::slots::Slots;
 use ion_meter::buf::Buf;
 use ion_meter::fault::Fault;
 use ion_meter::meter::Meter;
-use ion_value::form::FormedText;
+use ion_value::quoting::NameText;
 use std::alloc::Allocator;
 use std::marker::Model;
 
@@ -196,14 +196,14 @@ impl<A: Allocator + Copy> SharedTable<A> {
         ensures { MatchOption result (text_in (slice_get self.now.slots place) ≡ None)
             (λ text. text_in (slice_get self.now.slots place) ≡ Some text.now) }
     {
-        Some(self.formed(place)?.text)
+        Some(self.name_text(place)?.text)
     }
 
     /// That text and how it is written.
-    pub(crate) fn formed(&self, place: usize) -> Option<FormedText<'_>>
-        ensures { IsFormed result (text_in (slice_get self.now.slots place)) }
+    pub(crate) fn name_text(&self, place: usize) -> Option<NameText<'_>>
+        ensures { IsNameText result (text_in (slice_get self.now.slots place)) }
     {
-        self.slots.formed(place)
+        self.slots.name_text(place)
     }
 
     /// Gives all back.

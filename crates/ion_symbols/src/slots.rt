@@ -3,14 +3,14 @@ ghost use Rattle.std.specs.Prelude.{◌≡◌, ℕ, ◌+◌, ◌-◌, ◌*◌, �
 ghost use Rattle.ion_meter.specs.declared.fault.Fault.TheVariants.{Memory};
 ghost use Rattle.ion_meter.specs.Counts.{Grows, Shrinks};
 ghost use Rattle.ion_symbols.specs.Table.{slots_cost};
-ghost use Rattle.ion_symbols.specs.Kept.{CanGrow, IsFormed, IsUndone, Tiles, moved, text_in};
+ghost use Rattle.ion_symbols.specs.Kept.{CanGrow, IsNameText, IsUndone, Tiles, moved, text_in};
 
 use ion_meter::buf::Buf;
 use ion_meter::fault::Fault;
 use ion_meter::meter::Meter;
 use ion_meter::stack::Stack;
-use ion_value::form::{Form, FormedText, bare};
-use ion_value::name::form_of;
+use ion_value::quoting::{Quoting, NameText, bare};
+use ion_value::name::quoting_of;
 use std::alloc::Allocator;
 use std::marker::Model;
 
@@ -27,7 +27,7 @@ pub(crate) struct Part {
     /// Whether it has a text.
     pub(crate) known: bool,
     /// How that is written, as far as it is known.
-    pub(crate) form: Form,
+    pub(crate) quoting: Quoting,
 }
 
 /// Slots in order, at a cost of 16 each and the length of its text. A clause sees the list of them, a
@@ -78,19 +78,19 @@ impl<A: Allocator + Copy> Slots<A> {
 
     /// The text of the slot at an index and how it is written; none where it has none, or past the end.
     #[inline(always)]
-    pub(crate) fn formed(&self, i: usize) -> Option<FormedText<'_>>
-        ensures { IsFormed result (text_in (slice_get self.now i)) }
+    pub(crate) fn name_text(&self, i: usize) -> Option<NameText<'_>>
+        ensures { IsNameText result (text_in (slice_get self.now i)) }
     {
         let parts = self.parts.as_slice();
         if i >= parts.len() {
             return None;
         }
         let part = parts[i];
-        match part.form {
-            Form::Bare => Some(bare(between(self.texts.as_slice(), part.from, part.to))),
-            form if part.known => Some(FormedText {
+        match part.quoting {
+            Quoting::Bare => Some(bare(between(self.texts.as_slice(), part.from, part.to))),
+            quoting if part.known => Some(NameText {
                 text: between(self.texts.as_slice(), part.from, part.to),
-                form,
+                quoting,
             }),
             _ => None,
         }
@@ -114,7 +114,7 @@ impl<A: Allocator + Copy> Slots<A> {
                 from,
                 to,
                 known: true,
-                form: form_of(text),
+                quoting: quoting_of(text),
             },
         ) {
             return Err(failed.1);
@@ -142,7 +142,7 @@ impl<A: Allocator + Copy> Slots<A> {
                 from: end,
                 to: end,
                 known: false,
-                form: Form::Any,
+                quoting: Quoting::Any,
             },
         ) {
             return Err(failed.1);
@@ -212,7 +212,7 @@ fn push_moved<A: Allocator + Copy>(
             from: base + part.from,
             to: base + part.to,
             known: part.known,
-            form: part.form,
+            quoting: part.quoting,
         };
         if let Err(failed) = parts.push(meter, moved) {
             parts.truncate(meter, had);

@@ -4,14 +4,14 @@ ghost use Rattle.ion_meter.specs.declared.fault.Fault.TheVariants.{Memory};
 ghost use Rattle.ion_meter.specs.Counts.{Grows, Shrinks};
 ghost use Rattle.ion_symbols.specs.Table.{count_of, import_count, most_slots, slot_of, slots_cost, system, system_slots, table_cost, text_at};
 ghost use Rattle.ion_symbols.specs.Present.{IsKept, Starts, kept_table, as_slot, slots_at, with_locals};
-ghost use Rattle.ion_symbols.specs.Kept.{CanGrow, IsFormed, IsUndone, text_in};
+ghost use Rattle.ion_symbols.specs.Kept.{CanGrow, IsNameText, IsUndone, text_in};
 
 use crate::catalog::Catalog;
 use crate::slots::Slots;
 use ion_meter::fault::Fault;
 use ion_meter::meter::Meter;
 use ion_meter::table::Table;
-use ion_value::form::{Form, FormedText, bare};
+use ion_value::quoting::{Quoting, NameText, bare};
 use ion_value::names::Names;
 use std::alloc::Allocator;
 use std::marker::Model;
@@ -71,22 +71,22 @@ impl<'c, A: Allocator + Copy> Model for Symbols<'c, A> {
     ghost invariant = { λ s. IsKept s.imports.items s.imports.cost s.import_slots s.slots };
 }
 
-// A text of whose form nothing is known.
+// A text of whose quoting nothing is known.
 #[inline(always)]
-fn any(text: &[u8]) -> FormedText<'_>
+fn any(text: &[u8]) -> NameText<'_>
     ensures text { result.text.now ≡ text.now }
-    ensures form { result.form ≡ Form.Any }
+    ensures quoting { result.quoting ≡ Quoting.Any }
 {
-    FormedText {
+    NameText {
         text,
-        form: Form::Any,
+        quoting: Quoting::Any,
     }
 }
 
 // The text of an id of the system table.
-fn system_text(id: u32) -> Option<FormedText<'static>>
+fn system_text(id: u32) -> Option<NameText<'static>>
     requires { id < 10 }
-    ensures { IsFormed result (text_in (slice_get system_slots id)) }
+    ensures { IsNameText result (text_in (slice_get system_slots id)) }
 {
     match id {
         0 => None,
@@ -107,10 +107,10 @@ fn shared<A: Allocator + Copy>(
     catalog: &Catalog<A>,
     table: Option<usize>,
     place: u64,
-) -> Option<FormedText<'_>>
-    ensures { IsFormed result (text_in (slice_get (slots_at catalog.now table) place)) }
+) -> Option<NameText<'_>>
+    ensures { IsNameText result (text_in (slice_get (slots_at catalog.now table) place)) }
 {
-    catalog.get(table?)?.formed(place as usize)
+    catalog.get(table?)?.name_text(place as usize)
 }
 
 // The import that a slot stands in: the last that begins at it or before.
@@ -151,8 +151,8 @@ impl<'c, A: Allocator + Copy> Symbols<'c, A> {
     pub fn text(&self, id: u32) -> Slot<'_>
         ensures { as_slot result ≡ slot_of self.now.table id }
     {
-        match self.formed_text(id) {
-            Some(formed) => Slot::Known(formed.text),
+        match self.name_text(id) {
+            Some(quoted) => Slot::Known(quoted.text),
             None => self.missing(id),
         }
     }
@@ -178,9 +178,9 @@ impl<'c, A: Allocator + Copy> Symbols<'c, A> {
     // The text of an id of the system table or of an import. What the call returns is built anew: so it
     // has its place in memory here, and not where none is called.
     #[inline(always)]
-    fn early(&self, id: u32) -> Option<FormedText<'_>>
+    fn early(&self, id: u32) -> Option<NameText<'_>>
         requires { id < 10 + import_count self.now.table.imports }
-        ensures { IsFormed result (text_at self.now.table id) }
+        ensures { IsNameText result (text_at self.now.table id) }
     {
         match self.early_text(id) {
             Some(text) => Some(text),
@@ -190,9 +190,9 @@ impl<'c, A: Allocator + Copy> Symbols<'c, A> {
 
     // That text, by a call that is not in line.
     #[inline(never)]
-    fn early_text(&self, id: u32) -> Option<FormedText<'_>>
+    fn early_text(&self, id: u32) -> Option<NameText<'_>>
         requires { id < 10 + import_count self.now.table.imports }
-        ensures { IsFormed result (text_at self.now.table id) }
+        ensures { IsNameText result (text_at self.now.table id) }
     {
         if id < 10 {
             return system_text(id);
@@ -297,16 +297,16 @@ impl<'c, A: Allocator + Copy> Names for Symbols<'c, A> {
 
     #[inline(always)]
     fn text_of(&self, id: u32) -> Option<&[u8]> {
-        Some(self.formed_text(id)?.text)
+        Some(self.name_text(id)?.text)
     }
 
     #[inline(always)]
-    fn formed_text(&self, id: u32) -> Option<FormedText<'_>> {
+    fn name_text(&self, id: u32) -> Option<NameText<'_>> {
         let first = 10 + self.import_slots;
         let place = id as u64;
         if place < first {
             return self.early(id);
         }
-        self.slots.formed((place - first) as usize)
+        self.slots.name_text((place - first) as usize)
     }
 }

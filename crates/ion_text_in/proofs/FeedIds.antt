@@ -9,7 +9,7 @@ use Rattle.ion_value.specs.declared.writer.ValueWriter.{Ghosts as WriterOf}
 use Rattle.ion_value.specs.Digits.{first_is}
 use Rattle.ion_value.specs.Items.{named_at, raw_head, text_or_id}
 use Rattle.ion_value.specs.Name.{is_simple}
-use Rattle.ion_value.specs.PlainItems.{placed_text, IsRightlyFormed}
+use Rattle.ion_value.specs.PlainItems.{placed_text, IsRightlyQuoted}
 use Rattle.ion_value.specs.Value as value
 use Rattle.ion_value.specs.Value.{SymbolAt, map_head}
 use Rattle.ion_text_in.specs.Blanks.{blanks}
@@ -89,7 +89,7 @@ token-id : {texts : ℕ → Option (List ℕ)} {limit place n : ℕ} {bytes text
 token-id {bytes} is behind dollar = token-front behind is.some is.within is.shown (dollar-begins bytes dollar)
 
 -- a value begins behind an id that is its name
-pub named-id : (texts : ℕ → Option (List ℕ)) (limits : Limits) (place n : ℕ) (name : TextAt) (bytes rest : List ℕ) (start : Option Start) → name.place ≡ place → IsRightlyFormed name → IsIdOf texts limits.scalar bytes name.text.now n
+pub named-id : (texts : ℕ → Option (List ℕ)) (limits : Limits) (place n : ℕ) (name : TextAt) (bytes rest : List ℕ) (start : Option Start) → name.place ≡ place → IsRightlyQuoted name → IsIdOf texts limits.scalar bytes name.text.now n
     → rest ≡ drop n bytes → first_is (λ b. b == 36) bytes ≡ true → IfSome start (IsBehindName name rest) → IfSome start (IsNamedBy texts limits place bytes)
 named-id texts limits place n name bytes rest None here says is behind dollar h = tt
 named-id texts limits place n name bytes rest (Some s) here says is behind dollar h =

@@ -12,7 +12,7 @@ use Rattle.ion_value.specs.declared.plain_item.TextAt.{TextAt}
 use Rattle.ion_value.specs.Digits.{all_are, first_is}
 use Rattle.ion_value.specs.Name.{Keyword, a_null, a_bool, a_nan, is_id, is_identifier_byte, is_identifier_start, is_simple, is_version, keyword}
 use Rattle.ion_value.specs.Parts.{Placed, ◌>>=◌}
-use Rattle.ion_value.specs.PlainItems.{placed_text, IsRightlyFormed}
+use Rattle.ion_value.specs.PlainItems.{placed_text, IsRightlyQuoted}
 use Rattle.ion_value.specs.Value as value
 use Rattle.ion_value.specs.Value.{SymbolAt}
 use Rattle.ion_text_in.specs.Feeding.{expected_of, place_in, state, Begins, IfName, IsBegun, IsBehind, IsBehindName, IsNamed, IsNamedAs, IsNext, IsSimpleWord, IsStart, IsStartAs, Onward, PassesBlanks, ToColon}
@@ -240,7 +240,7 @@ onward-name limits kinds top place name bytes behind colon rest is to_colon pass
     }
 
 -- a value begins behind the name that was read
-pub named-as : (limits : Limits) (place : ℕ) (name : TextAt) (raw : SymbolAt) (bytes behind : List ℕ) (start : Start) → IsName limits place bytes raw behind → IsRightlyFormed name → 0 < length bytes
+pub named-as : (limits : Limits) (place : ℕ) (name : TextAt) (raw : SymbolAt) (bytes behind : List ℕ) (start : Start) → IsName limits place bytes raw behind → IsRightlyQuoted name → 0 < length bytes
     → IsBehindName name behind start → IsNamedAs name raw limits place bytes start
 named-as limits place name raw bytes behind start is says some h = record {
   is = h.is;
@@ -251,7 +251,7 @@ named-as limits place name raw bytes behind start is says some h = record {
   begins = h.begins;
 }
 
-pub named-start : {limits : Limits} {place : ℕ} {bytes behind : List ℕ} (name : TextAt) (start : Option Start) → IsName limits place bytes (placed_text name) behind → IsRightlyFormed name → 0 < length bytes
+pub named-start : {limits : Limits} {place : ℕ} {bytes behind : List ℕ} (name : TextAt) (start : Option Start) → IsName limits place bytes (placed_text name) behind → IsRightlyQuoted name → 0 < length bytes
     → IfSome start (IsBehindName name behind) → IfSome start (IsNamed limits place bytes)
 named-start name None is says some h = tt
 named-start {limits} {place} {bytes} {behind} name (Some s) is says some h = record { text = name; name = named-as limits place name (placed_text name) bytes behind s is says some h }

@@ -10,7 +10,7 @@ use Rattle.ion_value.specs.declared.ion_type.Kind.TheVariants as a_kind
 use Rattle.ion_value.specs.declared.plain_item.TextAt.{TextAt}
 use Rattle.ion_value.specs.Digits.{first_is}
 use Rattle.ion_value.specs.Parts.{part, refuse, ◌>>◌}
-use Rattle.ion_value.specs.PlainItems.{placed_text, with_second, HasNoDollar, HaveNoDollar, IsRightlyFormed, StandsBehind}
+use Rattle.ion_value.specs.PlainItems.{placed_text, with_second, HasNoDollar, HaveNoDollar, IsRightlyQuoted, StandsBehind}
 use Rattle.ion_value.specs.Value as value
 use Rattle.ion_value.specs.Value.{SymbolAt}
 use Rattle.ion_text_in.specs.declared.expected.Expected.{Expected}
@@ -138,7 +138,7 @@ pub start-part : {raw : Option SymbolAt} {second : Option TextAt} {bounds : Boun
 start-part {bounds} {spot} is = let opened = some-opened (expected_of spot) in let onward = is.onward opened.0 opened.1 in (onward.part, onward.fewer)
 
 -- a value begins behind the annotation that was read
-pub note-behind : {limits : Limits} {place : ℕ} {note : TextAt} {colon : List ℕ} (start : Start) (noted : Option Start) → IsSymbol limits place start.next.rest.now note colon → IsRightlyFormed note
+pub note-behind : {limits : Limits} {place : ℕ} {note : TextAt} {colon : List ℕ} (start : Start) (noted : Option Start) → IsSymbol limits place start.next.rest.now note colon → IsRightlyQuoted note
     → first_is (λ b. b == 36) note.text.now ≡ false → IfSome noted (IsBehindNote limits start note colon) → IfSome noted (IsNoted limits place start)
 note-behind start None is says free h = tt
 note-behind {limits} {place} {note} {colon} start (Some s) is says free h = record {
@@ -155,14 +155,14 @@ both-free : (first : Option TextAt) (text : TextAt) → HaveNoDollar (notes firs
 both-free None text before free = (free, tt)
 both-free (Some t) text before free = (before.0, (free, tt))
 
-stands-behind : (first : Option TextAt) (text : TextAt) → is_none first ≡ false → IsRightlyFormed text → StandsBehind first text
+stands-behind : (first : Option TextAt) (text : TextAt) → is_none first ≡ false → IsRightlyQuoted text → StandsBehind first text
 stands-behind None text some says = absurd (cc some)
 stands-behind (Some t) text some says = says
 
 -- so it does where a lane stands
 start-more : {bounds : Bounds} {spot : Spot} {start noted : Start} (second : Option TextAt) (new : Start) → length spot.rest.now ≤ bounds.end → IsStart bounds spot start
     → (h : IsNoted bounds.limits (place_in bounds start.next.rest.now) start noted) → new.field ≡ start.field → new.next ≡ noted.next → with_second (notes new.note) second ≡ notes start.note ++ placed_text h.text ∷ []
-    → IfSome new.note IsRightlyFormed → IfSome second (StandsBehind new.note) → IsFurther second bounds spot new
+    → IfSome new.note IsRightlyQuoted → IfSome second (StandsBehind new.note) → IsFurther second bounds spot new
 start-more {bounds} {spot} {start} {noted} second new within is h field next both note stands =
     let name = option_map placed_text start.field in
     record {

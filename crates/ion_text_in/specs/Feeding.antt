@@ -12,7 +12,7 @@ use Rattle.ion_value.specs.Feeding.{CanTake, Feeds, Joint, StaysWell}
 use Rattle.ion_value.specs.Items.{named_at, named_item, raw_head}
 use Rattle.ion_value.specs.Outcome.{one_if_closed}
 use Rattle.ion_value.specs.Parts.{Placed}
-use Rattle.ion_value.specs.PlainItems.{listed, placed_text, with_second, StandsBehind, HasKnownName, HasNoDollar, HaveNoDollar, IsKnownHead, IsRightlyFormed, IsTextOf}
+use Rattle.ion_value.specs.PlainItems.{listed, placed_text, with_second, StandsBehind, HasKnownName, HasNoDollar, HaveNoDollar, IsKnownHead, IsRightlyQuoted, IsTextOf}
 use Rattle.ion_value.specs.Reading.{More}
 use Rattle.ion_value.specs.Shares.{Charges}
 use Rattle.ion_value.specs.Standing.{open_after, in_struct, has_field, is_marker, HasPlace, HeadInRange, WritesWithin}
@@ -191,7 +191,7 @@ pub record IsBehindName (name : TextAt) (bytes : List ℕ) (start : Start) : Typ
 pub record IsNamedAs (text : TextAt) (raw : SymbolAt) (limits : Limits) (place : ℕ) (bytes : List ℕ) (start : Start) : Type 0 where
   pub is : start.field ≡ Some text
   pub bare : start.note ≡ None
-  pub says : IsRightlyFormed text
+  pub says : IsRightlyQuoted text
   pub some : 0 < length bytes
   pub onward : (kinds : List Kind) (top : ℕ) → Onward limits kinds top place a_field bytes (a_value (Some raw) []) start.next.rest.now
   pub begins : Begins start.next
@@ -227,7 +227,7 @@ pub record IsNoted (limits : Limits) (place : ℕ) (start noted : Start) : Type 
   pub text : TextAt
   pub is : noted.note ≡ Some text
   pub same : noted.field ≡ start.field
-  pub says : IsRightlyFormed text
+  pub says : IsRightlyQuoted text
   pub free : HasNoDollar (value.Text text.text.now)
   pub onward : (kinds : List Kind) (top : ℕ) (field : Option SymbolAt)
       → Onward limits kinds top place (a_value field (notes start.note)) start.next.rest.now (a_value field (notes start.note ++ placed_text text ∷ [])) noted.next.rest.now
@@ -252,8 +252,8 @@ pub record PassesComma (old new : Spot) : Type 0 where
 pub record IsStartAs (raw : Option SymbolAt) (other : Option TextAt) (bounds : Bounds) (spot : Spot) (start : Start) : Type 0 where
   pub known : HasKnownName (option_map placed_text start.field)
   pub free : HaveNoDollar (with_second (notes start.note) other)
-  pub field : IfSome start.field IsRightlyFormed
-  pub note : IfSome start.note IsRightlyFormed
+  pub field : IfSome start.field IsRightlyQuoted
+  pub note : IfSome start.note IsRightlyQuoted
   pub second : IfSome other (StandsBehind start.note)
   pub onward : (kinds : List Kind) → MayExpect (expected_of spot) kinds None []
       → Onward bounds.limits kinds spot.top (place_in bounds spot.rest.now) (wanted (expected_of spot) None []) spot.rest.now (a_value raw (with_second (notes start.note) other)) start.next.rest.now

@@ -5,14 +5,14 @@ use Rattle.std.proofs.lemmas.Bool.{and_parts}
 use Rattle.std.specs.Prelude.{map, option_map, codes, is_some, IfSome}
 use Rattle.std.specs.List.{flat_map}
 use Rattle.ion_meter.specs.Windows.{Outgoing}
-use Rattle.ion_value.specs.Name.{IsFormedAs, is_plain, is_simple}
+use Rattle.ion_value.specs.Name.{IsQuotedAs, is_plain, is_simple}
 use Rattle.ion_value.specs.Value as v
 use Rattle.ion_value.specs.Value.{PlacedItem, SymbolAt, Symbol, map_head, map_scalar, user_symbol, user_symbol_at, user_item}
 use Rattle.ion_value.specs.Items.{raw_head}
-use Rattle.ion_value.specs.PlainItems.{IsOwnText, IsQuotedIn, IsRightlyFormed, IsTextOf, StandsBehind, listed, placed_item, placed_text, with_second}
+use Rattle.ion_value.specs.PlainItems.{IsOwnText, IsQuotedIn, IsRightlyQuoted, IsTextOf, StandsBehind, listed, placed_item, placed_text, with_second}
 use Rattle.ion_value.specs.Digits.{all_are}
-use Rattle.ion_value.specs.declared.form.Form.{Form}
-use Rattle.ion_value.specs.declared.form.Form.TheVariants as form
+use Rattle.ion_value.specs.declared.quoting.Quoting.{Quoting}
+use Rattle.ion_value.specs.declared.quoting.Quoting.TheVariants as quoting
 use Rattle.ion_value.specs.declared.ion_type.Kind.{Kind}
 use Rattle.ion_value.specs.declared.ion_type.Kind.TheVariants as kind
 use Rattle.ion_value.specs.declared.plain_item.TextAt.{TextAt}
@@ -45,25 +45,25 @@ pub between_text : (bytes : List ℕ) → is_plain bytes ≡ false → all_are (
 between_text bytes plain own = sym (quoted_text bytes plain ∙ shown_between 39 256 bytes own)
 
 -- a text that is rightly said to stand bare is put as it stands
-bare_text : (form : Form) (bytes : List ℕ) → IsFormedAs form bytes → is_bare form ≡ true → bytes ≡ symbol_text (v.Known bytes)
-bare_text form.Bare bytes simple said = sym (simple_text bytes simple)
-bare_text form.Quoted bytes right said = absurd (cc said)
-bare_text form.Any bytes right said = absurd (cc said)
+bare_text : (quoting : Quoting) (bytes : List ℕ) → IsQuotedAs quoting bytes → is_bare quoting ≡ true → bytes ≡ symbol_text (v.Known bytes)
+bare_text quoting.Bare bytes simple said = sym (simple_text bytes simple)
+bare_text quoting.Quoted bytes right said = absurd (cc said)
+bare_text quoting.Any bytes right said = absurd (cc said)
 
 -- a symbol's own text is what is put of it
-own_text : (text : List ℕ) (s : Symbol) → IsOwnText form.Bare text s → text ≡ symbol_text (user_symbol s)
+own_text : (text : List ℕ) (s : Symbol) → IsOwnText quoting.Bare text s → text ≡ symbol_text (user_symbol s)
 own_text text (v.Text bytes) is = is.1 ∙ sym (simple_text bytes is.0)
 own_text text (v.Id id) is = absurd is
 
 -- ---- names and annotations
 
 -- a symbol that is rightly said to stand bare is put as it stands
-pub as_it_stands : (symbol : Option TextAt) → IfSome symbol IsRightlyFormed → is_bare_in symbol ≡ true → text_in symbol ≡ symbol_in symbol
+pub as_it_stands : (symbol : Option TextAt) → IfSome symbol IsRightlyQuoted → is_bare_in symbol ≡ true → text_in symbol ≡ symbol_in symbol
 as_it_stands None right said = refl
-as_it_stands (Some t) right said = bare_text t.form t.text.now right said
+as_it_stands (Some t) right said = bare_text t.quoting t.text.now right said
 
 -- so are annotations where there is no second one
-pub as_they_stand : (annotation second : Option TextAt) → IfSome annotation IsRightlyFormed → is_bare_in annotation ≡ true → is_some second ≡ false
+pub as_they_stand : (annotation second : Option TextAt) → IfSome annotation IsRightlyQuoted → is_bare_in annotation ≡ true → is_some second ≡ false
     → text_in annotation ≡ symbols_in annotation second
 as_they_stand annotation None right said alone = as_it_stands annotation right said
 as_they_stand annotation (Some s) right said alone = absurd (cc alone)
@@ -136,7 +136,7 @@ spelled_body text v.end is = absurd is
 spelled_body text v.marker is = absurd is
 
 -- so is a symbol that comes with its text between quotes
-quoted_own : (text : List ℕ) (s : Symbol) → IsOwnText form.Quoted text s → (between_quotes 39 256 text ≡ symbol_text (user_symbol s)) × (all_are (is_shown 39 256) text ≡ true)
+quoted_own : (text : List ℕ) (s : Symbol) → IsOwnText quoting.Quoted text s → (between_quotes 39 256 text ≡ symbol_text (user_symbol s)) × (all_are (is_shown 39 256) text ≡ true)
 quoted_own text (v.Text bytes) is = let same = is.1 in (rw same (sym (quoted_text bytes is.0.0)), rw same is.0.1)
 quoted_own text (v.Id id) is = absurd is
 

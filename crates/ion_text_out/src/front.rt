@@ -1,6 +1,6 @@
 //! Names and annotations of plain items, which are put where the window on the output has room.
 ghost use Rattle.std.specs.Prelude.{◌≡◌, ◌+◌, ◌≤◌, ◌++◌, ◌∷◌, ◌&&◌, [], true, length, codes, if◌then◌else◌, IfSome};
-ghost use Rattle.ion_value.specs.PlainItems.{IsRightlyFormed, StandsBehind};
+ghost use Rattle.ion_value.specs.PlainItems.{IsRightlyQuoted, StandsBehind};
 ghost use Rattle.ion_value.specs.Value.{Known};
 ghost use Rattle.ion_text_out.specs.Lane.{is_bare_in, plain_front, symbol_in, symbols_in, text_in};
 ghost use Rattle.ion_text_out.specs.Text.{symbol_text};
@@ -10,7 +10,7 @@ use crate::quote::stands_in_symbol;
 use arrayvec::ArrayVec;
 use ion_meter::device::Output;
 use ion_meter::sink::Sink;
-use ion_value::form::Form;
+use ion_value::quoting::Quoting;
 use ion_value::plain_item::TextAt;
 use std::alloc::Allocator;
 
@@ -22,7 +22,7 @@ pub fn text_in(at: Option<TextAt<'_>>) -> (&[u8], bool)
     ensures bare { result.1 ≡ is_bare_in at.entry }
 {
     match at {
-        Some(at) => (at.text, matches!(at.form, Form::Bare)),
+        Some(at) => (at.text, matches!(at.quoting, Quoting::Bare)),
         None => (b"", true),
     }
 }
@@ -85,17 +85,17 @@ pub fn put_front<O: Output, A: Allocator + Copy>(sink: &mut Sink<O, A>, name: &[
     }
 }
 
-// The quotes around a symbol of this form, or none where it has escapes.
+// The quotes around a symbol of this quoting, or none where it has escapes.
 #[inline(always)]
 fn quotes_of(at: TextAt<'_>) -> Option<&'static [u8]>
-    requires { IsRightlyFormed at }
+    requires { IsRightlyQuoted at }
     ensures { IfSome result (λ quote. quote.now ++ (at.entry.text.now ++ quote.now)
         ≡ symbol_text (Known at.entry.text.now)) }
 {
-    match at.form {
-        Form::Bare => Some(b""),
-        Form::Quoted => Some(b"'"),
-        Form::Any => quotes_around(at.text),
+    match at.quoting {
+        Quoting::Bare => Some(b""),
+        Quoting::Quoted => Some(b"'"),
+        Quoting::Any => quotes_around(at.text),
     }
 }
 
@@ -116,7 +116,7 @@ fn quotes_around(text: &[u8]) -> Option<&'static [u8]>
 /// Adds a symbol that may be there as it is written, where there is room and it has no escapes.
 #[inline(always)]
 pub fn spell(front: &mut ArrayVec<u8, 128>, at: Option<TextAt<'_>>) -> bool
-    requires { IfSome at IsRightlyFormed }
+    requires { IfSome at IsRightlyQuoted }
     ensures { result ≡ true → front.new.items ≡ front.old.items ++ symbol_in at.entry }
 {
     let Some(at) = at else {
@@ -153,7 +153,7 @@ pub fn spell_notes(
     annotation: Option<TextAt<'_>>,
     second: Option<TextAt<'_>>,
 ) -> bool
-    requires first { IfSome annotation IsRightlyFormed }
+    requires first { IfSome annotation IsRightlyQuoted }
     requires second { IfSome second (StandsBehind annotation) }
     ensures { result ≡ true
         → front.new.items ≡ front.old.items ++ symbols_in annotation.entry second.entry }

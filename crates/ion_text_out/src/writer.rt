@@ -34,7 +34,7 @@ use ion_meter::meter::Meter;
 use ion_meter::sink::Sink;
 use ion_meter::stack::Stack;
 use ion_value::decimal::{Decimal, decimal_to_text};
-use ion_value::form::{Form, FormedText};
+use ion_value::quoting::{Quoting, NameText};
 use ion_value::int::Int;
 use ion_value::ion_type::Kind;
 use ion_value::item::{Head, Item, Sym};
@@ -411,21 +411,21 @@ impl<A: Allocator + Copy> TextWriter<A> {
         name: &[u8],
         note: &[u8],
         head: Head<'_>,
-        spelled: Option<FormedText<'_>>,
+        spelled: Option<NameText<'_>>,
     ) -> bool
         requires can_step { CanStep self.old meter.old }
         requires comes { MayCome self.old (raw_head head) }
-        requires spelled { IfSome spelled (λ t. IsWrittenAs t.form t.text.now (raw_head head)) }
+        requires spelled { IfSome spelled (λ t. IsWrittenAs t.quoting t.text.now (raw_head head)) }
         ensures { TakesHead self.old self.new meter.old meter.new sink.old sink.new result
             (head_text (opened_in self.old) (plain_front name.now note.now)
             (map_head user_symbol_at (raw_head head.entry)))
             (open_after (opened_in self.old) (map_head user_symbol_at (raw_head head.entry))) }
     {
         if let Some(found) = spelled {
-            return match found.form {
-                Form::Bare => self.take_text(sink, name, note, found.text),
-                Form::Quoted => self.take_quoted(sink, name, note, found.text),
-                Form::Any => false,
+            return match found.quoting {
+                Quoting::Bare => self.take_text(sink, name, note, found.text),
+                Quoting::Quoted => self.take_quoted(sink, name, note, found.text),
+                Quoting::Any => false,
             };
         }
         match head {
@@ -455,7 +455,7 @@ impl<A: Allocator + Copy> TextWriter<A> {
     ) -> bool
         requires can_step { CanStep self.old meter.old }
         requires comes { MayCome self.old (raw_head item.head) }
-        requires formed { SaysRightly item }
+        requires quoted { SaysRightly item }
         requires spelled { IsSpelled item }
         ensures { TakesHead self.old self.new meter.old meter.new sink.old sink.new result
             (item_text (opened_in self.old) (user_item (placed_item item.entry)))

@@ -1,8 +1,8 @@
 -- Words of the text form: types, keywords, identifiers, ids, version words and operators (Ion text, "Symbols" and "Null Values").
 use Rattle.std.specs.Prelude.{◌≡◌, ⊤, ℕ, min, ◌^◌, Bool, true, false, not, ◌&&◌, ◌||◌, ◌==◌, nat_le, nat_lt, if◌then◌else◌, List, [], ◌∷◌, ◌++◌, length, drop, map, codes, Option, Some, None, is_none}
 use Rattle.std.specs.Str.{bytes_eq}
-use Rattle.ion_value.specs.declared.form.Form.{Form}
-use Rattle.ion_value.specs.declared.form.Form.TheVariants as form
+use Rattle.ion_value.specs.declared.quoting.Quoting.{Quoting}
+use Rattle.ion_value.specs.declared.quoting.Quoting.TheVariants as quoting
 use Rattle.ion_value.specs.declared.ion_type.IonType.{IonType}
 use Rattle.ion_value.specs.declared.ion_type.IonType.TheVariants as type
 use Rattle.ion_value.specs.Number.{number}
@@ -128,17 +128,17 @@ abbrev pub is_own_in_quotes : ℕ → Bool
 is_own_in_quotes b = nat_le 32 b && (nat_lt b 256 && (not (b == 127) && (not (b == 39) && not (b == 92))))
 
 -- how a text is written as a symbol: of one that begins with a dollar sign, or has an escape between quotes, nothing is said
-abbrev pub form_of : List ℕ → Form
-form_of name =
-    if is_simple name then form.Bare
-    else (if is_plain name || not (all_are is_own_in_quotes name) then form.Any
-    else form.Quoted)
+abbrev pub quoting_of : List ℕ → Quoting
+quoting_of name =
+    if is_simple name then quoting.Bare
+    else (if is_plain name || not (all_are is_own_in_quotes name) then quoting.Any
+    else quoting.Quoted)
 
 -- a text is written so
-abbrev pub IsFormedAs : Form → List ℕ → Type 0
-IsFormedAs form.Bare name = is_simple name ≡ true
-IsFormedAs form.Quoted name = (is_plain name ≡ false) × (all_are is_own_in_quotes name ≡ true)
-IsFormedAs form.Any name = ⊤
+abbrev pub IsQuotedAs : Quoting → List ℕ → Type 0
+IsQuotedAs quoting.Bare name = is_simple name ≡ true
+IsQuotedAs quoting.Quoted name = (is_plain name ≡ false) × (all_are is_own_in_quotes name ≡ true)
+IsQuotedAs quoting.Any name = ⊤
 
 -- ---- operators
 

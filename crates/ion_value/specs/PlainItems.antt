@@ -1,13 +1,13 @@
 -- What is seen of plain items: those whose symbols are texts, with two annotations at most.
 use Rattle.std.specs.Prelude.{◌≡◌, ◌==◌, ℕ, true, false, List, [], ◌∷◌, ◌++◌, Option, Some, None, option_map, IfSome, ⊤}
 use Rattle.ion_value.specs.declared.plain_item.TextAt.{TextAt}
-use Rattle.ion_value.specs.declared.form.Form.{Form}
-use Rattle.ion_value.specs.declared.form.Form.TheVariants as form
+use Rattle.ion_value.specs.declared.quoting.Quoting.{Quoting}
+use Rattle.ion_value.specs.declared.quoting.Quoting.TheVariants as quoting
 use Rattle.ion_value.specs.declared.plain_item.PlainItem.{PlainItem}
 use Rattle.ion_value.specs.Decimal.{decimal_text}
 use Rattle.ion_value.specs.Digits.{first_is}
 use Rattle.ion_value.specs.Int.{int_text}
-use Rattle.ion_value.specs.Name.{IsFormedAs}
+use Rattle.ion_value.specs.Name.{IsQuotedAs}
 use Rattle.ion_value.specs.Items.{raw_head}
 use Rattle.ion_value.specs.Timestamp.{timestamp_text}
 use Rattle.ion_value.specs.Value.{Symbol, Text, Id, SymbolAt, Scalar, null, bool, int, decimal, timestamp, symbol, string, clob, blob, Head, whole, begin, end, marker, PlacedItem}
@@ -96,46 +96,46 @@ pub record IsPlainItem (item : PlacedItem) : Type 0 where
 -- ---- what is said of a name or an annotation
 
 -- a text is written as is said
-abbrev pub IsRightlyFormed : TextAt → Type 0
-IsRightlyFormed t = IsFormedAs t.form t.text.now
+abbrev pub IsRightlyQuoted : TextAt → Type 0
+IsRightlyQuoted t = IsQuotedAs t.quoting t.text.now
 
 -- a second annotation stands behind a first one
 abbrev pub StandsBehind : Option TextAt → TextAt → Type 0
 StandsBehind None second = ⊥
-StandsBehind (Some first) second = IsRightlyFormed second
+StandsBehind (Some first) second = IsRightlyQuoted second
 
 -- so are an item's name and its annotations
 pub record SaysRightly (item : PlainItem) : Type 0 where
-  pub field : IfSome item.field IsRightlyFormed
-  pub annotation : IfSome item.annotation IsRightlyFormed
+  pub field : IfSome item.field IsRightlyQuoted
+  pub annotation : IfSome item.annotation IsRightlyQuoted
   pub second : IfSome item.second (StandsBehind item.annotation)
 
 -- ---- items that come with a text
 
 -- a symbol is a text, which is written so
-abbrev pub IsOwnText : Form → List ℕ → Symbol → Type 0
-IsOwnText form text (Text bytes) = IsFormedAs form bytes × (text ≡ bytes)
-IsOwnText form text (Id id) = ⊥
+abbrev pub IsOwnText : Quoting → List ℕ → Symbol → Type 0
+IsOwnText quoting text (Text bytes) = IsQuotedAs quoting bytes × (text ≡ bytes)
+IsOwnText quoting text (Id id) = ⊥
 
 -- a text is the canonical one of an int, a decimal, a timestamp or a simple symbol: nothing else comes with one
 abbrev pub IsTextOf : List ℕ → Head SymbolAt → Type 0
 IsTextOf text (whole (int number)) = text ≡ int_text number
 IsTextOf text (whole (decimal number)) = text ≡ decimal_text number
 IsTextOf text (whole (timestamp moment)) = text ≡ timestamp_text moment
-IsTextOf text (whole (symbol s)) = IsOwnText form.Bare text s.symbol
+IsTextOf text (whole (symbol s)) = IsOwnText quoting.Bare text s.symbol
 IsTextOf text _ = ⊥
 
 -- a text is that of a symbol without its quotes
 abbrev pub IsQuotedIn : List ℕ → Head SymbolAt → Type 0
-IsQuotedIn text (whole (symbol s)) = IsOwnText form.Quoted text s.symbol
+IsQuotedIn text (whole (symbol s)) = IsOwnText quoting.Quoted text s.symbol
 IsQuotedIn text _ = ⊥
 
--- a head is written by a text of this form
-abbrev pub IsWrittenAs : Form → List ℕ → Head SymbolAt → Type 0
-IsWrittenAs form.Bare text head = IsTextOf text head
-IsWrittenAs form.Quoted text head = IsQuotedIn text head
-IsWrittenAs form.Any text head = ⊥
+-- a head is written by a text of this quoting
+abbrev pub IsWrittenAs : Quoting → List ℕ → Head SymbolAt → Type 0
+IsWrittenAs quoting.Bare text head = IsTextOf text head
+IsWrittenAs quoting.Quoted text head = IsQuotedIn text head
+IsWrittenAs quoting.Any text head = ⊥
 
 -- the text that an item comes with, if there is one, is that of its head
 abbrev pub IsSpelled : PlainItem → Type 0
-IsSpelled item = IfSome item.spelled (λ t. IsWrittenAs t.form t.text.now (raw_head item.head))
+IsSpelled item = IfSome item.spelled (λ t. IsWrittenAs t.quoting t.text.now (raw_head item.head))

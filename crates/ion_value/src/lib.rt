@@ -11,7 +11,7 @@ pub mod decimal;
 mod decimal_text;
 mod digit_text;
 mod digits;
-pub mod form;
+pub mod quoting;
 pub mod int;
 mod int_field;
 mod int_text;

@@ -3,9 +3,9 @@
 ghost use Rattle.std.specs.Prelude.{◌≡◌, ◌==◌, ◌&&◌, true, not, drop, is_none, codes};
 ghost use Rattle.std.specs.Str.{bytes_eq};
 ghost use Rattle.ion_value.specs.Digits.{all_are, cut_at, first_is, is_digit};
-ghost use Rattle.ion_value.specs.Name.{form_of, is_id, is_identifier, is_identifier_byte, is_identifier_start, is_number, is_own_in_quotes, is_plain, is_simple, is_version, keyword, version_word};
+ghost use Rattle.ion_value.specs.Name.{quoting_of, is_id, is_identifier, is_identifier_byte, is_identifier_start, is_number, is_own_in_quotes, is_plain, is_simple, is_version, keyword, version_word};
 
-use crate::form::Form;
+use crate::quoting::Quoting;
 
 /// Whether a text is written as a symbol without quotes: an identifier that means nothing else.
 #[inline]
@@ -26,16 +26,16 @@ pub fn is_simple(name: &[u8]) -> bool
 
 /// How a text is written as a symbol. Of one that begins with a dollar sign, or has an escape between
 /// quotes, nothing is said.
-pub fn form_of(name: &[u8]) -> Form
-    ensures { result ≡ form_of name.now }
+pub fn quoting_of(name: &[u8]) -> Quoting
+    ensures { result ≡ quoting_of name.now }
 {
     if is_simple(name) {
-        return Form::Bare;
+        return Quoting::Bare;
     }
     if is_plain(name) || !stands_in_quotes(name) {
-        return Form::Any;
+        return Quoting::Any;
     }
-    Form::Quoted
+    Quoting::Quoted
 }
 
 // Whether each byte stands for itself between the quotes of a symbol.

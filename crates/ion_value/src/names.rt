@@ -1,8 +1,8 @@
 //! The texts that ids stand for.
 ghost use Rattle.std.specs.Prelude.{◌≡◌, ℕ, List, Option, Some, None, MatchOption};
-ghost use Rattle.ion_value.specs.Name.{IsFormedAs};
+ghost use Rattle.ion_value.specs.Name.{IsQuotedAs};
 
-use crate::form::FormedText;
+use crate::quoting::NameText;
 
 /// A symbol table as items see it: which ids have a text.
 pub trait Names {
@@ -15,9 +15,9 @@ pub trait Names {
             (λ t. text self.now id ≡ Some t.now) };
 
     /// The text of an id and how it is written, or none where it has none.
-    fn formed_text(&self, id: u32) -> Option<FormedText<'_>>
+    fn name_text(&self, id: u32) -> Option<NameText<'_>>
         ensures { MatchOption result (text self.now id ≡ None)
-            (λ t. (text self.now id ≡ Some t.text.now) × IsFormedAs t.form t.text.now) };
+            (λ t. (text self.now id ≡ Some t.text.now) × IsQuotedAs t.quoting t.text.now) };
 }
 
 /// No id has a text, so that ids stay ids.
@@ -31,7 +31,7 @@ impl Names for NoNames {
         None
     }
 
-    fn formed_text(&self, _id: u32) -> Option<FormedText<'_>> {
+    fn name_text(&self, _id: u32) -> Option<NameText<'_>> {
         None
     }
 }

@@ -1,7 +1,7 @@
 //! Items whose symbols are texts, with two annotations at most: what most items are, and what is copied
 //! with the fewest steps.
 
-use crate::form::{Form, FormedText};
+use crate::quoting::{Quoting, NameText};
 use crate::item::Head;
 
 /// The text of a name or an annotation, and the place of its first byte in the input, counted from 0.
@@ -10,7 +10,7 @@ pub struct TextAt<'a> {
     /// The bytes of the text in UTF-8.
     pub text: &'a [u8],
     /// How it is written.
-    pub form: Form,
+    pub quoting: Quoting,
     /// The place of its first byte.
     pub place: u64,
 }
@@ -31,7 +31,7 @@ pub struct PlainItem<'n, 'h> {
     pub head: Head<'h>,
     /// The canonical text of the head, where a reader has it: of an int, a decimal, a timestamp or a
     /// symbol, each as it stands, or that of a symbol without its quotes.
-    pub spelled: Option<FormedText<'h>>,
+    pub spelled: Option<NameText<'h>>,
     /// The place of the head's first byte in the input.
     pub place: u64,
     /// The place of the first byte of the value at top level that the item belongs to.

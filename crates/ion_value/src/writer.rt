@@ -147,7 +147,7 @@ pub trait ValueWriter<O: Output, A: Allocator + Copy> {
     /// is changed. Nothing fails, and no device is used. No clause says which items it takes.
     ///
     /// It is called where neither the writer nor its sink has failed. What the item says of its parts
-    /// is so: a name or an annotation is written as its form says, and the text that it comes with
+    /// is so: a name or an annotation is written as its quoting says, and the text that it comes with
     /// (`spelled`) is that of its head.
     fn take_plain(
         &mut self,

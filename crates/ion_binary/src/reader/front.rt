@@ -11,7 +11,7 @@ use crate::body::id_of;
 use crate::shown::{shown_note, shown_var};
 use crate::wrapper::Frame;
 use ion_meter::limits::Limits;
-use ion_value::form::Form;
+use ion_value::quoting::Quoting;
 use ion_value::ion_type::Kind;
 use ion_value::names::Names;
 use ion_value::plain_item::TextAt;
@@ -213,7 +213,7 @@ fn second_text<'n, N: Names>(
 #[inline(always)]
 pub(super) fn is_bare(name: Option<TextAt<'_>>) -> bool {
     match name {
-        Some(name) => matches!(name.form, Form::Bare),
+        Some(name) => matches!(name.quoting, Quoting::Bare),
         None => true,
     }
 }

@@ -28,18 +28,18 @@ use crate::wrapper::Frame;
 use ion_meter::device::{Input, Output};
 use ion_meter::meter::Meter;
 use ion_meter::sink::Sink;
-use ion_value::form::{Form, FormedText, bare};
+use ion_value::quoting::{Quoting, NameText, bare};
 use ion_value::item::{Head, Sym, SymAt};
 use ion_value::names::Names;
 use ion_value::plain_item::PlainItem;
 use ion_value::writer::ValueWriter;
 use std::alloc::Allocator;
 
-// A head, and its text where it is a symbol whose form is known.
+// A head, and its text where it is a symbol whose quoting is known.
 #[derive(Clone, Copy)]
 struct SpelledHead<'h> {
     head: Head<'h>,
-    spelled: Option<FormedText<'h>>,
+    spelled: Option<NameText<'h>>,
 }
 
 // A head that comes without its text.
@@ -65,7 +65,7 @@ fn shown_head<'h, N: Names>(
         (whole (placed_scalar place (shown_scalar scalar.entry)))) }
     ensures known { IfSome result (λ h. IsKnownHead (raw_head h.head)) }
     ensures spelled { IfSome result
-        (λ h. IfSome h.spelled (λ t. IsWrittenAs t.form t.text.now (raw_head h.head))) }
+        (λ h. IfSome h.spelled (λ t. IsWrittenAs t.quoting t.text.now (raw_head h.head))) }
 {
     match scalar {
         ShownScalar::Null(of) => Some(unspelled(Head::Null(of))),
@@ -86,22 +86,22 @@ fn shown_symbol<'h, N: Names>(id: u32, place: u64, names: &'h N) -> Option<Spell
         (whole (placed_scalar place (shown_scalar (ShownScalar.Symbol id))))) }
     ensures known { IfSome result (λ h. IsKnownHead (raw_head h.head)) }
     ensures spelled { IfSome result
-        (λ h. IfSome h.spelled (λ t. IsWrittenAs t.form t.text.now (raw_head h.head))) }
+        (λ h. IfSome h.spelled (λ t. IsWrittenAs t.quoting t.text.now (raw_head h.head))) }
 {
-    let Some(found) = names.formed_text(id) else {
+    let Some(found) = names.name_text(id) else {
         return None;
     };
     let head = symbol_head(found.text, place);
-    match found.form {
-        Form::Bare => Some(SpelledHead {
+    match found.quoting {
+        Quoting::Bare => Some(SpelledHead {
             head,
             spelled: Some(bare(found.text)),
         }),
-        Form::Quoted => Some(SpelledHead {
+        Quoting::Quoted => Some(SpelledHead {
             head,
             spelled: Some(found),
         }),
-        Form::Any => Some(unspelled(head)),
+        Quoting::Any => Some(unspelled(head)),
     }
 }
 

@@ -1,14 +1,14 @@
 //! Texts of the ids of names and annotations.
 ghost use Rattle.std.specs.Prelude.{◌≡◌, ◌==◌, Some, IfSome};
 ghost use Rattle.ion_value.specs.Digits.{first_is};
-ghost use Rattle.ion_value.specs.PlainItems.{IsRightlyFormed};
+ghost use Rattle.ion_value.specs.PlainItems.{IsRightlyQuoted};
 
-use ion_value::form::Form;
+use ion_value::quoting::Quoting;
 use ion_value::names::Names;
 use ion_value::plain_item::TextAt;
 
 // The text of an id that stands at an offset, where it has one that is written as it stands, or any text
-// where `any` says so. Where that is false, the form is a constant.
+// where `any` says so. Where that is false, the quoting is a constant.
 #[inline(always)]
 pub(super) fn shown_text<'n, N: Names>(
     id: u32,
@@ -18,20 +18,20 @@ pub(super) fn shown_text<'n, N: Names>(
 ) -> Option<TextAt<'n>>
     ensures text { IfSome result (λ t. N.text names.entry.now id ≡ Some t.text.now) }
     ensures place { IfSome result (λ t. t.place ≡ place) }
-    ensures formed { IfSome result IsRightlyFormed }
+    ensures quoted { IfSome result IsRightlyQuoted }
 {
-    let Some(found) = names.formed_text(id) else {
+    let Some(found) = names.name_text(id) else {
         return None;
     };
-    match found.form {
-        Form::Bare => Some(TextAt {
+    match found.quoting {
+        Quoting::Bare => Some(TextAt {
             text: found.text,
-            form: Form::Bare,
+            quoting: Quoting::Bare,
             place,
         }),
-        form if any => Some(TextAt {
+        quoting if any => Some(TextAt {
             text: found.text,
-            form,
+            quoting,
             place,
         }),
         _ => None,
@@ -41,10 +41,10 @@ pub(super) fn shown_text<'n, N: Names>(
 // Whether a text begins with a dollar sign, as none does that is written as it stands.
 #[inline(always)]
 pub(super) fn begins_with_dollar(text: TextAt<'_>) -> bool
-    requires { IsRightlyFormed text }
+    requires { IsRightlyQuoted text }
     ensures { result ≡ first_is (λ b. b == 36) text.entry.text.now }
 {
-    if let Form::Bare = text.form {
+    if let Quoting::Bare = text.quoting {
         return false;
     }
     match text.text {

@@ -4,29 +4,29 @@ use crate::same::same;
 use ion_meter::meter::Meter;
 use ion_symbols::catalog::Catalog;
 use ion_symbols::symbols::{Slot, Symbols};
-use ion_value::form::{Form, FormedText};
+use ion_value::quoting::{Quoting, NameText};
 use ion_value::names::Names;
 use std::alloc::Global;
 use std::process::Abort;
 
 /// Ids, the text of each, and how it is written as far as that is known.
-const TEXTS: &[(u32, &[u8], Form)] = &[
-    (1, b"$ion", Form::Any),
-    (2, b"$ion_1_0", Form::Any),
-    (3, b"$ion_symbol_table", Form::Any),
-    (4, b"name", Form::Bare),
-    (5, b"version", Form::Bare),
-    (6, b"imports", Form::Bare),
-    (7, b"symbols", Form::Bare),
-    (8, b"max_id", Form::Bare),
-    (9, b"$ion_shared_symbol_table", Form::Any),
+const TEXTS: &[(u32, &[u8], Quoting)] = &[
+    (1, b"$ion", Quoting::Any),
+    (2, b"$ion_1_0", Quoting::Any),
+    (3, b"$ion_symbol_table", Quoting::Any),
+    (4, b"name", Quoting::Bare),
+    (5, b"version", Quoting::Bare),
+    (6, b"imports", Quoting::Bare),
+    (7, b"symbols", Quoting::Bare),
+    (8, b"max_id", Quoting::Bare),
+    (9, b"$ion_shared_symbol_table", Quoting::Any),
 ];
 
 // Asserts what an id without a text is.
 fn expect_none(rt: &impl Abort, symbols: &Symbols<Global>, id: u32, slot: Slot<'_>) {
     same(rt, (id, symbols.text(id)), (id, slot));
     same(rt, (id, symbols.text_of(id)), (id, None));
-    same(rt, (id, symbols.formed_text(id)), (id, None));
+    same(rt, (id, symbols.name_text(id)), (id, None));
 }
 
 #[test]
@@ -34,11 +34,11 @@ fn ids_1_to_9_have_texts_and_no_others(rt: HostRuntime) {
     let mut meter = Meter::new(rt.alloc());
     let catalog = Catalog::new(&meter);
     let symbols = Symbols::new(&meter, &catalog);
-    for (id, text, form) in TEXTS {
-        let formed = FormedText { text, form: *form };
+    for (id, text, quoting) in TEXTS {
+        let quoted = NameText { text, quoting: *quoting };
         same(&rt, (*id, symbols.text(*id)), (*id, Slot::Known(text)));
         same(&rt, (*id, symbols.text_of(*id)), (*id, Some(*text)));
-        same(&rt, (*id, symbols.formed_text(*id)), (*id, Some(formed)));
+        same(&rt, (*id, symbols.name_text(*id)), (*id, Some(quoted)));
     }
     expect_none(&rt, &symbols, 0, Slot::Unknown);
     for id in [10, 11, 2_147_483_648, u32::MAX] {

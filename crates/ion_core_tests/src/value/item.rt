@@ -1,7 +1,7 @@
 //! Items and their symbols.
 
 use crate::same::same;
-use ion_value::form::{FormedText, bare};
+use ion_value::quoting::{NameText, bare};
 use ion_value::item::{Annotation, Annotations, Head, Item, Sym, SymAt};
 use ion_value::names::{Names, NoNames};
 use std::process::Abort;
@@ -19,7 +19,7 @@ impl Names for OneName {
         if id == 10 { Some(b"name") } else { None }
     }
 
-    fn formed_text(&self, id: u32) -> Option<FormedText<'_>> {
+    fn name_text(&self, id: u32) -> Option<NameText<'_>> {
         if id == 10 { Some(bare(b"name")) } else { None }
     }
 }
@@ -74,5 +74,5 @@ fn gives_ids_as_they_are_and_as_their_texts(rt: HostRuntime) {
 fn there_may_be_no_annotations_and_no_names(rt: HostRuntime) {
     assert!(rt; Annotations::new(&[], &[], &NoNames).is_empty());
     same(&rt, NoNames.text_of(10), None);
-    same(&rt, NoNames.formed_text(10), None);
+    same(&rt, NoNames.name_text(10), None);
 }

@@ -59,7 +59,7 @@ fn text_for_call<'a>(text: Option<TextAt<'a>>) -> Option<TextAt<'a>>
     match text {
         Some(text) => Some(TextAt {
             text: text.text,
-            form: text.form,
+            quoting: text.quoting,
             place: text.place,
         }),
         None => None,

@@ -13,7 +13,7 @@ use ion_meter::device::Output;
 use ion_meter::meter::Meter;
 use ion_meter::sink::Sink;
 use ion_meter::stack::Stack;
-use ion_value::form::{FormedText, bare};
+use ion_value::quoting::{NameText, bare};
 use ion_value::ion_type::Kind;
 use ion_value::item::Head;
 use ion_value::plain_item::PlainItem;
@@ -99,9 +99,9 @@ fn pass_item<'a>(
 
 // A text that is written as it stands, if there is one.
 #[inline(always)]
-fn as_bare(text: Option<&[u8]>) -> Option<FormedText<'_>>
+fn as_bare(text: Option<&[u8]>) -> Option<NameText<'_>>
     ensures { (head : ReadHead SymbolAt) → IfSome text.entry (λ t. IsTextOf t.now head)
-        → IfSome result (λ t. IsWrittenAs t.form t.text.now head) }
+        → IfSome result (λ t. IsWrittenAs t.quoting t.text.now head) }
 {
     match text {
         Some(text) => Some(bare(text)),

@@ -17,8 +17,8 @@ use ion_meter::limits::Limits;
 use ion_meter::meter::Meter;
 use ion_meter::sink::Sink;
 use ion_meter::stack::Stack;
-use ion_value::form::Form::Bare;
-use ion_value::form::FormedText;
+use ion_value::quoting::Quoting::Bare;
+use ion_value::quoting::NameText;
 use ion_value::ion_type::Kind;
 use ion_value::item::{Head, Sym, SymAt};
 use ion_value::names::Names;
@@ -142,7 +142,7 @@ fn id_name<'a, N: Names>(
     };
     let name = TextAt {
         text: id.text,
-        form: Bare,
+        quoting: Bare,
         place,
     };
     behind_name(name, behind(id.count, bytes))
@@ -156,8 +156,11 @@ fn id_text<'a, N: Names>(bytes: &[u8], names: &'a N, limit: u64) -> Option<IdTex
         (λ id. IsIdOf (N.text names.now) limit bytes.now id.text.now id.count) }
 {
     match scan_word(limit, bytes) {
-        Scanned::Whole(Word::Id(id), count) => match names.formed_text(id) {
-            Some(FormedText { text, form: Bare }) => Some(IdText { text, count }),
+        Scanned::Whole(Word::Id(id), count) => match names.name_text(id) {
+            Some(name) if matches!(name.quoting, Bare) => Some(IdText {
+                text: name.text,
+                count,
+            }),
             _ => None,
         },
         _ => None,

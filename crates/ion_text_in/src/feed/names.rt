@@ -11,7 +11,7 @@ use crate::quoted::Quote;
 use crate::slice::{behind, front};
 use crate::word::simple_word;
 use ion_meter::limits::Limits;
-use ion_value::form::Form;
+use ion_value::quoting::Quoting;
 use ion_value::ion_type::Kind;
 use ion_value::plain_item::TextAt;
 
@@ -48,7 +48,7 @@ fn field_start<'a>(next: Next<'a>, limits: Limits, place: u64) -> Option<Start<'
     };
     let name = TextAt {
         text: front(count, next.rest),
-        form: Form::Bare,
+        quoting: Quoting::Bare,
         place,
     };
     behind_name(name, behind(count, next.rest))

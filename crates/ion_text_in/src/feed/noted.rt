@@ -11,7 +11,7 @@ use crate::quoted::Quote;
 use crate::slice::{behind, front};
 use crate::word::simple_word;
 use ion_meter::limits::Limits;
-use ion_value::form::Form;
+use ion_value::quoting::Quoting;
 use ion_value::plain_item::TextAt;
 
 /// Behind the word that stands here and begins at a place, as an annotation: where two colons stand
@@ -29,7 +29,7 @@ pub(super) fn noted<'a>(
 {
     let note = TextAt {
         text: front(count, start.next.rest),
-        form: Form::Bare,
+        quoting: Quoting::Bare,
         place,
     };
     behind_note(start, note, behind(count, start.next.rest), limits)

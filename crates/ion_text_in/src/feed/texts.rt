@@ -1,13 +1,13 @@
 //! Texts of plain bytes alone, between quotes.
 ghost use Rattle.std.specs.Prelude.{◌≡◌, ◌<◌, length, IfSome};
-ghost use Rattle.ion_value.specs.PlainItems.{IsRightlyFormed};
+ghost use Rattle.ion_value.specs.PlainItems.{IsRightlyQuoted};
 ghost use Rattle.ion_text_in.specs.Feeding.{IsBetween};
 ghost use Rattle.ion_text_in.specs.Quotes.{quote_of};
 
 use crate::quoted::{Quote, scan_text};
 use crate::scanned::Scanned;
 use crate::slice::{behind, front};
-use ion_value::form::Form;
+use ion_value::quoting::Quoting;
 use ion_value::plain_item::TextAt;
 
 /// A text, and the bytes behind its closing quote.
@@ -38,11 +38,11 @@ pub(super) fn text_between(quote: Quote, limit: u64, bytes: &[u8]) -> Option<Bet
 pub(super) fn quoted_text<'a>(text: &'a [u8], place: u64) -> TextAt<'a>
     ensures text { result.text.now ≡ text.now }
     ensures place { result.place ≡ place }
-    ensures says { IsRightlyFormed result }
+    ensures says { IsRightlyQuoted result }
 {
     TextAt {
         text,
-        form: Form::Any,
+        quoting: Quoting::Any,
         place,
     }
 }

@@ -34,11 +34,11 @@ take_plain-requires-in-Begin-clause-plain g c =
     rw (c.item_behind-item-in-Begin.ensures, c.unspelled.ensures) (record { field = shown-known c.args.front.field; annotations = c.requires.item.front.free; head = tt })
 
 pub take_plain-requires-clause-simple : goal.take_plain-requires-clause-simple
-take_plain-requires-clause-simple g c = rw c.item_behind-item.ensures (record { field = c.requires.item.front.name.formed; annotation = c.requires.item.front.formed; second = c.requires.item.front.second })
+take_plain-requires-clause-simple g c = rw c.item_behind-item.ensures (record { field = c.requires.item.front.name.quoted; annotation = c.requires.item.front.quoted; second = c.requires.item.front.second })
 
 pub take_plain-requires-in-Begin-clause-simple : goal.take_plain-requires-in-Begin-clause-simple
 take_plain-requires-in-Begin-clause-simple g c =
-    rw (c.item_behind-item-in-Begin.ensures, c.unspelled.ensures) (record { field = c.requires.item.front.name.formed; annotation = c.requires.item.front.formed; second = c.requires.item.front.second })
+    rw (c.item_behind-item-in-Begin.ensures, c.unspelled.ensures) (record { field = c.requires.item.front.name.quoted; annotation = c.requires.item.front.quoted; second = c.requires.item.front.second })
 
 pub take_plain-requires-clause-spelled : goal.take_plain-requires-clause-spelled
 take_plain-requires-clause-spelled g c = rw c.item_behind-item.ensures c.in-Some-shown_head.ensures.spelled

@@ -9,5 +9,5 @@ returns g c =
       has = subst (λ n. g.N.Names.text c.args.names.now n ≡ Some text.text.now) c.id_of.ensures shown.text;
       stands = shown.place;
       free = sym c.begins_with_dollar.ensures ∙ c.if-begins_with_dollar.false;
-      formed = shown.formed;
+      quoted = shown.quoted;
     }

@@ -20,14 +20,14 @@ pop-last-requires g c =
 
 pub invariant_of-self-in_default-extend : goal.invariant_of-self-in_default-extend
 invariant_of-self-in_default-extend g c = (
-  pushed_tiles c.self.inside.texts c.args.text.now c.extend.new.self c.self.inside.parts c.push.new.self (length c.as_slice-from.result.now) c.form_of.result c.self.invariant.0 (ap length c.as_slice-from.ensures) c.in_default.ensures.ok c.in_default-extend.ensures.ok,
+  pushed_tiles c.self.inside.texts c.args.text.now c.extend.new.self c.self.inside.parts c.push.new.self (length c.as_slice-from.result.now) c.quoting_of.result c.self.invariant.0 (ap length c.as_slice-from.ensures) c.in_default.ensures.ok c.in_default-extend.ensures.ok,
   marked_push c.self.inside.texts c.extend.new.self c.self.inside.parts c.push.new.self _ (Some c.args.text.now) c.self.invariant.1 c.in_default.ensures.ok
-      (pushed_kept c.self.inside.texts c.args.text.now c.extend.new.self c.self.inside.parts c.push.new.self (length c.as_slice-from.result.now) c.form_of.result c.self.invariant.0 (ap length c.as_slice-from.ensures) c.in_default.ensures.ok c.in_default-extend.ensures.ok)
-      c.form_of.ensures,
+      (pushed_kept c.self.inside.texts c.args.text.now c.extend.new.self c.self.inside.parts c.push.new.self (length c.as_slice-from.result.now) c.quoting_of.result c.self.invariant.0 (ap length c.as_slice-from.ensures) c.in_default.ensures.ok c.in_default-extend.ensures.ok)
+      c.quoting_of.ensures,
 )
 
 pub returns-clause-ok : goal.returns-clause-ok
-returns-clause-ok g c = pushed_kept c.self.inside.texts c.args.text.now c.extend.new.self c.self.inside.parts c.push.new.self (length c.as_slice-from.result.now) c.form_of.result c.self.invariant.0 (ap length c.as_slice-from.ensures) c.in_default.ensures.ok c.in_default-extend.ensures.ok ∙ ap (λ ss. ss ++ Some c.args.text.now ∷ []) c.self.view_is
+returns-clause-ok g c = pushed_kept c.self.inside.texts c.args.text.now c.extend.new.self c.self.inside.parts c.push.new.self (length c.as_slice-from.result.now) c.quoting_of.result c.self.invariant.0 (ap length c.as_slice-from.ensures) c.in_default.ensures.ok c.in_default-extend.ensures.ok ∙ ap (λ ss. ss ++ Some c.args.text.now ∷ []) c.self.view_is
 
 pub returns-in-Err-extend-clause-undone : goal.returns-in-Err-extend-clause-undone
 returns-in-Err-extend-clause-undone g c = grind (arith, common_steps)

@@ -1,6 +1,6 @@
 use Rattle.std.proofs.lemmas.Grind.{elements}
 use Rattle.std.proofs.Common.{subst, arith}
-use Rattle.ion_symbols.specs.Kept.{IsFormed}
+use Rattle.ion_symbols.specs.Kept.{IsNameText}
 use Rattle.ion_symbols.proofs.Importing.{imported_text, total_imports}
 use Rattle.ion_symbols.proofs.symbols.Symbols.early_text.Goals as goal
 
@@ -11,7 +11,7 @@ import_at-requires g c =
 pub returns : goal.returns
 returns g c =
     let t = imported_text c.self.inside.catalog.now c.self.inside.imports.items c.self.inside.import_slots c.self.inside.slots c.args.self.now c.self.invariant.starts c.self.view_is c.import_at.result c.args.id c.if-id-lt10.false (rw c.as_slice-imports.ensures at c.import_at.ensures) in
-    subst (IsFormed c.shared.result) t (rw c.as_slice-imports.ensures at c.shared.ensures)
+    subst (IsNameText c.shared.result) t (rw c.as_slice-imports.ensures at c.shared.ensures)
 
 pub offset_bounds-imports-import_at : goal.offset_bounds-imports-import_at
 offset_bounds-imports-import_at g c = grind (arith, elements)

@@ -3,7 +3,7 @@ ghost use Rattle.std.specs.Prelude.{◌≡◌};
 
 /// How the text of a symbol is written in canonical text, as far as that is known.
 #[derive(Clone, Copy, Debug, PartialEq, Eq)]
-pub enum Form {
+pub enum Quoting {
     /// As it stands: an identifier that means nothing else and does not begin with a dollar sign.
     Bare,
     /// As it stands between quotes: no identifier that means nothing else, and no byte has an escape.
@@ -14,21 +14,21 @@ pub enum Form {
 
 /// A text and how it is written.
 #[derive(Clone, Copy, Debug, PartialEq, Eq)]
-pub struct FormedText<'a> {
+pub struct NameText<'a> {
     /// The bytes of the text in UTF-8.
     pub text: &'a [u8],
     /// How it is written.
-    pub form: Form,
+    pub quoting: Quoting,
 }
 
 /// A text that is written as it stands.
 #[inline(always)]
-pub fn bare(text: &[u8]) -> FormedText<'_>
+pub fn bare(text: &[u8]) -> NameText<'_>
     ensures text { result.text.now ≡ text.now }
-    ensures form { result.form ≡ Form.Bare }
+    ensures quoting { result.quoting ≡ Quoting.Bare }
 {
-    FormedText {
+    NameText {
         text,
-        form: Form::Bare,
+        quoting: Quoting::Bare,
     }
 }

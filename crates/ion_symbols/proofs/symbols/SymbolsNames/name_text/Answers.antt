@@ -1,7 +1,7 @@
 use Rattle.std.proofs.Common.{subst, arith}
-use Rattle.ion_symbols.specs.Kept.{IsFormed}
+use Rattle.ion_symbols.specs.Kept.{IsNameText}
 use Rattle.ion_symbols.proofs.Importing.{local_text_at, total_imports}
-use Rattle.ion_symbols.proofs.symbols.SymbolsNames.formed_text.Goals as goal
+use Rattle.ion_symbols.proofs.symbols.SymbolsNames.name_text.Goals as goal
 
 pub early-requires : goal.early-requires
 early-requires g c =
@@ -9,6 +9,6 @@ early-requires g c =
 
 pub returns : goal.returns
 returns g c =
-    subst (IsFormed c.formed.result)
+    subst (IsNameText c.name_text.result)
     (local_text_at c.self.inside.catalog.now c.self.inside.imports.items c.self.inside.import_slots c.self.inside.slots c.args.self.now c.self.invariant.starts c.self.view_is c.args.id c.if-place-first.false)
-    c.formed.ensures
+    c.name_text.ensures

@@ -188,3 +188,7 @@ pub start-second : {bounds : Bounds} {spot : Spot} {start noted : Start} (new : 
     → IsNoted bounds.limits (place_in bounds start.next.rest.now) start noted → length spot.rest.now ≤ bounds.end → IsStart bounds spot start → IsFurther noted.note bounds spot new
 start-second {start} {noted} new field kept next some h within is =
     start-more noted.note new within is h field next (rw (kept, h.is) refl) (rw kept is.note) (rw (h.is, kept) (stands-behind start.note h.text some h.says))
+
+-- before the first annotation there is the whole limit
+pub first-room : (limit : ℕ) (before : Option TextAt) → before ≡ None → limit ≡ limit - sum_by cost (notes before)
+first-room limit before none = rw none (omega arith)

@@ -148,7 +148,7 @@ fn note<'a, W: ValueWriter<O, A>, O: Output, A: Allocator + Copy>(
         (lane kinds.new at.new writer.new sink.new meter.new) }
 {
     let place = bounds.end - start.next.rest.len() as u64;
-    match noted(start, bounds.limits, place, count) {
+    match noted(start, bounds.limits.scalar, place, count) {
         Some(start) => rare(at, start, bounds, kinds, meter, writer, sink),
         None => false,
     }

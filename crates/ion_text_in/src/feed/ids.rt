@@ -1,5 +1,6 @@
 //! Members in a lane that have an id: their name is one, or they are one.
 ghost use Rattle.std.specs.Prelude.{◌≡◌, ◌<◌, ◌≤◌, ◌==◌, None, true, length, IfSome};
+ghost use Rattle.ion_value.specs.declared.quoting.Quoting.TheVariants as Quoting;
 ghost use Rattle.ion_value.specs.Digits.{first_is};
 ghost use Rattle.ion_text_in.specs.Feeding.{lane, place_in, Begins, CanFeed, IsFoundBy, IsIdOf, IsNamedBy, IsNext, IsStartBy, MovedBy, TurnsBy};
 
@@ -157,12 +158,24 @@ fn id_text<'a, N: Names>(bytes: &[u8], names: &'a N, limit: u64) -> Option<IdTex
 {
     match scan_word(limit, bytes) {
         Scanned::Whole(Word::Id(id), count) => match names.name_text(id) {
-            Some(name) if matches!(name.quoting, Bare) => Some(IdText {
-                text: name.text,
-                count,
-            }),
-            _ => None,
+            Some(name) => match bare_text(name) {
+                Some(text) => Some(IdText { text, count }),
+                None => None,
+            },
+            None => None,
         },
+        _ => None,
+    }
+}
+
+// A symbol's text, where it is written as it stands.
+#[inline(always)]
+fn bare_text(name: NameText<'_>) -> Option<&[u8]>
+    ensures text { IfSome result (λ t. t.now ≡ name.entry.text.now) }
+    ensures bare { IfSome result (λ _. name.entry.quoting ≡ Quoting.Bare) }
+{
+    match name.quoting {
+        Bare => Some(name.text),
         _ => None,
     }
 }

@@ -1,5 +1,5 @@
 //! Annotations in a lane.
-ghost use Rattle.std.specs.Prelude.{◌≡◌, ◌==◌, ◌-◌, ◌≤◌, true, length, sum_by, IfSome};
+ghost use Rattle.std.specs.Prelude.{◌≡◌, ◌==◌, ◌-◌, ◌≤◌, true, Some, length, sum_by, IfSome};
 ghost use Rattle.ion_value.specs.Digits.{first_is};
 ghost use Rattle.ion_text_in.specs.Feeding.{notes, Begins, BeginsAs, IsBehindColons, IsBehindNote, IsNoted, IsSimpleWord, LeadsFurther};
 ghost use Rattle.ion_text_in.specs.Reading.{cost};
@@ -14,32 +14,41 @@ use ion_meter::limits::Limits;
 use ion_value::quoting::Quoting;
 use ion_value::plain_item::TextAt;
 
-/// Behind the word that stands here and begins at a place, as an annotation: where two colons stand
-/// behind it, and a value begins behind them.
+/// After the word that stands here and begins at a place, as an annotation: where two colons follow,
+/// and a value begins after them. `room` is what an annotation before it leaves of the limit on
+/// scalars.
 #[inline(always)]
 pub(super) fn noted<'a>(
     start: Start<'a>,
-    limits: Limits,
+    room: u64,
     place: u64,
     count: usize,
 ) -> Option<Start<'a>>
     requires begins { BeginsAs a_word start.next.rest.now }
-    requires word { IsSimpleWord limits.scalar start.next.rest.now count }
-    ensures { IfSome result (IsNoted limits place start.entry) }
+    requires some { count ≤ length start.next.rest.now }
+    ensures { (limits : Limits) → IsSimpleWord limits.scalar start.entry.next.rest.now count
+        → room ≡ limits.scalar - sum_by cost (notes start.entry.note)
+        → IfSome result (IsNoted limits place start.entry) }
 {
     let note = TextAt {
         text: front(count, start.next.rest),
         quoting: Quoting::Bare,
         place,
     };
-    behind_note(start, note, behind(count, start.next.rest), limits)
+    behind_note(start, note, behind(count, start.next.rest), room)
 }
 
 /// After an annotation in quotes of plain bytes alone that does not begin with a dollar sign: where
 /// two colons follow, and a value begins after them.
 #[inline(never)]
-pub(super) fn quoted_noted<'a>(start: Start<'a>, limits: Limits, place: u64) -> Option<Start<'a>>
-    requires { BeginsAs a_quoted start.next.rest.now }
+pub(super) fn quoted_noted<'a>(
+    start: Start<'a>,
+    limits: Limits,
+    room: u64,
+    place: u64,
+) -> Option<Start<'a>>
+    requires room { room ≡ limits.scalar - sum_by cost (notes start.note) }
+    requires begins { BeginsAs a_quoted start.next.rest.now }
     ensures { IfSome result (IsNoted limits place start.entry) }
 {
     let Some(note) = text_between(Quote::Symbol, limits.scalar, start.next.rest) else {
@@ -48,32 +57,30 @@ pub(super) fn quoted_noted<'a>(start: Start<'a>, limits: Limits, place: u64) -> 
     if begins_dollar(note.text) {
         return None;
     }
-    behind_note(start, quoted_text(note.text, place), note.rest, limits)
+    behind_note(start, quoted_text(note.text, place), note.rest, room)
 }
 
-// What is left of the limit on scalars after an annotation, if there is one.
+// What is left of the limit on scalars after an annotation.
 #[inline(always)]
-fn room_after(note: Option<TextAt<'_>>, limits: Limits) -> u64
-    ensures { result ≡ limits.scalar - sum_by cost (notes note.entry) }
+fn room_after(note: TextAt<'_>, limits: Limits) -> u64
+    ensures { result ≡ limits.scalar - sum_by cost (notes (Some note.entry)) }
 {
-    match note {
-        Some(note) => limits.scalar.saturating_sub(16 + note.text.len() as u64),
-        None => limits.scalar,
-    }
+    limits.scalar.saturating_sub(16 + note.text.len() as u64)
 }
 
-// Behind an annotation: where two colons stand here, its bytes and those of one before it are no more
-// than may be, and a value begins behind them.
+// After an annotation: where two colons stand here, there is room for its bytes, and a value begins
+// after them.
 #[inline(always)]
 fn behind_note<'a>(
     start: Start<'a>,
     note: TextAt<'a>,
     colons: &'a [u8],
-    limits: Limits,
+    room: u64,
 ) -> Option<Start<'a>>
-    ensures { IfSome result (IsBehindNote limits start.entry note.entry colons.now) }
+    ensures { (limits : Limits) → room ≡ limits.scalar - sum_by cost (notes start.entry.note)
+        → IfSome result (IsBehindNote limits start.entry note.entry colons.now) }
 {
-    if room_after(start.note, limits) < 16 + note.text.len() as u64 {
+    if room < 16 + note.text.len() as u64 {
         return None;
     }
     let Some(value) = behind_colons(colons) else {
@@ -112,14 +119,18 @@ pub(super) fn with_second<'a>(start: Start<'a>, bounds: Bounds) -> Further<'a>
         start,
         second: None,
     };
-    if start.note.is_none() || start.next.told != WORD {
+    let Some(first) = start.note else {
+        return single;
+    };
+    if start.next.told != WORD {
         return single;
     }
     let Some(count) = simple_word(bounds.limits.scalar, start.next.rest) else {
         return single;
     };
     let place = bounds.end - start.next.rest.len() as u64;
-    let Some(after) = noted(start, bounds.limits, place, count) else {
+    let room = room_after(first, bounds.limits);
+    let Some(after) = noted(start, room, place, count) else {
         return single;
     };
     Further {

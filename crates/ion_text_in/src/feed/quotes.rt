@@ -119,7 +119,7 @@ fn any_quoted<'a, W: ValueWriter<O, A>, O: Output, A: Allocator + Copy>(
         let more = forward(&mut at, start, found, bounds, kinds, meter, writer, sink);
         return Turned { spot: at, more };
     }
-    match quoted_noted(start, bounds.limits, place) {
+    match quoted_noted(start, bounds.limits, bounds.limits.scalar, place) {
         Some(start) => any_value(spot, start, bounds, kinds, meter, writer, sink),
         None => Turned { spot, more: false },
     }

@@ -7,10 +7,9 @@ use Rattle.ion_text_in.proofs.FeedNoted.{note-behind, symbol-token}
 use Rattle.ion_text_in.proofs.feed.noted.noted.Goals as goal
 
 pub returns : goal.returns
-returns c =
+returns c = λ limits word room.
     let a = c.args in
     let note : TextAt = record { text = c.front.result; quoting = quoting.Bare; place = a.place } in
-    let word = c.requires.word in
     let simple = ap (λ (l : List ℕ). is_simple l) c.front.ensures ∙ word.simple in
     note-behind c.args.start c.behind_note.result (symbol-token false note refl c.front.ensures (token-word c.behind.ensures word c.requires.begins))
-    simple (simple-free c.front.result.now simple) c.behind_note.ensures
+    simple (simple-free c.front.result.now simple) (c.behind_note.ensures limits room)

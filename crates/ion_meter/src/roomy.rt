@@ -9,6 +9,10 @@ use std::marker::Model;
 // How many bytes are moved as one block.
 const BLOCK: usize = 16;
 
+// For how many bytes room is made at least. Calls that add only where there is room ask for that of whole
+// blocks: a buffer that grew to the few bytes of short values would turn each of them away.
+const LEAST: usize = 64;
+
 /// Bytes, and behind them others that mean nothing. A clause sees the list of the bytes, and how many
 /// more there is room for.
 #[derive(Drop)]
@@ -87,7 +91,7 @@ impl<A: Allocator + Copy> Roomy<A> {
         ensures room { result ≡ true → count ≤ self.new.room }
         ensures same { result ≡ false → self.new ≡ self.old }
     {
-        if self.bytes.reserve(count).is_err() {
+        if self.bytes.reserve(count.max(LEAST)).is_err() {
             return false;
         }
         // All of the capacity, so that each byte of it is written once. It takes no memory.

@@ -9,8 +9,8 @@ use ion_meter::buf::Buf;
 use ion_meter::fault::Fault;
 use ion_meter::meter::Meter;
 use ion_meter::stack::Stack;
-use ion_value::quoting::{Quoting, NameText, bare};
 use ion_value::name::quoting_of;
+use ion_value::quoting::{NameText, Quoting, bare};
 use std::alloc::Allocator;
 use std::marker::Model;
 

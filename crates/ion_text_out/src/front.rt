@@ -10,8 +10,8 @@ use crate::quote::stands_in_symbol;
 use arrayvec::ArrayVec;
 use ion_meter::device::Output;
 use ion_meter::sink::Sink;
-use ion_value::quoting::Quoting;
 use ion_value::plain_item::TextAt;
+use ion_value::quoting::Quoting;
 use std::alloc::Allocator;
 
 /// The text of a symbol that may be there, empty where there is none, and whether it is written as

@@ -1,8 +1,8 @@
 //! Items whose symbols are texts, with two annotations at most: what most items are, and what is copied
 //! with the fewest steps.
 
-use crate::quoting::{Quoting, NameText};
 use crate::item::Head;
+use crate::quoting::{NameText, Quoting};
 
 /// The text of a name or an annotation, and the place of its first byte in the input, counted from 0.
 #[derive(Clone, Copy, Debug, PartialEq, Eq)]

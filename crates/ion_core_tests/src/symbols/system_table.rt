@@ -4,8 +4,8 @@ use crate::same::same;
 use ion_meter::meter::Meter;
 use ion_symbols::catalog::Catalog;
 use ion_symbols::symbols::{Slot, Symbols};
-use ion_value::quoting::{Quoting, NameText};
 use ion_value::names::Names;
+use ion_value::quoting::{NameText, Quoting};
 use std::alloc::Global;
 use std::process::Abort;
 
@@ -35,7 +35,10 @@ fn ids_1_to_9_have_texts_and_no_others(rt: HostRuntime) {
     let catalog = Catalog::new(&meter);
     let symbols = Symbols::new(&meter, &catalog);
     for (id, text, quoting) in TEXTS {
-        let quoted = NameText { text, quoting: *quoting };
+        let quoted = NameText {
+            text,
+            quoting: *quoting,
+        };
         same(&rt, (*id, symbols.text(*id)), (*id, Slot::Known(text)));
         same(&rt, (*id, symbols.text_of(*id)), (*id, Some(*text)));
         same(&rt, (*id, symbols.name_text(*id)), (*id, Some(quoted)));

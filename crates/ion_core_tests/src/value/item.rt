@@ -1,9 +1,9 @@
 //! Items and their symbols.
 
 use crate::same::same;
-use ion_value::quoting::{NameText, bare};
 use ion_value::item::{Annotation, Annotations, Head, Item, Sym, SymAt};
 use ion_value::names::{Names, NoNames};
+use ion_value::quoting::{NameText, bare};
 use std::process::Abort;
 
 // Names of one id.

@@ -1,8 +1,8 @@
 //! How texts are written as symbols.
 
 use crate::same::same;
+use ion_value::name::{is_plain, is_simple, quoting_of};
 use ion_value::quoting::Quoting;
-use ion_value::name::{quoting_of, is_plain, is_simple};
 
 /// Texts, whether they are written without quotes, and how they are.
 const TEXTS: &[(&str, bool, Quoting)] = &[
@@ -50,6 +50,10 @@ fn plain_texts_and_quotings_are_told(rt: HostRuntime) {
         let bytes = text.as_bytes();
         same(&rt, (*text, is_plain(bytes)), (*text, *plain));
         same(&rt, (*text, quoting_of(bytes)), (*text, *quoting));
-        same(&rt, (*text, is_simple(bytes)), (*text, matches!(quoting, Quoting::Bare)));
+        same(
+            &rt,
+            (*text, is_simple(bytes)),
+            (*text, matches!(quoting, Quoting::Bare)),
+        );
     }
 }

@@ -13,10 +13,10 @@ use ion_meter::device::Output;
 use ion_meter::meter::Meter;
 use ion_meter::sink::Sink;
 use ion_meter::stack::Stack;
-use ion_value::quoting::{NameText, bare};
 use ion_value::ion_type::Kind;
 use ion_value::item::Head;
 use ion_value::plain_item::PlainItem;
+use ion_value::quoting::{NameText, bare};
 use ion_value::writer::ValueWriter;
 use std::alloc::Allocator;
 

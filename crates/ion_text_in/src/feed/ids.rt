@@ -18,12 +18,12 @@ use ion_meter::limits::Limits;
 use ion_meter::meter::Meter;
 use ion_meter::sink::Sink;
 use ion_meter::stack::Stack;
-use ion_value::quoting::Quoting::Bare;
-use ion_value::quoting::NameText;
 use ion_value::ion_type::Kind;
 use ion_value::item::{Head, Sym, SymAt};
 use ion_value::names::Names;
 use ion_value::plain_item::TextAt;
+use ion_value::quoting::NameText;
+use ion_value::quoting::Quoting::Bare;
 use ion_value::writer::ValueWriter;
 use std::alloc::Allocator;
 

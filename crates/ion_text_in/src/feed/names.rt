@@ -11,9 +11,9 @@ use crate::quoted::Quote;
 use crate::slice::{behind, front};
 use crate::word::simple_word;
 use ion_meter::limits::Limits;
-use ion_value::quoting::Quoting;
 use ion_value::ion_type::Kind;
 use ion_value::plain_item::TextAt;
+use ion_value::quoting::Quoting;
 
 /// What the value begins with that may begin here, behind the name of its field where one must come, which
 /// stands without quotes.

@@ -11,19 +11,14 @@ use crate::quoted::Quote;
 use crate::slice::{behind, front};
 use crate::word::simple_word;
 use ion_meter::limits::Limits;
-use ion_value::quoting::Quoting;
 use ion_value::plain_item::TextAt;
+use ion_value::quoting::Quoting;
 
 /// After the word that stands here and begins at a place, as an annotation: where two colons follow,
 /// and a value begins after them. `room` is what an annotation before it leaves of the limit on
 /// scalars.
 #[inline(always)]
-pub(super) fn noted<'a>(
-    start: Start<'a>,
-    room: u64,
-    place: u64,
-    count: usize,
-) -> Option<Start<'a>>
+pub(super) fn noted<'a>(start: Start<'a>, room: u64, place: u64, count: usize) -> Option<Start<'a>>
     requires begins { BeginsAs a_word start.next.rest.now }
     requires some { count ≤ length start.next.rest.now }
     ensures { (limits : Limits) → IsSimpleWord limits.scalar start.entry.next.rest.now count

@@ -7,8 +7,8 @@ ghost use Rattle.ion_text_in.specs.Quotes.{quote_of};
 use crate::quoted::{Quote, scan_text};
 use crate::scanned::Scanned;
 use crate::slice::{behind, front};
-use ion_value::quoting::Quoting;
 use ion_value::plain_item::TextAt;
+use ion_value::quoting::Quoting;
 
 /// A text, and the bytes behind its closing quote.
 #[derive(Clone, Copy)]

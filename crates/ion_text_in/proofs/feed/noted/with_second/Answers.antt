@@ -1,4 +1,4 @@
-use Rattle.std.proofs.Common.{◌∙◌, refl, ap, arith}
+use Rattle.std.proofs.Common.{refl, ap, arith}
 use Rattle.std.specs.Prelude.{is_none}
 use Rattle.ion_text_in.proofs.FeedHeads.{told-begins}
 use Rattle.ion_text_in.proofs.FeedNoted.{start-second}

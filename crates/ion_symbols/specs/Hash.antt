@@ -25,15 +25,17 @@ front_of t = if nat_le 8 (length t) then eight_at t 0 else (if nat_le 4 (length 
 unfoldable pub back_of : List ℕ → ℕ
 back_of t = if nat_le 8 (length t) then eight_at t (length t - 8) else (if nat_le 4 (length t) then four_at t (length t - 4) else 0)
 
--- bytes between them
+-- of more than 16 bytes those between them
 unfoldable pub middle_of : List ℕ → ℕ
-middle_of t = if nat_lt 16 (length t) then (eight_at t 8 * 11400714819323198485 % 2 ^ 64 + eight_at t (length t - 16)) % 2 ^ 64 else 0
+middle_of t = (eight_at t 8 * 11400714819323198485 % 2 ^ 64 + eight_at t (length t - 16)) % 2 ^ 64
 
--- the sum of the parts, each times an odd number
+-- the first bytes and the sum of the last and the length, each times an odd number
+unfoldable pub ends_of : List ℕ → ℕ
+ends_of t = (front_of t * 11400714819323198485 % 2 ^ 64 + (back_of t + length t) % 2 ^ 64 * 15485907386658061715 % 2 ^ 64) % 2 ^ 64
+
+-- the sum of all parts
 unfoldable pub sum_of : List ℕ → ℕ
-sum_of t =
-    ((front_of t * 11400714819323198485 % 2 ^ 64 + back_of t * 15485907386658061715 % 2 ^ 64) % 2 ^ 64
-    + (middle_of t * 11562461410679940143 % 2 ^ 64 + length t * 16646288086500911323 % 2 ^ 64) % 2 ^ 64) % 2 ^ 64
+sum_of t = if nat_lt 16 (length t) then (ends_of t + middle_of t * 11562461410679940143 % 2 ^ 64) % 2 ^ 64 else ends_of t
 
 -- the hash of a text
 unfoldable pub hash_of : List ℕ → ℕ

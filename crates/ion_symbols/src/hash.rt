@@ -1,6 +1,6 @@
 //! The hash of a text.
 ghost use Rattle.std.specs.Prelude.{◌≡◌, ◌+◌, ◌-◌, ◌<◌, ◌≤◌, length, replicate};
-ghost use Rattle.ion_symbols.specs.Hash.{back_of, bucket_in, digits_in, eight_at, few_of, four_at, front_of, hash_of, middle_of};
+ghost use Rattle.ion_symbols.specs.Hash.{back_of, bucket_in, digits_in, eight_at, few_of, four_at, front_of, hash_of, middle_of, sum_of};
 
 /// How many buckets there are.
 pub(crate) const BUCKETS: usize = 512;
@@ -11,8 +11,6 @@ const FRONT: u64 = 0x9E37_79B9_7F4A_7C15;
 const BACK: u64 = 0xD6E8_FEB8_6659_FD93;
 
 const MIDDLE: u64 = 0xA076_1D64_78BD_642F;
-
-const LENGTH: u64 = 0xE703_7ED1_A0B4_28DB;
 
 /// Buckets without texts.
 #[inline]
@@ -27,14 +25,24 @@ pub(crate) fn no_buckets() -> [u32; BUCKETS]
 pub(crate) fn hash(text: &[u8]) -> u64
     ensures { result ≡ hash_of text.now }
 {
+    let sum = sum(text);
+    sum.wrapping_add(sum / 4_294_967_296).wrapping_mul(FRONT)
+}
+
+// The sum of the parts of a text and its length, each times an odd number.
+#[inline(always)]
+fn sum(text: &[u8]) -> u64
+    ensures { result ≡ sum_of text.now }
+{
+    let last = back(text).wrapping_add(text.len() as u64);
     let ends = front(text)
         .wrapping_mul(FRONT)
-        .wrapping_add(back(text).wrapping_mul(BACK));
-    let rest = middle(text)
-        .wrapping_mul(MIDDLE)
-        .wrapping_add((text.len() as u64).wrapping_mul(LENGTH));
-    let sum = ends.wrapping_add(rest);
-    sum.wrapping_add(sum / 4_294_967_296).wrapping_mul(FRONT)
+        .wrapping_add(last.wrapping_mul(BACK));
+    if text.len() > 16 {
+        ends.wrapping_add(middle(text).wrapping_mul(MIDDLE))
+    } else {
+        ends
+    }
 }
 
 /// The bucket of a hash: its highest binary digits.
@@ -85,15 +93,12 @@ fn back(text: &[u8]) -> u64
 // Of a text of more than 16 bytes eight behind the first eight and eight before the last eight.
 #[inline]
 fn middle(text: &[u8]) -> u64
+    requires { 16 < length text.now }
     ensures { result ≡ middle_of text.now }
 {
-    if text.len() > 16 {
-        eight(text, 8)
-            .wrapping_mul(FRONT)
-            .wrapping_add(eight(text, text.len() - 16))
-    } else {
-        0
-    }
+    eight(text, 8)
+        .wrapping_mul(FRONT)
+        .wrapping_add(eight(text, text.len() - 16))
 }
 
 // The first byte of a text below four bytes, the one in the middle, and the last.

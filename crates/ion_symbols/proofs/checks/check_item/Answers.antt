@@ -1,5 +1,4 @@
-use Rattle.std.proofs.lemmas.Grind.{common_steps}
-use Rattle.std.proofs.Common.{Err, sym, subst, ◌∙◌, arith}
+use Rattle.std.proofs.Common.{Err, sym, subst, ◌∙◌}
 use Rattle.ion_value.specs.Items.{raw_annotations, raw_field, raw_head, raw_item}
 use Rattle.ion_symbols.specs.Users.{checked, or_else, field_checked, annotations_checked, head_checked}
 use Rattle.ion_symbols.specs.User.{CheckedAs}

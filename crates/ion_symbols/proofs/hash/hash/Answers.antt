@@ -1,7 +1,7 @@
 use Rattle.std.proofs.Common.{rules}
-use Rattle.ion_symbols.specs.Hash.{sum_of, hash_of}
+use Rattle.ion_symbols.specs.Hash.{hash_of}
 use Rattle.ion_symbols.proofs.hash.hash.Goals as goal
 
 pub returns : goal.returns
-unfolding hash_of sum_of
+unfolding hash_of
 returns c = search rules

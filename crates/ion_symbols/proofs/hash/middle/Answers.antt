@@ -2,10 +2,6 @@ use Rattle.std.proofs.Common.{rules}
 use Rattle.ion_symbols.specs.Hash.{middle_of}
 use Rattle.ion_symbols.proofs.hash.middle.Goals as goal
 
-pub returns-then-text-gt16 : goal.returns-then-text-gt16
+pub returns : goal.returns
 unfolding middle_of
-returns-then-text-gt16 c = search rules
-
-pub returns-else-text-gt16 : goal.returns-else-text-gt16
-unfolding middle_of
-returns-else-text-gt16 c = search rules
+returns c = search rules

@@ -15,7 +15,7 @@ use ion_meter::sink::Sink;
 use ion_value::ion_type::Kind;
 use ion_value::item::{Annotation, Head, Sym};
 use ion_value::plain_item::{PlainItem, TextAt};
-use ion_value::quoting::Quoting;
+use ion_value::quoting::{Quoting, code_of};
 use ion_value::writer::ValueWriter;
 use std::alloc::Global;
 use std::process::Abort;
@@ -61,7 +61,7 @@ fn field_of(field: Option<&[u8]>, place: u64) -> Option<TextAt<'_>>
     let text = field?;
     Some(TextAt {
         text,
-        quoting: Quoting::Any,
+        code: code_of(Quoting::Any),
         place: place.saturating_add(FIELDS),
     })
 }
@@ -106,7 +106,7 @@ fn note_of(annotation: &Annotation) -> Option<TextAt<'static>>
     }
     Some(TextAt {
         text,
-        quoting: Quoting::Any,
+        code: code_of(Quoting::Any),
         place,
     })
 }

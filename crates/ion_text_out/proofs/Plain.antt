@@ -1,17 +1,16 @@
 -- What is put of a plain item is its text.
-use Rattle.std.proofs.Common.{◌≡◌, ℕ, ◌≤◌, Bool, true, false, List, [], ◌∷◌, ◌++◌, length, take, drop, Option, Some, None, refl, sym, ap, ◌∙◌, append_assoc, append-nil, arith, if◌then◌else◌}
+use Rattle.std.proofs.Common.{◌==◌, ◌≡◌, ℕ, ◌≤◌, Bool, true, false, List, [], ◌∷◌, ◌++◌, length, take, drop, Option, Some, None, refl, sym, ap, ◌∙◌, append_assoc, append-nil, arith, if◌then◌else◌}
 use Rattle.std.proofs.Math.Seq.{drop-append_seam, take-append_seam}
 use Rattle.std.proofs.lemmas.Bool.{and_parts}
 use Rattle.std.specs.Prelude.{map, option_map, codes, is_some, IfSome}
 use Rattle.std.specs.List.{flat_map}
 use Rattle.ion_meter.specs.Windows.{Outgoing}
-use Rattle.ion_value.specs.Name.{IsQuotedAs, is_plain, is_simple}
+use Rattle.ion_value.specs.Name.{coded, IsQuotedAs, is_plain, is_simple}
 use Rattle.ion_value.specs.Value as v
 use Rattle.ion_value.specs.Value.{PlacedItem, SymbolAt, Symbol, map_head, map_scalar, user_symbol, user_symbol_at, user_item}
 use Rattle.ion_value.specs.Items.{raw_head}
 use Rattle.ion_value.specs.PlainItems.{IsOwnText, IsQuotedIn, IsRightlyQuoted, IsTextOf, StandsBehind, listed, placed_item, placed_text, with_second}
 use Rattle.ion_value.specs.Digits.{all_are}
-use Rattle.ion_value.specs.declared.quoting.Quoting.{Quoting}
 use Rattle.ion_value.specs.declared.quoting.Quoting.TheVariants as quoting
 use Rattle.ion_value.specs.declared.ion_type.Kind.{Kind}
 use Rattle.ion_value.specs.declared.ion_type.Kind.TheVariants as kind
@@ -22,7 +21,7 @@ use Rattle.ion_text_out.specs.Escape.{between_quotes, byte_text, is_shown}
 use Rattle.ion_text_out.specs.Text.{Open, annotation_text, before_item, behind_value, field_text, head_text, item_text, scalar_text, symbol_text}
 use Rattle.ion_meter.specs.declared.limits.Limits.{Limits}
 use Rattle.ion_text_out.specs.Writing.{behind_end, closing, shown, text_adds, Shows}
-use Rattle.ion_text_out.specs.Lane.{is_bare, is_bare_in, marked, plain_front, plain_scalar, symbol_in, symbols_in, text_in}
+use Rattle.ion_text_out.specs.Lane.{is_bare_in, marked, plain_front, plain_scalar, symbol_in, symbols_in, text_in}
 
 -- a simple text is plain
 simple_plain : (bytes : List ℕ) → is_simple bytes ≡ true → is_plain bytes ≡ true
@@ -45,10 +44,8 @@ pub between_text : (bytes : List ℕ) → is_plain bytes ≡ false → all_are (
 between_text bytes plain own = sym (quoted_text bytes plain ∙ shown_between 39 256 bytes own)
 
 -- a text that is rightly said to stand bare is put as it stands
-bare_text : (quoting : Quoting) (bytes : List ℕ) → IsQuotedAs quoting bytes → is_bare quoting ≡ true → bytes ≡ symbol_text (v.Known bytes)
-bare_text quoting.Bare bytes simple said = sym (simple_text bytes simple)
-bare_text quoting.Quoted bytes right said = absurd (cc said)
-bare_text quoting.Any bytes right said = absurd (cc said)
+bare_text : (code : ℕ) (bytes : List ℕ) → IsQuotedAs (coded code) bytes → (code == 0) ≡ true → bytes ≡ symbol_text (v.Known bytes)
+bare_text code bytes right said = sym (simple_text bytes (rw said at right))
 
 -- a symbol's own text is what is put of it
 own_text : (text : List ℕ) (s : Symbol) → IsOwnText quoting.Bare text s → text ≡ symbol_text (user_symbol s)
@@ -60,7 +57,7 @@ own_text text (v.Id id) is = absurd is
 -- a symbol that is rightly said to stand bare is put as it stands
 pub as_it_stands : (symbol : Option TextAt) → IfSome symbol IsRightlyQuoted → is_bare_in symbol ≡ true → text_in symbol ≡ symbol_in symbol
 as_it_stands None right said = refl
-as_it_stands (Some t) right said = bare_text t.quoting t.text.now right said
+as_it_stands (Some t) right said = bare_text t.code t.text.now right said
 
 -- so are annotations where there is no second one
 pub as_they_stand : (annotation second : Option TextAt) → IfSome annotation IsRightlyQuoted → is_bare_in annotation ≡ true → is_some second ≡ false

@@ -1,8 +1,6 @@
 -- What is put of a plain item.
-use Rattle.std.specs.Prelude.{ℕ, Bool, true, false, List, [], ◌∷◌, ◌++◌, Option, Some, None, codes}
+use Rattle.std.specs.Prelude.{ℕ, ◌==◌, Bool, true, List, [], ◌∷◌, ◌++◌, Option, Some, None, codes}
 use Rattle.ion_value.specs.Value.{Known}
-use Rattle.ion_value.specs.declared.quoting.Quoting.{Quoting}
-use Rattle.ion_value.specs.declared.quoting.Quoting.TheVariants as quoting
 use Rattle.ion_value.specs.declared.plain_item.TextAt.{TextAt}
 use Rattle.ion_text_out.specs.Text.{Open, before_item, behind_value, symbol_text}
 
@@ -11,16 +9,10 @@ abbrev pub text_in : Option TextAt → List ℕ
 text_in None = []
 text_in (Some t) = t.text.now
 
--- a text of this quoting is written as it stands
-abbrev pub is_bare : Quoting → Bool
-is_bare quoting.Bare = true
-is_bare quoting.Quoted = false
-is_bare quoting.Any = false
-
--- so is a symbol that may be there, as is said of none too
+-- a symbol that may be there is written as it stands, as is said of none too
 abbrev pub is_bare_in : Option TextAt → Bool
 is_bare_in None = true
-is_bare_in (Some t) = is_bare t.quoting
+is_bare_in (Some t) = t.code == 0
 
 -- its canonical text, empty where there is none, as that of no symbol is
 abbrev pub symbol_in : Option TextAt → List ℕ

@@ -11,7 +11,7 @@ use arrayvec::ArrayVec;
 use ion_meter::device::Output;
 use ion_meter::sink::Sink;
 use ion_value::plain_item::TextAt;
-use ion_value::quoting::Quoting;
+use ion_value::quoting::{BARE, QUOTED};
 use std::alloc::Allocator;
 
 /// The text of a symbol that may be there, empty where there is none, and whether it is written as
@@ -22,7 +22,7 @@ pub fn text_in(at: Option<TextAt<'_>>) -> (&[u8], bool)
     ensures bare { result.1 ≡ is_bare_in at.entry }
 {
     match at {
-        Some(at) => (at.text, matches!(at.quoting, Quoting::Bare)),
+        Some(at) => (at.text, at.code == BARE),
         None => (b"", true),
     }
 }
@@ -92,11 +92,13 @@ fn quotes_of(at: TextAt<'_>) -> Option<&'static [u8]>
     ensures { IfSome result (λ quote. quote.now ++ (at.entry.text.now ++ quote.now)
         ≡ symbol_text (Known at.entry.text.now)) }
 {
-    match at.quoting {
-        Quoting::Bare => Some(b""),
-        Quoting::Quoted => Some(b"'"),
-        Quoting::Any => quotes_around(at.text),
+    if at.code == BARE {
+        return Some(b"");
     }
+    if at.code == QUOTED {
+        return Some(b"'");
+    }
+    quotes_around(at.text)
 }
 
 // The quotes around a symbol of this text, or none where it has escapes.

@@ -140,6 +140,10 @@ IsQuotedAs quoting.Bare name = is_simple name ≡ true
 IsQuotedAs quoting.Quoted name = (is_plain name ≡ false) × (all_are is_own_in_quotes name ≡ true)
 IsQuotedAs quoting.Any name = ⊤
 
+-- the quoting that a code means
+abbrev pub coded : ℕ → Quoting
+coded code = if code == 0 then quoting.Bare else (if code == 1 then quoting.Quoted else quoting.Any)
+
 -- ---- operators
 
 -- whether a byte is one of a list

@@ -7,7 +7,7 @@ use Rattle.ion_value.specs.declared.plain_item.PlainItem.{PlainItem}
 use Rattle.ion_value.specs.Decimal.{decimal_text}
 use Rattle.ion_value.specs.Digits.{first_is}
 use Rattle.ion_value.specs.Int.{int_text}
-use Rattle.ion_value.specs.Name.{IsQuotedAs}
+use Rattle.ion_value.specs.Name.{coded, IsQuotedAs}
 use Rattle.ion_value.specs.Items.{raw_head}
 use Rattle.ion_value.specs.Timestamp.{timestamp_text}
 use Rattle.ion_value.specs.Value.{Symbol, Text, Id, SymbolAt, Scalar, null, bool, int, decimal, timestamp, symbol, string, clob, blob, Head, whole, begin, end, marker, PlacedItem}
@@ -97,7 +97,7 @@ pub record IsPlainItem (item : PlacedItem) : Type 0 where
 
 -- a text is written as is said
 abbrev pub IsRightlyQuoted : TextAt → Type 0
-IsRightlyQuoted t = IsQuotedAs t.quoting t.text.now
+IsRightlyQuoted t = IsQuotedAs (coded t.code) t.text.now
 
 -- a second annotation stands behind a first one
 abbrev pub StandsBehind : Option TextAt → TextAt → Type 0

@@ -2,15 +2,15 @@
 //! with the fewest steps.
 
 use crate::item::Head;
-use crate::quoting::{NameText, Quoting};
+use crate::quoting::NameText;
 
 /// The text of a name or an annotation, and the place of its first byte in the input, counted from 0.
 #[derive(Clone, Copy, Debug, PartialEq, Eq)]
 pub struct TextAt<'a> {
     /// The bytes of the text in UTF-8.
     pub text: &'a [u8],
-    /// How it is written.
-    pub quoting: Quoting,
+    /// The code of how it is written (`code_of`).
+    pub code: u64,
     /// The place of its first byte.
     pub place: u64,
 }

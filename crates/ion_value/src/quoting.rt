@@ -1,5 +1,6 @@
 //! How symbols are written in canonical text.
 ghost use Rattle.std.specs.Prelude.{◌≡◌};
+ghost use Rattle.ion_value.specs.Name.{coded};
 
 /// How the text of a symbol is written in canonical text, as far as that is known.
 #[derive(Clone, Copy, Debug, PartialEq, Eq)]
@@ -10,6 +11,28 @@ pub enum Quoting {
     Quoted,
     /// Nothing is known.
     Any,
+}
+
+/// The code of `Bare` in a `TextAt`.
+pub const BARE: u64 = 0;
+
+/// The code of `Quoted`.
+pub const QUOTED: u64 = 1;
+
+// The code of `Any`. Each other number means it too.
+const ANY: u64 = 2;
+
+/// The code of a quoting. A record that has a code has no bytes between its fields, as one with a
+/// `Quoting` would: each copy of it clears and copies these too.
+#[inline(always)]
+pub fn code_of(quoting: Quoting) -> u64
+    ensures { coded result ≡ quoting }
+{
+    match quoting {
+        Quoting::Bare => BARE,
+        Quoting::Quoted => QUOTED,
+        Quoting::Any => ANY,
+    }
 }
 
 /// A text and how it is written.

@@ -14,7 +14,7 @@ use ion_meter::limits::Limits;
 use ion_value::ion_type::Kind;
 use ion_value::names::Names;
 use ion_value::plain_item::TextAt;
-use ion_value::quoting::Quoting;
+use ion_value::quoting::BARE;
 
 // What is around a member: a container of some kind, or nothing at top level. It is one octet, where an
 // optional kind would be two.
@@ -213,7 +213,7 @@ fn second_text<'n, N: Names>(
 #[inline(always)]
 pub(super) fn is_bare(name: Option<TextAt<'_>>) -> bool {
     match name {
-        Some(name) => matches!(name.quoting, Quoting::Bare),
+        Some(name) => name.code == BARE,
         None => true,
     }
 }

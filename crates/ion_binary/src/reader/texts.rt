@@ -5,7 +5,7 @@ ghost use Rattle.ion_value.specs.PlainItems.{IsRightlyQuoted};
 
 use ion_value::names::Names;
 use ion_value::plain_item::TextAt;
-use ion_value::quoting::Quoting;
+use ion_value::quoting::{BARE, Quoting, code_of};
 
 // The text of an id that stands at an offset, where it has one that is written as it stands, or any text
 // where `any` says so. Where that is false, the quoting is a constant.
@@ -26,12 +26,12 @@ pub(super) fn shown_text<'n, N: Names>(
     match found.quoting {
         Quoting::Bare => Some(TextAt {
             text: found.text,
-            quoting: Quoting::Bare,
+            code: BARE,
             place,
         }),
         quoting if any => Some(TextAt {
             text: found.text,
-            quoting,
+            code: code_of(quoting),
             place,
         }),
         _ => None,
@@ -44,7 +44,7 @@ pub(super) fn begins_with_dollar(text: TextAt<'_>) -> bool
     requires { IsRightlyQuoted text }
     ensures { result ≡ first_is (λ b. b == 36) text.entry.text.now }
 {
-    if let Quoting::Bare = text.quoting {
+    if text.code == BARE {
         return false;
     }
     match text.text {

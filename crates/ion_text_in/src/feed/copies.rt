@@ -59,7 +59,7 @@ fn text_for_call<'a>(text: Option<TextAt<'a>>) -> Option<TextAt<'a>>
     match text {
         Some(text) => Some(TextAt {
             text: text.text,
-            quoting: text.quoting,
+            code: text.code,
             place: text.place,
         }),
         None => None,

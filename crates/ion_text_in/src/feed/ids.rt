@@ -22,8 +22,7 @@ use ion_value::ion_type::Kind;
 use ion_value::item::{Head, Sym, SymAt};
 use ion_value::names::Names;
 use ion_value::plain_item::TextAt;
-use ion_value::quoting::NameText;
-use ion_value::quoting::Quoting::Bare;
+use ion_value::quoting::{BARE, NameText, Quoting};
 use ion_value::writer::ValueWriter;
 use std::alloc::Allocator;
 
@@ -143,7 +142,7 @@ fn id_name<'a, N: Names>(
     };
     let name = TextAt {
         text: id.text,
-        quoting: Bare,
+        code: BARE,
         place,
     };
     behind_name(name, behind(id.count, bytes))
@@ -175,7 +174,7 @@ fn bare_text(name: NameText<'_>) -> Option<&[u8]>
     ensures bare { IfSome result (λ _. name.entry.quoting ≡ Quoting.Bare) }
 {
     match name.quoting {
-        Bare => Some(name.text),
+        Quoting::Bare => Some(name.text),
         _ => None,
     }
 }

@@ -13,7 +13,7 @@ use crate::word::simple_word;
 use ion_meter::limits::Limits;
 use ion_value::ion_type::Kind;
 use ion_value::plain_item::TextAt;
-use ion_value::quoting::Quoting;
+use ion_value::quoting::BARE;
 
 /// What the value begins with that may begin here, behind the name of its field where one must come, which
 /// stands without quotes.
@@ -48,7 +48,7 @@ fn field_start<'a>(next: Next<'a>, limits: Limits, place: u64) -> Option<Start<'
     };
     let name = TextAt {
         text: front(count, next.rest),
-        quoting: Quoting::Bare,
+        code: BARE,
         place,
     };
     behind_name(name, behind(count, next.rest))

@@ -12,7 +12,7 @@ use crate::slice::{behind, front};
 use crate::word::simple_word;
 use ion_meter::limits::Limits;
 use ion_value::plain_item::TextAt;
-use ion_value::quoting::Quoting;
+use ion_value::quoting::BARE;
 
 /// After the word that stands here and begins at a place, as an annotation: where two colons follow,
 /// and a value begins after them. `room` is what an annotation before it leaves of the limit on
@@ -27,7 +27,7 @@ pub(super) fn noted<'a>(start: Start<'a>, room: u64, place: u64, count: usize) -
 {
     let note = TextAt {
         text: front(count, start.next.rest),
-        quoting: Quoting::Bare,
+        code: BARE,
         place,
     };
     behind_note(start, note, behind(count, start.next.rest), room)

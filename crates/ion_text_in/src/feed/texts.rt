@@ -8,7 +8,7 @@ use crate::quoted::{Quote, scan_text};
 use crate::scanned::Scanned;
 use crate::slice::{behind, front};
 use ion_value::plain_item::TextAt;
-use ion_value::quoting::Quoting;
+use ion_value::quoting::{Quoting, code_of};
 
 /// A text, and the bytes behind its closing quote.
 #[derive(Clone, Copy)]
@@ -42,7 +42,7 @@ pub(super) fn quoted_text<'a>(text: &'a [u8], place: u64) -> TextAt<'a>
 {
     TextAt {
         text,
-        quoting: Quoting::Any,
+        code: code_of(Quoting::Any),
         place,
     }
 }

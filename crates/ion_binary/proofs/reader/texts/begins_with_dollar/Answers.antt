@@ -1,9 +1,9 @@
 use Rattle.std.proofs.Common.{sym, subst}
-use Rattle.ion_value.specs.Name.{IsQuotedAs}
+use Rattle.ion_value.specs.Name.{coded, IsQuotedAs}
 use Rattle.ion_binary.proofs.Handing.{simple-no_dollar}
 use Rattle.ion_binary.proofs.reader.texts.begins_with_dollar.Goals as goal
 
-pub returns-in-Bare : goal.returns-in-Bare
-returns-in-Bare c =
+pub returns-then-text-eq-BARE : goal.returns-then-text-eq-BARE
+returns-then-text-eq-BARE c =
     let bytes = c.args.text.text.now in
-    sym (simple-no_dollar bytes (subst (λ f. IsQuotedAs f bytes) c.in-Bare.is c.requires))
+    sym (simple-no_dollar bytes (subst (λ n. IsQuotedAs (coded n) bytes) c.if-text-eq-BARE.true c.requires))

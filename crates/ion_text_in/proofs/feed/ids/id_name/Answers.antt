@@ -1,5 +1,4 @@
 use Rattle.std.proofs.Common.{refl}
-use Rattle.ion_value.specs.declared.quoting.Quoting.TheVariants as quoting
 use Rattle.ion_value.specs.declared.plain_item.TextAt.{TextAt}
 use Rattle.ion_text_in.proofs.FeedIds.{dollar-begins, named-id}
 use Rattle.ion_text_in.proofs.feed.ids.id_name.Goals as goal
@@ -11,5 +10,5 @@ pub returns : goal.returns
 returns g c =
     let a = c.args in
     let id = c.in-Some.id in
-    let name : TextAt = record { text = id.text; quoting = quoting.Bare; place = a.place } in
+    let name : TextAt = record { text = id.text; code = 0; place = a.place } in
     named-id (g.N.Names.text a.names.now) a.limits a.place id.count name a.bytes.now c.behind.result.now c.behind_name.result refl c.in-Some.ensures.simple c.in-Some.ensures c.behind.ensures c.requires c.behind_name.ensures

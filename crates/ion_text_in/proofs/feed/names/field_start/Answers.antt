@@ -1,5 +1,4 @@
 use Rattle.std.proofs.Common.{◌∙◌, ◌<◌, ℕ, List, refl, false, ap, arith}
-use Rattle.ion_value.specs.declared.quoting.Quoting.TheVariants as quoting
 use Rattle.ion_value.specs.declared.plain_item.TextAt.{TextAt}
 use Rattle.ion_value.specs.Name.{is_simple}
 use Rattle.ion_text_in.proofs.FeedHeads.{told-begins, token-word}
@@ -13,7 +12,7 @@ returns c =
     let some : 0 < a.next.told = omega (arith, told) in
     let begins = c.requires some in
     let word = c.in-Some.ensures in
-    let name : TextAt = record { text = c.front.result; quoting = quoting.Bare; place = a.place } in
+    let name : TextAt = record { text = c.front.result; code = 0; place = a.place } in
     named-start name c.behind_name.result
     (name-token (token-word c.behind.ensures word (told-begins begins (omega arith) told)) may-word
     (symbol-names a.limits a.place false name _ refl c.front.ensures))

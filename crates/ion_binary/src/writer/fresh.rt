@@ -8,7 +8,7 @@ ghost use Rattle.ion_binary.specs.Canonical.{field_octets, headed, id_in};
 ghost use Rattle.ion_binary.specs.Fresh.{AreFresh, CanPutFresh, MayBeFresh};
 ghost use Rattle.ion_binary.specs.ItemOctets.{head_name, head_octets, user_head};
 ghost use Rattle.ion_binary.specs.Opening.{MayCome, both_octets, name_octets};
-ghost use Rattle.ion_binary.specs.Plain.{AddsPlain, HaveIds, as_item};
+ghost use Rattle.ion_binary.specs.Plain.{AddsPlain, HaveIds, TakesPlain, as_item};
 ghost use Rattle.ion_binary.specs.Writer.{CanTake};
 
 use super::BinWriter;
@@ -17,7 +17,9 @@ use crate::few::{few_number, noted_front};
 use crate::noted::{id_octets, noted_scalar};
 use crate::scalar::{Octets, spell};
 use ion_meter::buf::Added;
+use ion_meter::device::Output;
 use ion_meter::meter::Meter;
+use ion_meter::sink::Sink;
 use ion_value::item::{Head, Sym};
 use std::alloc::Allocator;
 
@@ -34,16 +36,22 @@ impl<A: Allocator + Copy> BinWriter<A> {
     // Adds a scalar where the text of its field, or its own, has no id yet and gets the next one, and
     // all is there that it needs. Else it answers false.
     #[inline(never)]
-    pub(super) fn add_fresh(&mut self, meter: &mut Meter<A>, item: SingleItem<'_, '_>) -> bool
+    pub(super) fn add_fresh<O: Output>(
+        &mut self,
+        meter: &mut Meter<A>,
+        sink: &mut Sink<O, A>,
+        item: SingleItem<'_, '_>,
+    ) -> bool
         requires can_take { CanTake self.old meter.old }
         requires comes { MayCome self.old.limits self.old.open_value (as_item item) }
-        ensures { AddsPlain self.old self.new meter.old meter.new (as_item item.entry) result }
+        ensures { TakesPlain self.old self.new meter.old meter.new
+            sink.old sink.new (as_item item.entry) result }
     {
-        if self.open_value.headers.len() == 0 {
-            return false;
-        }
         if !is_scalar(item.head) {
             return false;
+        }
+        if self.open_value.headers.len() == 0 {
+            return self.put_whole(sink, &item);
         }
         let Some(note) = self.annotation_id(item.annotation) else {
             return false;
@@ -194,14 +202,14 @@ impl<A: Allocator + Copy> BinWriter<A> {
 
 // A scalar whose body is a number of 64 bits, by its type code.
 #[derive(Clone, Copy)]
-struct Small {
-    code: u8,
-    n: u64,
+pub(super) struct Small {
+    pub(super) code: u8,
+    pub(super) n: u64,
 }
 
 // An int that 64 bits hold, or a symbol of this id.
 #[inline(always)]
-fn small_of(head: Head<'_>, symbol: u32) -> Option<Small>
+pub(super) fn small_of(head: Head<'_>, symbol: u32) -> Option<Small>
     ensures code { IfSome result (λ small. small.code < 16) }
     ensures octets { IfSome result (λ small. (ids : UserSymbol → ℕ)
         → symbol ≡ head_name ids (user_head head.entry)

@@ -1,6 +1,7 @@
 //! Plain scalars at top level, put at once.
 ghost use Rattle.std.specs.Prelude.{◌≡◌, true};
 ghost use Rattle.ion_value.specs.Items.{raw_head};
+ghost use Rattle.ion_value.specs.Value.{string, whole};
 ghost use Rattle.ion_binary.specs.Canonical.{id_in};
 ghost use Rattle.ion_binary.specs.ItemOctets.{head_name, head_octets, user_head};
 ghost use Rattle.ion_binary.specs.Opening.{MayCome, both_octets};
@@ -9,13 +10,14 @@ ghost use Rattle.ion_binary.specs.Writer.{IsSound};
 ghost use Rattle.ion_binary.specs.Writing.{head_symbols};
 
 use super::BinWriter;
-use super::fresh::small_of;
+use super::fresh::few_of;
 use super::single::SingleItem;
 use crate::declaration::FIRST_ID;
-use crate::few::few_number;
+use crate::few::few_header;
 use crate::scalar::{Octets, spell};
 use ion_meter::device::Output;
 use ion_meter::sink::Sink;
+use ion_value::item::Head;
 use std::alloc::Allocator;
 
 impl<A: Allocator + Copy> BinWriter<A> {
@@ -38,14 +40,42 @@ impl<A: Allocator + Copy> BinWriter<A> {
         let Some(symbol) = self.name_of(item.head) else {
             return false;
         };
-        let Some(small) = small_of(item.head, symbol) else {
+        if let Head::String(text) = item.head {
+            return self.put_text_whole(sink, item, text);
+        }
+        let Some(number) = few_of(item.head, symbol) else {
             return self.put_spelled_whole(sink, item, symbol);
         };
-        let number = few_number(small.code, small.n);
         let block = number.first.block();
         let octets = Octets {
             front: &block[..number.first.len()],
             rest: &number.body[..number.size],
+        };
+        self.put_octets_whole(sink, item, &octets)
+    }
+
+    // Puts a string.
+    #[inline(always)]
+    fn put_text_whole<O: Output>(
+        &self,
+        sink: &mut Sink<O, A>,
+        item: &SingleItem<'_, '_>,
+        text: &[u8],
+    ) -> bool
+        requires sound { IsSound self.now }
+        requires comes { MayCome self.now.limits self.now.open_value (as_item item.now) }
+        requires settled { IsSettled self.now }
+        requires bare { IsBare (as_item item.now) }
+        requires head { raw_head item.now.head ≡ whole (string text.now) }
+        ensures { PutsWhole self.now sink.old sink.new (as_item item.now) result }
+    {
+        let Some(front) = few_header(8, text.len()) else {
+            return self.put_spelled_whole(sink, item, 0);
+        };
+        let block = front.block();
+        let octets = Octets {
+            front: &block[..front.len()],
+            rest: text,
         };
         self.put_octets_whole(sink, item, &octets)
     }

@@ -65,5 +65,6 @@ mod PutInRoom
 mod ShortDecimals
 mod NotedOctets
 mod PlainAdded
+mod WholePut
 mod FreshAdded
 mod EndsLater

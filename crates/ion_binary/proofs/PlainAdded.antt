@@ -2,6 +2,7 @@
 use Rattle.std.proofs.Common.{◌≡◌, ℕ, ◌+◌, ◌-◌, ◌/◌, ◌<◌, ◌≤◌, ◌⊎◌, inl, subst, nat_lt, Bool, true, false, if◌then◌else◌, List, [], ◌∷◌, ◌++◌, length, map, take, drop, Option, Some, None, unwrap_or, option_map, Ok, refl, ap, sym, ◌∙◌, arith, append-nil, append_assoc, le-ltb}
 use Rattle.std.specs.Prelude.{IfSome}
 use Rattle.ion_meter.specs.Counts.{Counts}
+use Rattle.ion_meter.specs.Windows.{Outgoing}
 use Rattle.ion_meter.specs.declared.limits.Limits.{Limits}
 use Rattle.ion_meter.specs.declared.fault.Reason.{Reason}
 use Rattle.ion_value.specs.declared.plain_item.PlainItem.{PlainItem}
@@ -19,7 +20,7 @@ use Rattle.ion_binary.specs.Canonical.{annotation_octets, declaration, header, m
 use Rattle.ion_binary.specs.Held.{Held, closed_in, counted_ids, headed_at, headers_around, headers_with, held_forgotten, held_of, ids_place, moved_headers, moved_octets, octets_with, size_of, value_held, value_put, whole_at, with_front, with_names}
 use Rattle.ion_binary.specs.ItemOctets.{head_octets}
 use Rattle.ion_binary.specs.Opening.{AddsOctets, IsOpen, MayAdd, MayCome, Stepped, name_octets, noted, noted_by}
-use Rattle.ion_binary.specs.Plain.{AddsPlain, EndsPlain, HaveIds, IsWhole}
+use Rattle.ion_binary.specs.Plain.{AddsPlain, HaveIds, IsWhole, TakesPlain}
 use Rattle.ion_binary.specs.Writer.{CanTake, ComesAt, Follows, Taken, added, adds_at, held_in, item_refusal}
 use Rattle.ion_value.specs.Writable.{field_symbols}
 use Rattle.ion_binary.specs.Writing.{Written, first_over, head_symbols, item_puts, item_symbols, refused_at, unless_refused}
@@ -29,7 +30,7 @@ use Rattle.ion_binary.proofs.Numbered.{users-item}
 use Rattle.ion_binary.specs.Counting.{ArePlaced}
 use Rattle.ion_binary.proofs.DeclarationOctets.{declaration-none}
 use Rattle.ion_binary.proofs.OpenSteps.{closed-put, put-length}
-use Rattle.ion_binary.proofs.WriterFollows.{adds-are, codes-after, follows-out, forgotten-is, held-behind, held-now, may-add, put-behind, refusal-is}
+use Rattle.ion_binary.proofs.WriterFollows.{codes-after, forgotten-is, held-behind, held-now, may-add, put-behind, refusal-is}
 use Rattle.ion_binary.proofs.WriterSteps.{kept, not-refused, same-held}
 
 -- nothing is put while a container is open
@@ -41,22 +42,25 @@ pub held-inside : (h : Held) (hs : List HeaderPlace) → h.headers ≡ hs → 0 
 held-inside h [] e some = absurd (omega (arith, some))
 held-inside h (x ∷ hs) e some = ap (λ (gs : List HeaderPlace). record h { headers = gs }) e
 
-module _ {A : Type 0} (old new : BinWriter A) (before after : Counts) (s : Written) (item : PlacedItem) (p : AddsPlain old new before after item true) (comes : ComesAt old s item)
-    (none : old.ended ≡ 0) where
-  begun : held_in old ≡ held_forgotten old.limits.symbols (held_of s) (user_item item).head
-  begun =
-      sym (kept old.limits.symbols (held_in old) old.open_value.headers (p.keeps refl))
-      ∙ forgotten-is old.limits.symbols s (held_in old) (user_item item).head (sym (held-now old none) ∙ comes.0.held) comes.1.value
-
-  pub plain-follows : Follows old new s item (Ok tt)
-  plain-follows =
-      follows-out old new new s item (Ok tt) (held_in old) comes begun (p.held refl) (p.passes refl)
-      (held-inside (held_in new) new.open_value.headers refl (p.inside refl)) (p.is_open refl) tt (p.ended ∙ none)
-
-  pub plain-adds : adds_at old.limits s item ≡ []
-  plain-adds =
-      sym (adds-are old new s item (held_in old) comes begun (p.held refl) (p.passes refl))
-      ∙ put-inside (held_in new) new.open_value.headers new.open_value.octets (p.inside refl)
+-- so an item that is added there is taken
+pub adds-taken : {A O : Type 0} (old new : BinWriter A) (before after : Counts) (sink : Outgoing O) (item : PlacedItem) (result : Bool)
+    → AddsPlain old new before after item result → TakesPlain old new before after sink sink item result
+adds-taken old new before after sink item result p = record {
+  held = λ e. held-inside (held_in new) new.open_value.headers refl (p.inside e) ∙ ap (λ (h : Held). value_held h h.headers h.octets) (p.held e);
+  puts = λ e.
+      sym
+      (ap (λ (x : List ℕ). sink.pending ++ x)
+      (ap (λ (h : Held). value_put h h.headers h.octets) (sym (p.held e)) ∙ put-inside (held_in new) new.open_value.headers new.open_value.octets (p.inside e))
+      ∙ append-nil sink.pending);
+  is_open = p.is_open;
+  passes = p.passes;
+  keeps = p.keeps;
+  declines = λ e. ((p.declines e).0, refl, (p.declines e).1);
+  device = refl;
+  fault = refl;
+  ended = p.ended;
+  taken = p.taken;
+}
 
 pub plain-comes : {A : Type 0} (w : BinWriter A) (s : Written) (item : PlacedItem) → ComesAt w s item → w.ended ≡ 0 → MayCome w.limits w.open_value item
 plain-comes w s item comes none = record {
@@ -298,38 +302,40 @@ ended-single w item may head =
     let bare = ended-bare w.limits w.open_value (placed_item item) head may.follows in
     ap (λ (notes : List SymbolAt). record (single_item item) { annotations = notes }) (none-behind (listed (option_map placed_text item.annotation)) item.second bare.1)
 
--- ---- the value at top level ends
+-- ---- an item that is taken is that of the streaming definition
 
-module _ {A : Type 0} (old new : BinWriter A) (before after : Counts) (s : Written) (item : PlacedItem) (pending put : List ℕ) (p : EndsPlain old new before after item pending put true)
-    (comes : ComesAt old s item) (none : old.ended ≡ 0) where
-  ends-begun : held_in old ≡ held_forgotten old.limits.symbols (held_of s) (user_item item).head
-  ends-begun =
-      sym (kept old.limits.symbols (held_in old) old.open_value.headers (inl (p.keeps refl)))
+module _ {A O : Type 0} (old new : BinWriter A) (before after : Counts) (sink put : Outgoing O) (s : Written) (item : PlacedItem)
+    (p : TakesPlain old new before after sink put item true) (comes : ComesAt old s item) (none : old.ended ≡ 0) where
+  taken-begun : held_in old ≡ held_forgotten old.limits.symbols (held_of s) (user_item item).head
+  taken-begun =
+      sym (kept old.limits.symbols (held_in old) old.open_value.headers (p.keeps refl))
       ∙ forgotten-is old.limits.symbols s (held_in old) (user_item item).head (sym (held-now old none) ∙ comes.0.held) comes.1.value
 
-  ends-passes : refused_at old.limits s item ≡ None
-  ends-passes = sym (refusal-is old.limits s item (held_in old) ends-begun comes.0.codes comes.1) ∙ p.passes refl
+  taken-passes : refused_at old.limits s item ≡ None
+  taken-passes = sym (refusal-is old.limits s item (held_in old) taken-begun comes.0.codes comes.1) ∙ p.passes refl
 
-  pub ends-follows : Follows old new s item (Ok tt)
-  ends-follows = record {
+  pub taken-follows : Follows old new s item (Ok tt)
+  taken-follows = record {
     holds = record {
-      held = held-now new (p.ended ∙ none) ∙ (p.held refl ∙ held-behind old.limits.symbols old.limits.depth s item (held_in old) ends-begun comes.0.codes comes.1);
+      held = held-now new (p.ended ∙ none) ∙ (p.held refl ∙ held-behind old.limits.symbols old.limits.depth s item (held_in old) taken-begun comes.0.codes comes.1);
       is_open = p.is_open refl;
       ended = let e = p.ended in omega (arith, e, none);
       codes = codes-after old.limits.symbols s (user_item item) comes.0.codes;
     };
-    passes = ends-passes;
+    passes = taken-passes;
     refuses = λ r q is. absurd (Prim.cc is);
   }
 
-  pub ends-puts : put ≡ pending ++ adds_at old.limits s item
-  ends-puts =
+  pub taken-puts : put.pending ≡ sink.pending ++ adds_at old.limits s item
+  taken-puts =
       p.puts refl
-      ∙ ap (λ (x : List ℕ). pending ++ x)
-      (put-behind old.limits.symbols old.limits.depth s item (held_in old) ends-begun comes.0.codes comes.1
-      ∙ ap (λ (r : Option (Reason × ℕ)). unless_refused r (item_puts old.limits.symbols s (user_item item))) (sym ends-passes))
+      ∙ ap (λ (x : List ℕ). sink.pending ++ x)
+      (put-behind old.limits.symbols old.limits.depth s item (held_in old) taken-begun comes.0.codes comes.1
+      ∙ ap (λ (r : Option (Reason × ℕ)). unless_refused r (item_puts old.limits.symbols s (user_item item))) (sym taken-passes))
 
-drop-all : (ts : List (List ℕ)) → drop (length ts) ts ≡ []
+-- ---- the value at top level ends
+
+pub drop-all : (ts : List (List ℕ)) → drop (length ts) ts ≡ []
 drop-all [] = refl
 drop-all (t ∷ ts) = drop-all ts
 
@@ -383,17 +389,26 @@ module _ {A : Type 0} (w : BinWriter A) (o : HeaderPlace) (item : PlacedItem) (x
       let fits = open_now.fits in
       not-refused w.limits (held_in w) item allowed (omega (arith, same, long, put, before, fits))
 
-pub plain-ended : {A : Type 0} (w : BinWriter A) (v : OpenValue A) (o : HeaderPlace) (before after : Counts) (item : PlacedItem) (pending put x : List ℕ) → CanTake w before
+-- two parts are put
+pub both-put : {O : Type 0} (sink first put : Outgoing O) (x y a b : List ℕ) → first ≡ record sink { pending = sink.pending ++ a } → a ≡ x
+    → put ≡ record first { pending = first.pending ++ b } → b ≡ y → put ≡ record sink { pending = (sink.pending ++ x) ++ y }
+both-put {O} sink first put x y a b ef ea ep eb =
+    let F : Outgoing O → List ℕ → Outgoing O = λ s z. record s { pending = s.pending ++ z } in
+    ep ∙ (ap (F first) eb ∙ ap (λ (s : Outgoing O). F s y) (ef ∙ ap (F sink) ea))
+
+pub plain-ended : {A O : Type 0} (w : BinWriter A) (v : OpenValue A) (o : HeaderPlace) (before after : Counts) (item : PlacedItem) (sink put : Outgoing O) (x : List ℕ) → CanTake w before
     → IsOpen w.limits w.open_value → MayAdd w.limits w.open_value item.head item → item.head ≡ value.end → w.open_value.headers ≡ o ∷ [] → o.place ≡ 0 → w.due ≡ false
-    → w.declared ≡ length w.symbols.texts → x ≡ header o.code (length w.open_value.octets) → put ≡ (pending ++ x) ++ w.open_value.octets → v.octets ≡ [] → v.headers ≡ []
-    → IsOpen w.limits v → Stepped w.limits w.open_value v before after None → EndsPlain w (record w { open_value = v }) before after item pending put true
-plain-ended w v o before after item pending put x c now may head one first due all is e eo eh open_then s = record {
+    → w.declared ≡ length w.symbols.texts → x ≡ header o.code (length w.open_value.octets) → put ≡ record sink { pending = (sink.pending ++ x) ++ w.open_value.octets } → v.octets ≡ [] → v.headers ≡ []
+    → IsOpen w.limits v → Stepped w.limits w.open_value v before after None → TakesPlain w (record w { open_value = v }) before after sink put item true
+plain-ended w v o before after item sink put x c now may head one first due all is e eo eh open_then s = record {
   held = λ t. whole-held w o item x may head one first due all is v eo eh;
-  puts = λ t. whole-puts w o item x may head one first due all is pending put e;
+  puts = λ t. whole-puts w o item x may head one first due all is sink.pending put.pending (ap (λ s. s.pending) e);
   is_open = λ t. open_then;
   passes = λ t. whole-passes w o item x may head one first due all is now c.sound.share;
-  keeps = λ t. let l : length w.open_value.headers ≡ 1 = ap (λ (hs : List HeaderPlace). length hs) one in omega (arith, l);
+  keeps = λ t. inl (let l : length w.open_value.headers ≡ 1 = ap (λ (hs : List HeaderPlace). length hs) one in omega (arith, l));
   declines = λ t. absurd (Prim.cc t);
+  device = ap (λ s. s.device) e;
+  fault = ap (λ s. s.fault) e;
   ended = refl;
   taken = plain-taken w v before after c s;
 }

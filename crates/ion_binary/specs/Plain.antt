@@ -1,6 +1,7 @@
--- What contracts see of plain items that are added at once to a value that is open and stays so.
+-- What contracts see of plain items that are taken at once.
 use Rattle.std.specs.Prelude.{◌≡◌, ℕ, ◌/◌, ◌<◌, ◌≤◌, ◌⊎◌, Bool, true, false, List, [], ◌∷◌, ◌++◌, length, option_map, Option, None, ⊤}
 use Rattle.ion_meter.specs.Counts.{Counts}
+use Rattle.ion_meter.specs.Windows.{Outgoing}
 use Rattle.ion_value.specs.Items.{raw_head}
 use Rattle.ion_value.specs.PlainItems.{listed, placed_text, with_second}
 use Rattle.ion_value.specs.Value as value
@@ -39,21 +40,15 @@ IsWhole (value.begin kind) = ⊥
 IsWhole value.end = ⊥
 IsWhole value.marker = ⊥
 
+-- an item has neither a field nor annotations
+pub record IsBare (item : PlacedItem) : Type 0 where
+  pub field : item.field ≡ None
+  pub annotations : item.annotations ≡ []
+
 -- each of these symbols has its id
 abbrev pub HaveIds : List (List ℕ) → List SymbolAt → Type 0
 HaveIds texts [] = ⊤
 HaveIds texts (s ∷ ss) = (with_symbol texts (user_symbol_at s) ≡ texts) × HaveIds texts ss
-
--- the item ended the value at top level, which was put, and is not refused; or it was declined, and nothing is changed
-pub record EndsPlain {A : Type 0} (old new : BinWriter A) (before after : Counts) (item : PlacedItem) (pending put : List ℕ) (result : Bool) : Type 0 where
-  pub held : result ≡ true → held_in new ≡ value_held (added (held_in old) item) (added (held_in old) item).headers (added (held_in old) item).octets
-  pub puts : result ≡ true → put ≡ pending ++ value_put (added (held_in old) item) (added (held_in old) item).headers (added (held_in old) item).octets
-  pub is_open : result ≡ true → IsOpen new.limits new.open_value
-  pub passes : result ≡ true → item_refusal old.limits (held_in old) item ≡ None
-  pub keeps : result ≡ true → 0 < length old.open_value.headers
-  pub declines : result ≡ false → (new ≡ old) × (after ≡ before)
-  pub ended : new.ended ≡ old.ended
-  pub taken : Taken old new before after None
 
 -- the item was added to a value that is open behind it, no text being forgotten as it comes, and is not refused; or it was declined, and
 -- nothing is changed
@@ -64,5 +59,37 @@ pub record AddsPlain {A : Type 0} (old new : BinWriter A) (before after : Counts
   pub keeps : result ≡ true → (0 < length old.open_value.headers) ⊎ (texts_cost old.symbols.texts ≤ old.limits.symbols / 2)
   pub inside : result ≡ true → 0 < length new.open_value.headers
   pub declines : result ≡ false → (new ≡ old) × (after ≡ before)
+  pub ended : new.ended ≡ old.ended
+  pub taken : Taken old new before after None
+
+-- nothing stands before the next value: no container is open, no version marker is due, all texts have been declared, and none is forgotten
+pub record IsSettled {A : Type 0} (w : BinWriter A) : Type 0 where
+  pub due : w.due ≡ false
+  pub headers : w.open_value.headers ≡ []
+  pub octets : w.open_value.octets ≡ []
+  pub all : w.declared ≡ length w.symbols.texts
+  pub few : texts_cost w.symbols.texts ≤ w.limits.symbols / 2
+
+-- the item is a value at top level, which was put, and is not refused; or it was declined, and nothing is changed. The writer is the same
+pub record PutsWhole {A O : Type 0} (w : BinWriter A) (old new : Outgoing O) (item : PlacedItem) (result : Bool) : Type 0 where
+  pub held : result ≡ true → held_in w ≡ value_held (added (held_in w) item) (added (held_in w) item).headers (added (held_in w) item).octets
+  pub puts : result ≡ true → new.pending ≡ old.pending ++ value_put (added (held_in w) item) (added (held_in w) item).headers (added (held_in w) item).octets
+  pub passes : result ≡ true → item_refusal w.limits (held_in w) item ≡ None
+  pub keeps : result ≡ true → texts_cost w.symbols.texts ≤ w.limits.symbols / 2
+  pub declines : result ≡ false → new ≡ old
+  pub device : new.device ≡ old.device
+  pub fault : new.fault ≡ old.fault
+
+-- the item was taken, no text being forgotten as it comes, and is not refused: a value at top level that is whole by it was put. Or it was
+-- declined, and nothing is changed
+pub record TakesPlain {A O : Type 0} (old new : BinWriter A) (before after : Counts) (sink put : Outgoing O) (item : PlacedItem) (result : Bool) : Type 0 where
+  pub held : result ≡ true → held_in new ≡ value_held (added (held_in old) item) (added (held_in old) item).headers (added (held_in old) item).octets
+  pub puts : result ≡ true → put.pending ≡ sink.pending ++ value_put (added (held_in old) item) (added (held_in old) item).headers (added (held_in old) item).octets
+  pub is_open : result ≡ true → IsOpen new.limits new.open_value
+  pub passes : result ≡ true → item_refusal old.limits (held_in old) item ≡ None
+  pub keeps : result ≡ true → (0 < length old.open_value.headers) ⊎ (texts_cost old.symbols.texts ≤ old.limits.symbols / 2)
+  pub declines : result ≡ false → (new ≡ old) × (put ≡ sink) × (after ≡ before)
+  pub device : put.device ≡ sink.device
+  pub fault : put.fault ≡ sink.fault
   pub ended : new.ended ≡ old.ended
   pub taken : Taken old new before after None

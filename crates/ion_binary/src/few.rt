@@ -95,7 +95,7 @@ pub(crate) fn few_header(code: u8, n: usize) -> Option<Few>
     None
 }
 
-/// A number of 64 bits as a scalar: its header of one octet, and a block that begins with its body.
+/// A scalar: its header of one octet, and a block that begins with a body of eight at most.
 #[derive(Drop)]
 pub(crate) struct FewNumber {
     pub(crate) first: Few,
@@ -117,6 +117,20 @@ pub(crate) fn few_number(code: u8, n: u64) -> FewNumber
         first: Few::one(16 * code + size as u8),
         body: n.wrapping_shl(8 * zeros).to_be_bytes(),
         size,
+    }
+}
+
+/// A scalar of one octet.
+#[inline(always)]
+pub(crate) fn few_octet(octet: u8) -> FewNumber
+    ensures octets { result.first ++ take result.size result.body ≡ octet ∷ [] }
+    ensures few { length result.first ≤ 2 }
+    ensures size { result.size ≤ 8 }
+{
+    FewNumber {
+        first: Few::one(octet),
+        body: [0; 8],
+        size: 0,
     }
 }
 

@@ -21,6 +21,7 @@ mod fresh;
 mod pair;
 mod plain;
 mod single;
+mod whole;
 
 use crate::declaration::{FIRST_ID, put_declaration};
 use crate::front::put_front;
@@ -413,7 +414,7 @@ impl<O: Output, A: Allocator + Copy> ValueWriter<O, A> for BinWriter<A> {
         if waits {
             return false;
         }
-        self.add_plain(meter, single, item.second)
+        self.add_plain(meter, sink, single, item.second)
     }
 
     ghost grows = { binary_grows };

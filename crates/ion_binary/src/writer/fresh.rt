@@ -1,23 +1,24 @@
 //! Plain scalars with a text that is new, added at once to a value that is open.
-ghost use Rattle.std.specs.Prelude.{◌≡◌, ◌<◌, ℕ, None, option_map, IfSome};
-ghost use Rattle.ion_value.specs.Number.{uint_octets};
+ghost use Rattle.std.specs.Prelude.{◌≡◌, ◌≤◌, ◌++◌, ℕ, None, length, option_map, take, IfSome};
 ghost use Rattle.ion_value.specs.PlainItems.{placed_text};
 ghost use Rattle.ion_value.specs.Value.{UserSymbol, user_symbol_at};
 ghost use Rattle.ion_value.specs.Writable.{field_symbols};
-ghost use Rattle.ion_binary.specs.Canonical.{field_octets, headed, id_in};
+ghost use Rattle.ion_binary.specs.Canonical.{field_octets, id_in};
 ghost use Rattle.ion_binary.specs.Fresh.{AreFresh, CanPutFresh, MayBeFresh};
 ghost use Rattle.ion_binary.specs.ItemOctets.{head_name, head_octets, user_head};
 ghost use Rattle.ion_binary.specs.Opening.{MayCome, both_octets, name_octets};
-ghost use Rattle.ion_binary.specs.Plain.{AddsPlain, HaveIds, as_item};
+ghost use Rattle.ion_binary.specs.Plain.{AddsPlain, HaveIds, TakesPlain, as_item};
 ghost use Rattle.ion_binary.specs.Writer.{CanTake};
 
 use super::BinWriter;
 use super::single::{SingleItem, is_scalar};
-use crate::few::{few_number, noted_front};
+use crate::few::{FewNumber, few_number, few_octet, noted_front};
 use crate::noted::{id_octets, noted_scalar};
-use crate::scalar::{Octets, spell};
+use crate::scalar::{Octets, spell, type_code};
 use ion_meter::buf::Added;
+use ion_meter::device::Output;
 use ion_meter::meter::Meter;
+use ion_meter::sink::Sink;
 use ion_value::item::{Head, Sym};
 use std::alloc::Allocator;
 
@@ -34,16 +35,22 @@ impl<A: Allocator + Copy> BinWriter<A> {
     // Adds a scalar where the text of its field, or its own, has no id yet and gets the next one, and
     // all is there that it needs. Else it answers false.
     #[inline(never)]
-    pub(super) fn add_fresh(&mut self, meter: &mut Meter<A>, item: SingleItem<'_, '_>) -> bool
+    pub(super) fn add_fresh<O: Output>(
+        &mut self,
+        meter: &mut Meter<A>,
+        sink: &mut Sink<O, A>,
+        item: SingleItem<'_, '_>,
+    ) -> bool
         requires can_take { CanTake self.old meter.old }
         requires comes { MayCome self.old.limits self.old.open_value (as_item item) }
-        ensures { AddsPlain self.old self.new meter.old meter.new (as_item item.entry) result }
+        ensures { TakesPlain self.old self.new meter.old meter.new
+            sink.old sink.new (as_item item.entry) result }
     {
-        if self.open_value.headers.len() == 0 {
-            return false;
-        }
         if !is_scalar(item.head) {
             return false;
+        }
+        if self.open_value.headers.len() == 0 {
+            return self.put_whole(sink, &item);
         }
         let Some(note) = self.annotation_id(item.annotation) else {
             return false;
@@ -66,10 +73,9 @@ impl<A: Allocator + Copy> BinWriter<A> {
         requires can_put { CanPutFresh self.old meter.old (as_item item.now) fresh note }
         ensures { AddsPlain self.old self.new meter.old meter.new (as_item item.now) result }
     {
-        let Some(small) = small_of(item.head, fresh.symbol) else {
+        let Some(number) = few_of(item.head, fresh.symbol) else {
             return self.put_spelled(meter, item, fresh, note);
         };
-        let number = few_number(small.code, small.n);
         let Some(front) = noted_front(&number.first, number.size, fresh.name, note) else {
             return self.put_spelled(meter, item, fresh, note);
         };
@@ -192,33 +198,23 @@ impl<A: Allocator + Copy> BinWriter<A> {
     }
 }
 
-// A scalar whose body is a number of 64 bits, by its type code.
-#[derive(Clone, Copy)]
-struct Small {
-    code: u8,
-    n: u64,
-}
-
-// An int that 64 bits hold, or a symbol of this id.
+// The octets of an int that 64 bits hold, of a symbol of this id, of a null, or of a bool.
 #[inline(always)]
-fn small_of(head: Head<'_>, symbol: u32) -> Option<Small>
-    ensures code { IfSome result (λ small. small.code < 16) }
-    ensures octets { IfSome result (λ small. (ids : UserSymbol → ℕ)
+pub(super) fn few_of(head: Head<'_>, symbol: u32) -> Option<FewNumber>
+    ensures few { IfSome result (λ number. length number.first ≤ 2) }
+    ensures size { IfSome result (λ number. number.size ≤ 8) }
+    ensures octets { IfSome result (λ number. (ids : UserSymbol → ℕ)
         → symbol ≡ head_name ids (user_head head.entry)
-        → headed small.code (uint_octets small.n) ≡ head_octets ids (user_head head.entry)) }
+        → number.first ++ take number.size number.body ≡ head_octets ids (user_head head.entry)) }
 {
     match head {
         Head::Int(int) => match u64::try_from(int.magnitude) {
-            Ok(n) => Some(Small {
-                code: if int.negative { 3 } else { 2 },
-                n,
-            }),
+            Ok(n) => Some(few_number(if int.negative { 3 } else { 2 }, n)),
             Err(_) => None,
         },
-        Head::Symbol(_) => Some(Small {
-            code: 7,
-            n: u64::from(symbol),
-        }),
+        Head::Symbol(_) => Some(few_number(7, u64::from(symbol))),
+        Head::Null(of) => Some(few_octet(16 * type_code(of) + 15)),
+        Head::Bool(truth) => Some(few_octet(if truth { 17 } else { 16 })),
         _ => None,
     }
 }

@@ -6,7 +6,7 @@ ghost use Rattle.ion_value.specs.Value.{begin, decimal, end, int, string, symbol
 ghost use Rattle.ion_binary.specs.Canonical.{headed, id_in};
 ghost use Rattle.ion_binary.specs.ItemOctets.{head_octets, user_head};
 ghost use Rattle.ion_binary.specs.Opening.{MayCome, both_octets};
-ghost use Rattle.ion_binary.specs.Plain.{AddsPlain, EndsPlain, HaveIds, IsWhole, as_item, as_pair};
+ghost use Rattle.ion_binary.specs.Plain.{AddsPlain, HaveIds, IsWhole, TakesPlain, as_item, as_pair};
 ghost use Rattle.ion_binary.specs.Writer.{CanTake};
 ghost use Rattle.ion_binary.specs.Writing.{head_symbols};
 
@@ -29,16 +29,17 @@ impl<A: Allocator + Copy> BinWriter<A> {
     // Adds an item behind which a value is open, where all is there that it needs: ids of its texts, or
     // of a scalar with one annotation at most of all but one, and room. Else it answers false.
     #[inline(always)]
-    pub(super) fn add_plain(
+    pub(super) fn add_plain<O: Output>(
         &mut self,
         meter: &mut Meter<A>,
+        sink: &mut Sink<O, A>,
         item: SingleItem<'_, '_>,
         second: Option<TextAt<'_>>,
     ) -> bool
         requires can_take { CanTake self.old meter.old }
         requires comes { MayCome self.old.limits self.old.open_value (as_pair item second) }
-        ensures { AddsPlain self.old self.new meter.old meter.new
-            (as_pair item.entry second.entry) result }
+        ensures { TakesPlain self.old self.new meter.old meter.new
+            sink.old sink.new (as_pair item.entry second.entry) result }
     {
         if let Some(second) = second {
             if !is_scalar(item.head) {
@@ -50,13 +51,13 @@ impl<A: Allocator + Copy> BinWriter<A> {
             Head::Begin(kind) => self.begin_plain(meter, &item, kind),
             Head::End => self.end_plain(meter, &item),
             Head::Marker => false,
-            Head::Null(of) => self.add_octet(meter, &item, 16 * type_code(of) + 15),
-            Head::Bool(truth) => self.add_octet(meter, &item, if truth { 17 } else { 16 }),
-            Head::Int(int) => self.add_int(meter, &item, int),
-            Head::Symbol(at) => self.add_symbol(meter, &item, at),
-            Head::Decimal(decimal) => self.add_decimal(meter, &item, decimal),
-            Head::String(text) => self.add_string(meter, &item, text),
-            _ => self.add_spelled(meter, &item),
+            Head::Null(of) => self.add_octet(meter, sink, &item, 16 * type_code(of) + 15),
+            Head::Bool(truth) => self.add_octet(meter, sink, &item, if truth { 17 } else { 16 }),
+            Head::Int(int) => self.add_int(meter, sink, &item, int),
+            Head::Symbol(at) => self.add_symbol(meter, sink, &item, at),
+            Head::Decimal(decimal) => self.add_decimal(meter, sink, &item, decimal),
+            Head::String(text) => self.add_string(meter, sink, &item, text),
+            _ => self.add_spelled(meter, sink, &item),
         }
     }
 
@@ -107,11 +108,8 @@ impl<A: Allocator + Copy> BinWriter<A> {
         requires can_take { CanTake self.old meter.old }
         requires comes { MayCome self.old.limits self.old.open_value (as_item item.now) }
         requires head { raw_head item.now.head ≡ end }
-        ensures ends { EndsPlain self.old self.new meter.old meter.new
-            (as_item item.now) sink.old.pending sink.new.pending result }
-        ensures declines { result ≡ false → sink.new ≡ sink.old }
-        ensures device { sink.new.device ≡ sink.old.device }
-        ensures fault { sink.new.fault ≡ sink.old.fault }
+        ensures { TakesPlain self.old self.new meter.old meter.new
+            sink.old sink.new (as_item item.now) result }
     {
         let _item = item;
         let Some(outermost) = self.open_value.headers.only() else {
@@ -136,75 +134,109 @@ impl<A: Allocator + Copy> BinWriter<A> {
 
     // Adds a scalar.
     #[inline(never)]
-    fn add_spelled(&mut self, meter: &mut Meter<A>, item: &SingleItem<'_, '_>) -> bool
+    fn add_spelled<O: Output>(
+        &mut self,
+        meter: &mut Meter<A>,
+        sink: &mut Sink<O, A>,
+        item: &SingleItem<'_, '_>,
+    ) -> bool
         requires can_take { CanTake self.old meter.old }
         requires comes { MayCome self.old.limits self.old.open_value (as_item item.now) }
         requires whole { IsWhole (raw_head item.now.head) }
-        ensures { AddsPlain self.old self.new meter.old meter.new (as_item item.now) result }
+        ensures { TakesPlain self.old self.new meter.old meter.new
+            sink.old sink.new (as_item item.now) result }
     {
         let Some(name) = self.name_of(item.head) else {
-            return self.add_fresh(meter, *item);
+            return self.add_fresh(meter, sink, *item);
         };
         let spelled = spell(item.head, name);
         let octets = spelled.octets();
-        self.add_scalar(meter, item, &octets)
+        self.add_scalar(meter, sink, item, &octets)
     }
 
     // Adds an int: one that 64 bits hold without an `ArrayVec` of its octets.
     #[inline(always)]
-    fn add_int(&mut self, meter: &mut Meter<A>, item: &SingleItem<'_, '_>, number: Int) -> bool
+    fn add_int<O: Output>(
+        &mut self,
+        meter: &mut Meter<A>,
+        sink: &mut Sink<O, A>,
+        item: &SingleItem<'_, '_>,
+        number: Int,
+    ) -> bool
         requires can_take { CanTake self.old meter.old }
         requires comes { MayCome self.old.limits self.old.open_value (as_item item.now) }
         requires head { raw_head item.now.head ≡ whole (int number) }
-        ensures { AddsPlain self.old self.new meter.old meter.new (as_item item.now) result }
+        ensures { TakesPlain self.old self.new meter.old meter.new
+            sink.old sink.new (as_item item.now) result }
     {
         let code = if number.negative { 3 } else { 2 };
         match u64::try_from(number.magnitude) {
-            Ok(n) => self.add_number(meter, item, code, n),
-            Err(_) => self.add_wide(meter, item, number),
+            Ok(n) => self.add_number(meter, sink, item, code, n),
+            Err(_) => self.add_wide(meter, sink, item, number),
         }
     }
 
     // Adds an int that 64 bits do not hold. `add_spelled` would have the item stored for each int.
     #[inline(always)]
-    fn add_wide(&mut self, meter: &mut Meter<A>, item: &SingleItem<'_, '_>, number: Int) -> bool
+    fn add_wide<O: Output>(
+        &mut self,
+        meter: &mut Meter<A>,
+        sink: &mut Sink<O, A>,
+        item: &SingleItem<'_, '_>,
+        number: Int,
+    ) -> bool
         requires can_take { CanTake self.old meter.old }
         requires comes { MayCome self.old.limits self.old.open_value (as_item item.now) }
         requires head { raw_head item.now.head ≡ whole (int number) }
-        ensures { AddsPlain self.old self.new meter.old meter.new (as_item item.now) result }
+        ensures { TakesPlain self.old self.new meter.old meter.new
+            sink.old sink.new (as_item item.now) result }
     {
         let spelled = spell_int(number);
         let octets = spelled.octets();
-        self.add_scalar(meter, item, &octets)
+        self.add_scalar(meter, sink, item, &octets)
     }
 
     // Adds a symbol.
     #[inline(always)]
-    fn add_symbol(&mut self, meter: &mut Meter<A>, item: &SingleItem<'_, '_>, at: SymAt<'_>) -> bool
+    fn add_symbol<O: Output>(
+        &mut self,
+        meter: &mut Meter<A>,
+        sink: &mut Sink<O, A>,
+        item: &SingleItem<'_, '_>,
+        at: SymAt<'_>,
+    ) -> bool
         requires can_take { CanTake self.old meter.old }
         requires comes { MayCome self.old.limits self.old.open_value (as_item item.now) }
         requires head { raw_head item.now.head ≡ whole (symbol (symbol_at at)) }
-        ensures { AddsPlain self.old self.new meter.old meter.new (as_item item.now) result }
+        ensures { TakesPlain self.old self.new meter.old meter.new
+            sink.old sink.new (as_item item.now) result }
     {
         let Sym::Text(text) = at.sym else {
             return false;
         };
         match self.symbols.known(text) {
-            Some(id) => self.add_number(meter, item, 7, u64::from(id)),
-            None => self.add_fresh(meter, *item),
+            Some(id) => self.add_number(meter, sink, item, 7, u64::from(id)),
+            None => self.add_fresh(meter, sink, *item),
         }
     }
 
     // Adds a string.
     #[inline(always)]
-    fn add_string(&mut self, meter: &mut Meter<A>, item: &SingleItem<'_, '_>, text: &[u8]) -> bool
+    fn add_string<O: Output>(
+        &mut self,
+        meter: &mut Meter<A>,
+        sink: &mut Sink<O, A>,
+        item: &SingleItem<'_, '_>,
+        text: &[u8],
+    ) -> bool
         requires can_take { CanTake self.old meter.old }
         requires comes { MayCome self.old.limits self.old.open_value (as_item item.now) }
         requires head { raw_head item.now.head ≡ whole (string text.now) }
-        ensures { AddsPlain self.old self.new meter.old meter.new (as_item item.now) result }
+        ensures { TakesPlain self.old self.new meter.old meter.new
+            sink.old sink.new (as_item item.now) result }
     {
         let Some(ids) = self.ids_of(item) else {
-            return self.add_fresh(meter, *item);
+            return self.add_fresh(meter, sink, *item);
         };
         self.open_value
             .put_text(meter, &self.limits, ids.name, ids.note, text)
@@ -213,27 +245,29 @@ impl<A: Allocator + Copy> BinWriter<A> {
     // Adds a decimal: one that is not zero without an `ArrayVec` of its octets, where 63 bits hold its
     // coefficient and one octet its exponent.
     #[inline(always)]
-    fn add_decimal(
+    fn add_decimal<O: Output>(
         &mut self,
         meter: &mut Meter<A>,
+        sink: &mut Sink<O, A>,
         item: &SingleItem<'_, '_>,
         number: Decimal,
     ) -> bool
         requires can_take { CanTake self.old meter.old }
         requires comes { MayCome self.old.limits self.old.open_value (as_item item.now) }
         requires head { raw_head item.now.head ≡ whole (decimal number) }
-        ensures { AddsPlain self.old self.new meter.old meter.new (as_item item.now) result }
+        ensures { TakesPlain self.old self.new meter.old meter.new
+            sink.old sink.new (as_item item.now) result }
     {
         let magnitude = number.coefficient;
         if magnitude == 0 || magnitude >= 1 << 63 {
-            return self.add_spelled(meter, item);
+            return self.add_spelled(meter, sink, item);
         }
         let Some(exponent) = var_int_octet(number.exponent < 0, number.exponent.unsigned_abs())
         else {
-            return self.add_spelled(meter, item);
+            return self.add_spelled(meter, sink, item);
         };
         let Some(ids) = self.ids_of(item) else {
-            return self.add_fresh(meter, *item);
+            return self.add_fresh(meter, sink, *item);
         };
         self.open_value.put_decimal(
             meter,
@@ -248,9 +282,10 @@ impl<A: Allocator + Copy> BinWriter<A> {
 
     // Adds a scalar whose body is a number of 64 bits.
     #[inline(always)]
-    fn add_number(
+    fn add_number<O: Output>(
         &mut self,
         meter: &mut Meter<A>,
+        sink: &mut Sink<O, A>,
         item: &SingleItem<'_, '_>,
         code: u8,
         n: u64,
@@ -262,10 +297,11 @@ impl<A: Allocator + Copy> BinWriter<A> {
         requires code { code < 16 }
         requires octets { headed code (uint_octets n)
             ≡ head_octets (id_in self.old.symbols.texts) (user_head item.now.head) }
-        ensures { AddsPlain self.old self.new meter.old meter.new (as_item item.now) result }
+        ensures { TakesPlain self.old self.new meter.old meter.new
+            sink.old sink.new (as_item item.now) result }
     {
         let Some(ids) = self.ids_of(item) else {
-            return self.add_fresh(meter, *item);
+            return self.add_fresh(meter, sink, *item);
         };
         self.open_value
             .put_number(meter, &self.limits, ids.name, ids.note, code, n)
@@ -273,17 +309,24 @@ impl<A: Allocator + Copy> BinWriter<A> {
 
     // Adds a scalar of one octet.
     #[inline(always)]
-    fn add_octet(&mut self, meter: &mut Meter<A>, item: &SingleItem<'_, '_>, octet: u8) -> bool
+    fn add_octet<O: Output>(
+        &mut self,
+        meter: &mut Meter<A>,
+        sink: &mut Sink<O, A>,
+        item: &SingleItem<'_, '_>,
+        octet: u8,
+    ) -> bool
         requires can_take { CanTake self.old meter.old }
         requires comes { MayCome self.old.limits self.old.open_value (as_item item.now) }
         requires whole { IsWhole (raw_head item.now.head) }
         requires known { HaveIds self.old.symbols.texts (head_symbols (raw_head item.now.head)) }
         requires octets { octet ∷ []
             ≡ head_octets (id_in self.old.symbols.texts) (user_head item.now.head) }
-        ensures { AddsPlain self.old self.new meter.old meter.new (as_item item.now) result }
+        ensures { TakesPlain self.old self.new meter.old meter.new
+            sink.old sink.new (as_item item.now) result }
     {
         let Some(ids) = self.ids_of(item) else {
-            return self.add_fresh(meter, *item);
+            return self.add_fresh(meter, sink, *item);
         };
         self.open_value
             .put_octet(meter, &self.limits, ids.name, ids.note, octet)
@@ -291,9 +334,10 @@ impl<A: Allocator + Copy> BinWriter<A> {
 
     // Adds a scalar of these octets.
     #[inline(always)]
-    fn add_scalar(
+    fn add_scalar<O: Output>(
         &mut self,
         meter: &mut Meter<A>,
+        sink: &mut Sink<O, A>,
         item: &SingleItem<'_, '_>,
         scalar: &Octets<'_>,
     ) -> bool
@@ -303,10 +347,11 @@ impl<A: Allocator + Copy> BinWriter<A> {
         requires known { HaveIds self.old.symbols.texts (head_symbols (raw_head item.now.head)) }
         requires octets { both_octets scalar.now
             ≡ head_octets (id_in self.old.symbols.texts) (user_head item.now.head) }
-        ensures { AddsPlain self.old self.new meter.old meter.new (as_item item.now) result }
+        ensures { TakesPlain self.old self.new meter.old meter.new
+            sink.old sink.new (as_item item.now) result }
     {
         let Some(ids) = self.ids_of(item) else {
-            return self.add_fresh(meter, *item);
+            return self.add_fresh(meter, sink, *item);
         };
         self.open_value
             .put_octets(meter, &self.limits, ids.name, ids.note, scalar)

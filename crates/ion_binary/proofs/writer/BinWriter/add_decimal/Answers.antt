@@ -7,7 +7,7 @@ use Rattle.ion_binary.specs.Canonical.{headed, id_in}
 use Rattle.ion_binary.specs.ItemOctets.{head_octets}
 use Rattle.ion_binary.specs.Plain.{HaveIds, IsWhole, as_item}
 use Rattle.ion_binary.specs.Writing.{head_symbols}
-use Rattle.ion_binary.proofs.PlainAdded.{member-plain}
+use Rattle.ion_binary.proofs.PlainAdded.{adds-taken, member-plain}
 use Rattle.ion_binary.proofs.ShortDecimals.{some-decimal}
 use Rattle.ion_binary.proofs.writer.BinWriter.add_decimal.Goals as goal
 
@@ -29,8 +29,9 @@ returns g c =
     let whole = subst W (sym c.requires.head) tt in
     let known = subst K (sym c.requires.head) tt in
     let octets = subst O (sym c.requires.head) (ap (headed 5) spelled) in
-    member-plain w c.put_decimal.new.self c.args.meter.now c.put_decimal.new.meter item c.put_decimal.result c.in-Some-ids_of.ids.name c.in-Some-ids_of.ids.note (headed 5 body)
-    c.requires.can_take k.open whole k.field_known k.note_known known k.field k.note octets c.put_decimal.ensures
+    adds-taken w (record w { open_value = c.put_decimal.new.self }) c.args.meter.now c.put_decimal.new.meter c.args.sink.now item c.put_decimal.result
+    (member-plain w c.put_decimal.new.self c.args.meter.now c.put_decimal.new.meter item c.put_decimal.result c.in-Some-ids_of.ids.name c.in-Some-ids_of.ids.note (headed 5 body)
+    c.requires.can_take k.open whole k.field_known k.note_known known k.field k.note octets c.put_decimal.ensures)
 
 pub put_decimal-requires : goal.put_decimal-requires
 put_decimal-requires g c = grind (arith, common_steps) steps 400000

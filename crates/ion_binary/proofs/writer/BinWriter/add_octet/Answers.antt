@@ -1,7 +1,7 @@
 use Rattle.std.proofs.Common.{◌∷◌, []}
 use Rattle.ion_value.specs.Value.{PlacedItem}
 use Rattle.ion_binary.specs.Plain.{as_item}
-use Rattle.ion_binary.proofs.PlainAdded.{member-plain}
+use Rattle.ion_binary.proofs.PlainAdded.{adds-taken, member-plain}
 use Rattle.ion_binary.proofs.writer.BinWriter.add_octet.Goals as goal
 
 pub returns : goal.returns
@@ -9,5 +9,6 @@ returns g c =
     let w = c.args.self.now in
     let item : PlacedItem = as_item c.args.item.now in
     let k = c.in-Some.ensures in
-    member-plain w c.put_octet.new.self c.args.meter.now c.put_octet.new.meter item c.put_octet.result c.in-Some.ids.name c.in-Some.ids.note (c.args.octet ∷ []) c.requires.can_take k.open
-    c.requires.whole k.field_known k.note_known c.requires.known k.field k.note c.requires.octets c.put_octet.ensures
+    adds-taken w (record w { open_value = c.put_octet.new.self }) c.args.meter.now c.put_octet.new.meter c.args.sink.now item c.put_octet.result
+    (member-plain w c.put_octet.new.self c.args.meter.now c.put_octet.new.meter item c.put_octet.result c.in-Some.ids.name c.in-Some.ids.note (c.args.octet ∷ []) c.requires.can_take k.open
+    c.requires.whole k.field_known k.note_known c.requires.known k.field k.note c.requires.octets c.put_octet.ensures)

@@ -4,7 +4,7 @@ use Rattle.ion_binary.specs.Canonical.{headed, id_in}
 use Rattle.ion_binary.specs.ItemOctets.{head_octets}
 use Rattle.ion_binary.specs.Plain.{HaveIds, IsWhole, as_item}
 use Rattle.ion_binary.specs.Writing.{head_symbols}
-use Rattle.ion_binary.proofs.PlainAdded.{member-plain}
+use Rattle.ion_binary.proofs.PlainAdded.{adds-taken, member-plain}
 use Rattle.ion_binary.proofs.writer.BinWriter.add_string.Goals as goal
 
 pub returns : goal.returns
@@ -19,5 +19,6 @@ returns g c =
     let whole = subst W (sym c.requires.head) tt in
     let known = subst K (sym c.requires.head) tt in
     let octets = subst O (sym c.requires.head) refl in
-    member-plain w c.put_text.new.self c.args.meter.now c.put_text.new.meter item c.put_text.result c.in-Some.ids.name c.in-Some.ids.note (headed 8 c.args.text.now) c.requires.can_take k.open
-    whole k.field_known k.note_known known k.field k.note octets c.put_text.ensures
+    adds-taken w (record w { open_value = c.put_text.new.self }) c.args.meter.now c.put_text.new.meter c.args.sink.now item c.put_text.result
+    (member-plain w c.put_text.new.self c.args.meter.now c.put_text.new.meter item c.put_text.result c.in-Some.ids.name c.in-Some.ids.note (headed 8 c.args.text.now) c.requires.can_take k.open
+    whole k.field_known k.note_known known k.field k.note octets c.put_text.ensures)

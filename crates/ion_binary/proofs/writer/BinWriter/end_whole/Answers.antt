@@ -1,23 +1,21 @@
-use Rattle.std.proofs.Common.{◌≡◌, ◌++◌, List, ℕ, length, ap, ◌∙◌, arith}
+use Rattle.std.proofs.Common.{◌≡◌, List, ℕ, length, ap, ◌∙◌, arith}
 use Rattle.std.proofs.lemmas.Grind.{common_steps}
 use Rattle.ion_binary.specs.Canonical.{header}
 use Rattle.ion_binary.specs.Plain.{as_item}
-use Rattle.ion_binary.proofs.PlainAdded.{plain-ended}
+use Rattle.ion_binary.proofs.PlainAdded.{both-put, plain-ended}
 use Rattle.ion_binary.proofs.writer.BinWriter.end_whole.Goals as goal
 
-pub returns-clause-ends : goal.returns-clause-ends
-returns-clause-ends g c =
+pub returns : goal.returns
+returns g c =
     let w = c.args.self.now in
     let o = c.in-Some.outermost in
     let x : List ℕ = c.header-before.result.items in
     let texts : length c.new_since.result ≡ length w.symbols.texts = ap (λ (ts : List (List ℕ)). length ts) c.new_since.ensures in
     let all : w.declared ≡ length w.symbols.texts = let n = c.len.ensures in let f : c.len.result ≡ w.declared = c.if-len-self.false in omega (arith, n, f, texts) in
     let is : x ≡ header o.code (length w.open_value.octets) = c.header-before.ensures ∙ ap (λ (os : List ℕ). header o.code (length os)) c.as_slice-octets.ensures in
-    let first : c.put_within.new.self.pending ≡ c.args.sink.now.pending ++ x = ap (λ s. s.pending) c.put_within.ensures ∙ ap (λ (y : List ℕ). c.args.sink.now.pending ++ y) c.as_slice.ensures.value in
-    let put : c.put_within-2.new.self.pending ≡ (c.args.sink.now.pending ++ x) ++ w.open_value.octets =
-    ap (λ s. s.pending) c.put_within-2.ensures
-    ∙ (ap (λ (y : List ℕ). y ++ c.as_slice-octets.result.now) first ∙ ap (λ (y : List ℕ). (c.args.sink.now.pending ++ x) ++ y) c.as_slice-octets.ensures) in
-    plain-ended w c.clear.new.self o c.args.meter.now c.clear.new.meter (as_item c.args.item.now) c.args.sink.now.pending c.put_within-2.new.self.pending x
+    let put = both-put c.args.sink.now c.put_within.new.self c.put_within-2.new.self x w.open_value.octets c.as_slice.result.now c.as_slice-octets.result.now
+    c.put_within.ensures c.as_slice.ensures.value c.put_within-2.ensures c.as_slice-octets.ensures in
+    plain-ended w c.clear.new.self o c.args.meter.now c.clear.new.meter (as_item c.args.item.now) c.args.sink.now c.put_within-2.new.self x
     c.requires.can_take c.requires.comes.counted c.requires.comes.follows c.requires.head c.in-Some.ensures c.if-outermost-ne0.false c.if-self.false all is put
     c.clear.ensures.nothing.0 c.clear.ensures.nothing.1 c.clear.ensures.open c.clear.ensures.stepped
 
@@ -27,11 +25,8 @@ returns-then-room-len g c = grind (arith, common_steps) steps 400000
 pub clear-requires-clause-one : goal.clear-requires-clause-one
 clear-requires-clause-one g c = grind (arith, common_steps) steps 400000
 
-pub returns-clause-declines : goal.returns-clause-declines
-returns-clause-declines g c = grind (arith, common_steps) steps 400000
-
-pub returns-then-self-clause-ends : goal.returns-then-self-clause-ends
-returns-then-self-clause-ends g c = grind (arith, common_steps) steps 400000
+pub returns-then-self : goal.returns-then-self
+returns-then-self g c = grind (arith, common_steps) steps 400000
 
 pub put_within-requires-2 : goal.put_within-requires-2
 put_within-requires-2 g c = grind (arith, common_steps) steps 400000
@@ -45,11 +40,5 @@ put_within-requires g c = grind (arith, common_steps) steps 400000
 pub returns-then-len-self : goal.returns-then-len-self
 returns-then-len-self g c = grind (arith, common_steps) steps 400000
 
-pub returns-in_default-clause-ends : goal.returns-in_default-clause-ends
-returns-in_default-clause-ends g c = grind (arith, common_steps) steps 400000
-
-pub returns-clause-device : goal.returns-clause-device
-returns-clause-device g c = grind (arith, common_steps) steps 400000
-
-pub returns-clause-fault : goal.returns-clause-fault
-returns-clause-fault g c = grind (arith, common_steps) steps 400000
+pub returns-in_default : goal.returns-in_default
+returns-in_default g c = grind (arith, common_steps) steps 400000

@@ -1,15 +1,15 @@
-use Rattle.std.proofs.Common.{◌≡◌, true, arith, ◌∙◌, List, ℕ, Bool, ◌++◌, ap, sym, subst, append-nil}
+use Rattle.std.proofs.Common.{◌≡◌, true, arith, ◌∙◌, Bool, ap, sym, subst}
 use Rattle.std.proofs.lemmas.Grind.{common_steps}
 use Rattle.ion_value.specs.Items.{raw_head}
 use Rattle.ion_value.specs.PlainItems.{placed_item}
 use Rattle.ion_value.specs.Value as value
 use Rattle.ion_value.specs.Value.{PlacedItem}
 use Rattle.ion_binary.specs.Opening.{MayCome}
-use Rattle.ion_binary.specs.Plain.{AddsPlain, EndsPlain, as_item, as_pair}
+use Rattle.ion_binary.specs.Plain.{TakesPlain, as_item, as_pair}
 use Rattle.ion_binary.specs.Writer.{ComesAt}
 use Rattle.ion_binary.specs.Writing.{written_behind}
 use Rattle.ion_binary.specs.declared.writer.single.SingleItem.{SingleItem}
-use Rattle.ion_binary.proofs.PlainAdded.{ended-single, ends-follows, ends-puts, plain-adds, plain-comes, plain-follows}
+use Rattle.ion_binary.proofs.PlainAdded.{ended-single, plain-comes, taken-follows, taken-puts}
 use Rattle.ion_binary.proofs.WriterFollows.{may-come, stands-behind}
 use Rattle.ion_binary.proofs.writer.BinWriterValueWriter.take_plain.Goals as goal
 
@@ -39,9 +39,9 @@ returns-clause-stands g c is path stands next =
     let none : w.ended ≡ 0 = let t = c.if-waits.false in omega (arith, t) in
     let item : PlacedItem = placed_item c.args.item in
     let placed : item ≡ as_pair c.single_of-single.result c.args.item.second = ap (λ (i : SingleItem). as_pair i c.args.item.second) (sym c.single_of-single.ensures) in
-    let P : PlacedItem → Bool → Type 0 = λ i b. AddsPlain w c.add_plain.new.self c.args.meter.now c.add_plain.new.meter i b in
+    let P : PlacedItem → Bool → Type 0 = λ i b. TakesPlain w c.add_plain.new.self c.args.meter.now c.add_plain.new.meter c.args.sink.now c.add_plain.new.sink i b in
     let p = subst (λ (i : PlacedItem). P i true) (sym placed) (subst (P (as_pair c.single_of-single.result c.args.item.second)) is c.add_plain.ensures) in
-    let f = plain-follows w c.add_plain.new.self c.args.meter.now c.add_plain.new.meter (written_behind w.limits path) item p (stands.holds, may-come w.limits path item next) none in
+    let f = taken-follows w c.add_plain.new.self c.args.meter.now c.add_plain.new.meter c.args.sink.now c.add_plain.new.sink (written_behind w.limits path) item p (stands.holds, may-come w.limits path item next) none in
     (stands-behind w.limits c.add_plain.new.self path item p.taken.limits (p.taken.failed ∙ stands.well) f.holds, f.passes)
 
 pub returns-clause-puts : goal.returns-clause-puts
@@ -50,10 +50,9 @@ returns-clause-puts g c is path stands next =
     let none : w.ended ≡ 0 = let t = c.if-waits.false in omega (arith, t) in
     let item : PlacedItem = placed_item c.args.item in
     let placed : item ≡ as_pair c.single_of-single.result c.args.item.second = ap (λ (i : SingleItem). as_pair i c.args.item.second) (sym c.single_of-single.ensures) in
-    let P : PlacedItem → Bool → Type 0 = λ i b. AddsPlain w c.add_plain.new.self c.args.meter.now c.add_plain.new.meter i b in
+    let P : PlacedItem → Bool → Type 0 = λ i b. TakesPlain w c.add_plain.new.self c.args.meter.now c.add_plain.new.meter c.args.sink.now c.add_plain.new.sink i b in
     let p = subst (λ (i : PlacedItem). P i true) (sym placed) (subst (P (as_pair c.single_of-single.result c.args.item.second)) is c.add_plain.ensures) in
-    let adds = plain-adds w c.add_plain.new.self c.args.meter.now c.add_plain.new.meter (written_behind w.limits path) item p (stands.holds, may-come w.limits path item next) none in
-    sym (append-nil c.args.sink.now.pending) ∙ ap (λ (x : List ℕ). c.args.sink.now.pending ++ x) (sym adds)
+    taken-puts w c.add_plain.new.self c.args.meter.now c.add_plain.new.meter c.args.sink.now c.add_plain.new.sink (written_behind w.limits path) item p (stands.holds, may-come w.limits path item next) none
 
 pub returns-then-len-eq1-clause-stands : goal.returns-then-len-eq1-clause-stands
 returns-then-len-eq1-clause-stands g c is path stands next =
@@ -64,9 +63,9 @@ returns-then-len-eq1-clause-stands g c is path stands next =
     let head : raw_head c.args.item.head ≡ value.end = ap raw_head (sym (ap (λ (i : SingleItem). i.head) c.single_of-single.ensures) ∙ c.in-End.is) in
     let single : item ≡ as_item c.single_of-single.result =
     ended-single w c.args.item (plain-comes w (written_behind w.limits path) item comes none) head ∙ ap as_item (sym c.single_of-single.ensures) in
-    let P : PlacedItem → Bool → Type 0 = λ i b. EndsPlain w c.end_whole.new.self c.args.meter.now c.end_whole.new.meter i c.args.sink.now.pending c.end_whole.new.sink.pending b in
-    let p = subst (λ (i : PlacedItem). P i true) (sym single) (subst (P (as_item c.single_of-single.result)) is c.end_whole.ensures.ends) in
-    let f = ends-follows w c.end_whole.new.self c.args.meter.now c.end_whole.new.meter (written_behind w.limits path) item c.args.sink.now.pending c.end_whole.new.sink.pending p comes none in
+    let P : PlacedItem → Bool → Type 0 = λ i b. TakesPlain w c.end_whole.new.self c.args.meter.now c.end_whole.new.meter c.args.sink.now c.end_whole.new.sink i b in
+    let p = subst (λ (i : PlacedItem). P i true) (sym single) (subst (P (as_item c.single_of-single.result)) is c.end_whole.ensures) in
+    let f = taken-follows w c.end_whole.new.self c.args.meter.now c.end_whole.new.meter c.args.sink.now c.end_whole.new.sink (written_behind w.limits path) item p comes none in
     (stands-behind w.limits c.end_whole.new.self path item p.taken.limits (p.taken.failed ∙ stands.well) f.holds, f.passes)
 
 pub returns-then-len-eq1-clause-puts : goal.returns-then-len-eq1-clause-puts
@@ -78,9 +77,9 @@ returns-then-len-eq1-clause-puts g c is path stands next =
     let head : raw_head c.args.item.head ≡ value.end = ap raw_head (sym (ap (λ (i : SingleItem). i.head) c.single_of-single.ensures) ∙ c.in-End.is) in
     let single : item ≡ as_item c.single_of-single.result =
     ended-single w c.args.item (plain-comes w (written_behind w.limits path) item comes none) head ∙ ap as_item (sym c.single_of-single.ensures) in
-    let P : PlacedItem → Bool → Type 0 = λ i b. EndsPlain w c.end_whole.new.self c.args.meter.now c.end_whole.new.meter i c.args.sink.now.pending c.end_whole.new.sink.pending b in
-    let p = subst (λ (i : PlacedItem). P i true) (sym single) (subst (P (as_item c.single_of-single.result)) is c.end_whole.ensures.ends) in
-    ends-puts w c.end_whole.new.self c.args.meter.now c.end_whole.new.meter (written_behind w.limits path) item c.args.sink.now.pending c.end_whole.new.sink.pending p comes none
+    let P : PlacedItem → Bool → Type 0 = λ i b. TakesPlain w c.end_whole.new.self c.args.meter.now c.end_whole.new.meter c.args.sink.now c.end_whole.new.sink i b in
+    let p = subst (λ (i : PlacedItem). P i true) (sym single) (subst (P (as_item c.single_of-single.result)) is c.end_whole.ensures) in
+    taken-puts w c.end_whole.new.self c.args.meter.now c.end_whole.new.meter c.args.sink.now c.end_whole.new.sink (written_behind w.limits path) item p comes none
 
 pub returns-then-len-eq1-clause-charges : goal.returns-then-len-eq1-clause-charges
 returns-then-len-eq1-clause-charges g c = grind (arith, common_steps) steps 400000

@@ -33,7 +33,11 @@ mod WithinLimits
 mod PlacedHeaders
 mod CountedHeaders
 mod OpenSteps
-mod EndedRuns
+mod LateHeaders
+mod Contents
+mod LateOnes
+mod MovedSteps
+mod WriterTaken
 mod WriterSteps
 mod WriterFollows
 mod ShortestHeaders
@@ -66,4 +70,3 @@ mod ShortDecimals
 mod NotedOctets
 mod PlainAdded
 mod FreshAdded
-mod EndsLater

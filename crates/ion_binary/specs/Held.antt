@@ -87,11 +87,6 @@ closed_in octets hs = wrapped_in (innermost_in octets hs) (drop 1 hs)
 abbrev pub headers_around : List HeaderPlace → List HeaderPlace
 headers_around hs = without_wrapper (drop 1 hs)
 
--- the octets where so many of the innermost headers have gone in, one after the other
-abbrev pub closed_run : ℕ → List ℕ → List HeaderPlace → List ℕ
-closed_run zero octets hs = octets
-closed_run (suc k) octets hs = closed_run k (innermost_in octets hs) (drop 1 hs)
-
 -- ---- an item more
 
 -- the ids of annotations behind the length of all of them, and nothing where there are no annotations

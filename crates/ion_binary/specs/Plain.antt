@@ -52,7 +52,6 @@ pub record EndsPlain {A : Type 0} (old new : BinWriter A) (before after : Counts
   pub passes : result ≡ true → item_refusal old.limits (held_in old) item ≡ None
   pub keeps : result ≡ true → 0 < length old.open_value.headers
   pub declines : result ≡ false → (new ≡ old) × (after ≡ before)
-  pub ended : new.ended ≡ old.ended
   pub taken : Taken old new before after None
 
 -- the item was added to a value that is open behind it, no text being forgotten as it comes, and is not refused; or it was declined, and
@@ -64,5 +63,4 @@ pub record AddsPlain {A : Type 0} (old new : BinWriter A) (before after : Counts
   pub keeps : result ≡ true → (0 < length old.open_value.headers) ⊎ (texts_cost old.symbols.texts ≤ old.limits.symbols / 2)
   pub inside : result ≡ true → 0 < length new.open_value.headers
   pub declines : result ≡ false → (new ≡ old) × (after ≡ before)
-  pub ended : new.ended ≡ old.ended
   pub taken : Taken old new before after None

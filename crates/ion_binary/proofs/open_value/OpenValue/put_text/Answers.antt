@@ -1,4 +1,4 @@
-use Rattle.std.proofs.Common.{◌≡◌, ◌+◌, ◌++◌, List, ℕ, length, take, refl, ap, sym, ◌∙◌, arith, length-append}
+use Rattle.std.proofs.Common.{◌≡◌, ◌+◌, ◌++◌, List, ℕ, length, take, refl, ap, sym, subst, ◌∙◌, arith, length-append}
 use Rattle.std.proofs.lemmas.Grind.{common_steps}
 use Rattle.ion_binary.specs.Opening.{noted}
 use Rattle.ion_binary.proofs.PutInRoom.{adds-same, not-added, room-adds}
@@ -18,7 +18,7 @@ returns g c =
     (ap (λ (os : List ℕ). os ++ text) whole
     ∙ (c.in-Some-noted_front.ensures.octets text refl ∙ ap (λ (os : List ℕ). noted c.args.name c.args.note (os ++ text)) c.in-Some.ensures.octets))
     (room-adds c.args.limits.now v c.extend_block_if_room.new.self (first ++ text) c.args.meter.now c.extend_block_if_room.new.meter (c.len-2.result + length text) c.extend_block_if_room.result c.requires
-    (omega (arith, l, f)) c.extend_block_if_room.ensures.bytes c.extend_block_if_room.ensures.cost c.extend_block_if_room.ensures.declines (omega (arith, same, s)))
+    (omega (arith, l, f)) c.extend_block_if_room.ensures.octets c.extend_block_if_room.ensures.cost c.extend_block_if_room.ensures.declines (omega (arith, same, s)))
 
 pub returns-then-not-surely_fits : goal.returns-then-not-surely_fits
 returns-then-not-surely_fits g c = not-added c.requires

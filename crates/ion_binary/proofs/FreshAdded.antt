@@ -243,6 +243,7 @@ fresh-plain {A} w s os before after item true fresh note y c spelled new texts o
     let gp = g.peak in
     let own = c.can_take.held in
     let few = c.can_take.sound.within.headers in
+    let beside = c.can_take.sound.within.room in
     let lim = c.can_take.sound.limit in
     let cheap = within refl in
     let some = c.inside in
@@ -274,7 +275,7 @@ fresh-plain {A} w s os before after item true fresh note y c spelled new texts o
       taken = record {
         sound = record {
           checked = c.can_take.sound.checked;
-          within = record { octets = omega (arith, long, room); headers = omega (arith, few, late); costed = costed };
+          within = record { octets = omega (arith, long, room); headers = omega (arith, few, late); costed = costed; room = omega (arith, late, beside) };
           limit = limit ∙ lim;
           share = omega (arith, cheap, lim);
           few = c.can_take.sound.few;

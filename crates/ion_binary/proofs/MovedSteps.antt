@@ -14,14 +14,15 @@ use Rattle.ion_binary.specs.Canonical.{header}
 use Rattle.ion_binary.specs.Counting.{ArePlaced, AreReached, place_of_header}
 use Rattle.ion_binary.specs.Held.{size_of}
 use Rattle.ion_binary.specs.Places.{closed_length, header_size, missing}
-use Rattle.ion_binary.specs.Opening.{CanStep, IsOpen, IsOpenTo, Raises, Stepped}
+use Rattle.ion_binary.specs.Opening.{CanStep, HasRoom, IsOpen, IsOpenTo, Raises, Stepped}
 use Rattle.ion_binary.proofs.Contents.{costed-by}
 use Rattle.ion_binary.proofs.OpenSteps.{closed-put}
 
 pub moved-stepped : {A : Type 0} (limits : Limits) (v w : OpenValue A) (m n : Counts) (most : ℕ) (fault : Option Fault) → CanStep limits v m → Moved v.octets w.octets m n most fault
     → w.headers ≡ v.headers → length w.octets.all ≤ limits.value → w.octets.late ≤ v.octets.late → 8 * length v.headers + most ≤ 16 * limits.depth + limits.value
-    → Stepped limits v w m n fault
-moved-stepped limits v w m n most fault can moved same short late room =
+    → w.room ≡ v.room → Stepped limits v w m n fault
+moved-stepped limits v w m n most fault can moved same short late room kept =
+    let beside = can.within.room in
     let few : length w.headers ≡ length v.headers = ap (λ (hs : List HeaderPlace). length hs) same in
     let before = can.within.headers in
     let own = can.held in
@@ -30,7 +31,7 @@ moved-stepped limits v w m n most fault can moved same short late room =
     let peak = moved.charges.peak in
     let rises = moved.charges.rises in
     record {
-      within = record { octets = short; headers = omega (arith, few, before, late); costed = moved.costed };
+      within = record { octets = short; headers = omega (arith, few, before, late); costed = moved.costed; room = omega (arith, few, late, beside, kept) };
       memory = moved.memory;
       alone = moved.alone;
       charges = record { held = omega (arith, held, few); share = omega (arith, share, few, room); peak = omega (arith, peak, own, room); rises = rises };
@@ -38,8 +39,9 @@ moved-stepped limits v w m n most fault can moved same short late room =
 
 -- octets are added after it
 pub raised-stepped : {A : Type 0} (limits : Limits) (v w u : OpenValue A) (m n o : Counts) (y : List ℕ) → CanStep limits v m → Stepped limits v w m n None
-    → u.octets ≡ appended w.octets y → u.headers ≡ w.headers → Raises n o (length y) → length u.octets.all ≤ limits.value → Stepped limits v u m o None
-raised-stepped limits v w u m n o y can s more same raises short =
+    → u.octets ≡ appended w.octets y → u.headers ≡ w.headers → Raises n o (length y) → length u.octets.all ≤ limits.value → u.room ≡ w.room → Stepped limits v u m o None
+raised-stepped limits v w u m n o y can s more same raises short kept =
+    let beside = s.within.room in
     let few : length u.headers ≡ length w.headers = ap (λ (hs : List HeaderPlace). length hs) same in
     let late : u.octets.late ≡ w.octets.late = ap (λ (c : Content). c.late) more in
     let cost : u.octets.cost ≡ w.octets.cost + length y = ap (λ (c : Content). c.cost) more in
@@ -54,7 +56,7 @@ raised-stepped limits v w u m n o y can s more same raises short =
     let rp = raises.peak in
     let rr = raises.rises in
     record {
-      within = record { octets = short; headers = omega (arith, few, late, before); costed = costed };
+      within = record { octets = short; headers = omega (arith, few, late, before); costed = costed; room = omega (arith, few, late, beside, kept) };
       memory = record { memory = λ e. absurd (Prim.cc e); counted = λ e. raises.refused ∙ s.memory.counted e };
       alone = λ f e. absurd (Prim.cc e);
       charges = record {
@@ -86,8 +88,8 @@ refused-stepped limits v w m n o fault s is refused =
 -- the innermost header was taken off first
 pub popped-stepped : {A : Type 0} (limits : Limits) (v w : OpenValue A) (m n o : Counts) (most : ℕ) (fault : Option Fault) → CanStep limits v m → Shrinks m n 8
     → length v.headers ≡ suc (length w.headers) → Moved v.octets w.octets n o most fault → length w.octets.all ≤ limits.value
-    → length w.headers + 2 * w.octets.late ≤ 2 * limits.depth → 8 * length w.headers + most ≤ 16 * limits.depth + limits.value → Stepped limits v w m o fault
-popped-stepped limits v w m n o most fault can shrinks few moved short late room =
+    → length w.headers + 2 * w.octets.late ≤ 2 * limits.depth → 8 * length w.headers + most ≤ 16 * limits.depth + limits.value → HasRoom limits w → Stepped limits v w m o fault
+popped-stepped limits v w m n o most fault can shrinks few moved short late room beside =
     let own = can.held in
     let held = moved.charges.held in
     let share = moved.charges.share in
@@ -97,7 +99,7 @@ popped-stepped limits v w m n o most fault can shrinks few moved short late room
     let sp = shrinks.peak in
     let sr = shrinks.refused in
     record {
-      within = record { octets = short; headers = late; costed = moved.costed };
+      within = record { octets = short; headers = late; costed = moved.costed; room = beside };
       memory = record {
         memory = λ e. let r = moved.memory.memory e in omega (arith, r, sr);
         counted = λ e. moved.memory.counted e ∙ sr;
@@ -161,18 +163,18 @@ header-fits limits v h hs o e =
 -- so many octets go in
 pub put-stepped : {A : Type 0} (limits : Limits) (v w : OpenValue A) (m n : Counts) (k : ℕ) (fault : Option Fault) → CanStep limits v m → w.headers ≡ v.headers
     → Moved v.octets w.octets m n (length v.octets.all + k + 16 * v.octets.late) fault → w.octets.late ≤ v.octets.late → length w.octets.all ≤ limits.value → length v.octets.all + k ≤ limits.value
-    → Stepped limits v w m n fault
-put-stepped limits v w m n k fault can same moved late short room =
+    → w.room ≡ v.room → Stepped limits v w m n fault
+put-stepped limits v w m n k fault can same moved late short room kept =
     let before = can.within.headers in
-    moved-stepped limits v w m n (length v.octets.all + k + 16 * v.octets.late) fault can moved same short late (omega (arith, before, room))
+    moved-stepped limits v w m n (length v.octets.all + k + 16 * v.octets.late) fault can moved same short late (omega (arith, before, room)) kept
 
 pub grows-raises : (m n : Counts) (k : ℕ) → Grows m n k → Raises m n k
 grows-raises m n k g = let p = g.peak in let h = g.held in record { held = g.held; peak = omega (arith, p); rises = omega (arith, p); refused = g.refused }
 
 -- another header is missing after it
 pub headed-stepped : {A : Type 0} (limits : Limits) (v w u : OpenValue A) (m n o : Counts) → CanStep limits v m → Stepped limits v w m n None → u.octets ≡ w.octets → length u.headers ≡ suc (length w.headers)
-    → Grows n o 8 → length w.headers + 2 * w.octets.late + 1 ≤ 2 * limits.depth → Stepped limits v u m o None
-headed-stepped limits v w u m n o can s same more grows room =
+    → Grows n o 8 → length w.headers + 2 * w.octets.late + 1 ≤ 2 * limits.depth → HasRoom limits u → Stepped limits v u m o None
+headed-stepped limits v w u m n o can s same more grows room beside =
     let late : u.octets.late ≡ w.octets.late = ap (λ (c : Content). c.late) same in
     let cost : u.octets.cost ≡ w.octets.cost = ap (λ (c : Content). c.cost) same in
     let all : length u.octets.all ≡ length w.octets.all = ap (λ (c : Content). length c.all) same in
@@ -185,7 +187,7 @@ headed-stepped limits v w u m n o can s same more grows room =
     let gh = grows.held in
     let gp = grows.peak in
     record {
-      within = record { octets = omega (arith, octets, all); headers = omega (arith, more, late, room); costed = subst (λ (c : Content). IsCosted c) (sym same) s.within.costed };
+      within = record { octets = omega (arith, octets, all); headers = omega (arith, more, late, room); costed = subst (λ (c : Content). IsCosted c) (sym same) s.within.costed; room = beside };
       memory = record { memory = λ e. absurd (Prim.cc e); counted = λ e. grows.refused ∙ s.memory.counted e };
       alone = λ f e. absurd (Prim.cc e);
       charges = record {

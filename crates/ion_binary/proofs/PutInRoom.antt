@@ -1,5 +1,5 @@
 -- Octets that are put where there is surely room for them: what a call keeps and moves, whether it puts them or declines.
-use Rattle.std.proofs.Common.{◌≡◌, ℕ, ◌+◌, ◌*◌, ◌≤◌, Bool, true, false, List, [], ◌++◌, length, None, refl, ap, sym, subst, ◌∙◌, arith, length-append}
+use Rattle.std.proofs.Common.{◌≡◌, ℕ, suc, ◌+◌, ◌*◌, ◌≤◌, Bool, true, false, List, [], ◌++◌, length, None, refl, ap, sym, subst, ◌∙◌, arith, length-append}
 use Rattle.ion_meter.specs.Counts.{Counts, Grows}
 use Rattle.ion_meter.specs.declared.limits.Limits.{Limits}
 use Rattle.ion_binary.specs.declared.headers.HeaderPlace.{HeaderPlace}
@@ -12,8 +12,9 @@ use Rattle.ion_binary.proofs.OpenSteps.{room-open}
 
 pub room-stepped : {A : Type 0} (limits : Limits) (v w : OpenValue A) (m n : Counts) (x : List ℕ) (result : Bool) → CanStep limits v m → w.headers ≡ v.headers
     → (result ≡ true → w.octets ≡ appended v.octets x) → (result ≡ true → Grows m n (length x)) → (result ≡ false → (w.octets ≡ v.octets) × (n ≡ m))
-    → length v.octets.all + length x ≤ limits.value → Stepped limits v w m n None
-room-stepped limits v w m n x true can same longer grows declines room =
+    → length v.octets.all + length x ≤ limits.value → w.room ≡ v.room → Stepped limits v w m n None
+room-stepped limits v w m n x true can same longer grows declines room kept =
+    let beside = can.within.room in
     let g = grows refl in
     let gh = g.held in
     let gp = g.peak in
@@ -28,7 +29,7 @@ room-stepped limits v w m n x true can same longer grows declines room =
     let costed = costed-by v.octets w.octets x can.within.costed e in
     let most = costed.most in
     record {
-      within = record { octets = omega (arith, long, sum, room); headers = omega (arith, few, late, before); costed = costed };
+      within = record { octets = omega (arith, long, sum, room); headers = omega (arith, few, late, before); costed = costed; room = omega (arith, few, late, beside, kept) };
       memory = record { memory = λ e. absurd (Prim.cc e); counted = λ e. g.refused };
       alone = λ f e. absurd (Prim.cc e);
       charges =
@@ -39,7 +40,8 @@ room-stepped limits v w m n x true can same longer grows declines room =
             rises = omega (arith, gp);
           };
     }
-room-stepped {A} limits v w m n x false can same longer grows declines room =
+room-stepped {A} limits v w m n x false can same longer grows declines room kept =
+    let beside = can.within.room in
     let d = declines refl in
     let few : length w.headers ≡ length v.headers = ap (λ (hs : List HeaderPlace). length hs) same in
     let before = can.within.headers in
@@ -49,7 +51,7 @@ room-stepped {A} limits v w m n x false can same longer grows declines room =
     subst (After w.octets) (sym d.1)
     (subst (λ (c : Content). After c m) (sym d.0)
     (record {
-      within = record { octets = short; headers = omega (arith, few, before); costed = can.within.costed };
+      within = record { octets = short; headers = omega (arith, few, before); costed = can.within.costed; room = omega (arith, few, beside, kept) };
       memory = record { memory = λ e. absurd (Prim.cc e); counted = λ e. refl };
       alone = λ f e. absurd (Prim.cc e);
       charges =
@@ -67,7 +69,7 @@ room-adds {A} limits v y x m n k result can long put grows declines room =
       is_open = λ is. room-open limits v w x can.can_step.checked can.is_open (ap (λ (c : Content). c.all) (put is)) refl refl (omega (arith, long, room));
       declines = λ no. (ap (λ (c : Content). record v { octets = c }) (declines no).0, (declines no).1);
       stepped =
-          room-stepped limits v w m n x result can.can_step refl put (λ is. subst (λ (l : ℕ). Grows m n l) (sym long) (grows is)) declines (omega (arith, long, room));
+          room-stepped limits v w m n x result can.can_step refl put (λ is. subst (λ (l : ℕ). Grows m n l) (sym long) (grows is)) declines (omega (arith, long, room)) refl;
     }
 
 pub not-added : {A : Type 0} {limits : Limits} {v : OpenValue A} {m : Counts} {x : List ℕ} → CanAdd limits v m → AddsOctets limits x v v m m false
@@ -78,7 +80,7 @@ not-added {A} {limits} {v} {m} {x} can = record {
   declines = λ no. (refl, refl);
   stepped =
       let short = can.can_step.within.octets in
-      room-stepped limits v v m m [] false can.can_step refl (λ is. absurd (Prim.cc is)) (λ is. absurd (Prim.cc is)) (λ no. (refl, refl)) (omega (arith, short));
+      room-stepped limits v v m m [] false can.can_step refl (λ is. absurd (Prim.cc is)) (λ is. absurd (Prim.cc is)) (λ no. (refl, refl)) (omega (arith, short)) refl;
 }
 
 -- nothing begins
@@ -92,6 +94,48 @@ not-begun {A} {limits} {v} {m} {x} {kind} can =
       declines = λ e. (refl, refl);
       stepped = no.stepped;
     }
+
+-- a container that begins has another header
+pub begun-stepped : {A : Type 0} (limits : Limits) (v w : OpenValue A) (m n : Counts) (x : List ℕ) → CanStep limits v m → w.octets ≡ appended v.octets x
+    → length w.headers ≡ suc (length v.headers) → Grows m n (8 + length x) → length v.octets.all + length x ≤ limits.value → length v.headers + 2 * v.octets.late + 1 ≤ 2 * limits.depth
+    → w.room + 6 ≡ v.room → Stepped limits v w m n None
+begun-stepped limits v w m n x can longer more g room deep kept =
+    let gh = g.held in
+    let gp = g.peak in
+    let sum = length-append v.octets.all x in
+    let long : length w.octets.all ≡ length (appended v.octets x).all = ap (λ (c : Content). length c.all) longer in
+    let late : w.octets.late ≡ v.octets.late = ap (λ (c : Content). c.late) longer in
+    let cost : w.octets.cost ≡ v.octets.cost + length x = ap (λ (c : Content). c.cost) longer in
+    let held = can.held in
+    let beside = can.within.room in
+    let costed = costed-by v.octets w.octets x can.within.costed longer in
+    let most = costed.most in
+    record {
+      within = record {
+        octets = omega (arith, long, sum, room);
+        headers = omega (arith, more, late, deep);
+        costed = costed;
+        room = omega (arith, more, late, beside, kept);
+      };
+      memory = record { memory = λ e. absurd (Prim.cc e); counted = λ e. g.refused };
+      alone = λ f e. absurd (Prim.cc e);
+      charges =
+          record {
+            held = omega (arith, gh, cost, more);
+            share = omega (arith, most, long, sum, more, late, room, deep);
+            peak = omega (arith, gh, gp, cost, most, long, sum, more, late, held, room, deep);
+            rises = omega (arith, gp);
+          };
+    }
+
+-- none begins where a call declines
+pub begun-not : {A : Type 0} {limits : Limits} {v : OpenValue A} {y : Content} {hs : List HeaderPlace} {m n : Counts} {x : List ℕ} {kind : Kind} → CanAdd limits v m
+    → (hs ≡ v.headers) × ((y ≡ v.octets) × (n ≡ m)) → Begins limits x kind v (record v { octets = y; headers = hs }) m n false
+begun-not {A} {limits} {v} {y} {hs} {m} {n} {x} {kind} can same =
+    let B : List HeaderPlace → Content → Counts → Type 0 = λ gs c o. Begins {A = A} limits x kind v (record v { octets = c; headers = gs }) m o false in
+    subst (λ (gs : List HeaderPlace). B gs y n) (sym same.0)
+    (subst (λ (c : Content). B v.headers c n) (sym same.1.0)
+    (subst (λ (o : Counts). B v.headers v.octets o) (sym same.1.1) (not-begun {A = A} {x = x} can)))
 
 -- octets that are the same
 pub adds-same : {A : Type 0} {limits : Limits} {v w : OpenValue A} {m n : Counts} {x z : List ℕ} {result : Bool} → x ≡ z → AddsOctets limits x v w m n result → AddsOctets limits z v w m n result

@@ -26,6 +26,7 @@ front-taken w s c m n fault can adds charges causes limit share within =
     let late = adds.late in
     let cost = adds.cost in
     let few = can.sound.within.headers in
+    let beside = can.sound.within.room in
     let lim = can.sound.limit in
     let own = can.held in
     let most = costed.most in
@@ -36,7 +37,7 @@ front-taken w s c m n fault can adds charges causes limit share within =
     record {
       sound = record {
         checked = can.sound.checked;
-        within = record { octets = within; headers = omega (arith, few, late); costed = costed };
+        within = record { octets = within; headers = omega (arith, few, late); costed = costed; room = omega (arith, late, beside) };
         limit = limit ∙ lim;
         share = omega (arith, share, lim);
         few = can.sound.few;

@@ -30,11 +30,16 @@ open_cost v = 8 * length v.headers + v.octets.cost
 abbrev pub open_most : Limits → ℕ
 open_most limits = 16 * limits.depth + limits.value
 
+-- so many octets may be there, and 2 ^ 20 more than that, as each header that is missing may have six
+abbrev pub HasRoom : {A : Type 0} → Limits → OpenValue A → Type 0
+HasRoom limits v = v.room + 6 * (length v.headers + v.octets.late) ≤ limits.value + 2 ^ 20
+
 -- it stays within its limits
 pub record IsWithin {A : Type 0} (limits : Limits) (v : OpenValue A) : Type 0 where
   pub octets : length v.octets.all ≤ limits.value
   pub headers : length v.headers + 2 * v.octets.late ≤ 2 * limits.depth
   pub costed : IsCosted v.octets
+  pub room : HasRoom limits v
 
 -- the headers that are missing are right, no count of them is too high, and the closed value is not too long. A count may be too low: whoever
 -- asks for the closed size raises it first

@@ -87,6 +87,15 @@ impl<A: Allocator + Copy> HeldOctets<A> {
         self.there.as_slice().len() + self.missing
     }
 
+    /// How many are there: the others are of late headers, which have six at most.
+    #[inline(always)]
+    pub fn there(&self) -> usize
+        ensures least { length self.now.all ≤ result + 6 * self.now.late }
+        ensures most { result ≤ length self.now.all }
+    {
+        self.there.as_slice().len()
+    }
+
     /// How many headers are late.
     #[inline(always)]
     pub fn late(&self) -> usize

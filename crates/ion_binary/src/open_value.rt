@@ -12,7 +12,7 @@ ghost use Rattle.ion_binary.specs.Held.{begun_at, begun_headers, closed_in, head
 ghost use Rattle.ion_binary.specs.ItemOctets.{head_name, user_head};
 ghost use Rattle.ion_binary.specs.Late.{IsCosted, Moved, appended, nothing};
 ghost use Rattle.ion_meter.specs.Limits.{AreChecked};
-ghost use Rattle.ion_binary.specs.Opening.{AddsOctets, Begins, CanAdd, CanStep, IsOpen, IsOpenTo, IsWithin, MayFollow, Raises, Stepped, both_octets, name_octets, open_cost};
+ghost use Rattle.ion_binary.specs.Opening.{AddsOctets, Begins, CanAdd, CanStep, HasRoom, IsOpen, IsOpenTo, IsWithin, MayFollow, Raises, Stepped, both_octets, name_octets, open_cost};
 
 mod plain;
 
@@ -35,6 +35,9 @@ const THRESHOLDS: [u64; 5] = [14, 128, 16_384, 2_097_152, 268_435_456];
 /// So many headers are late at most: to find one among them has to cost little.
 const MOST_LATE: usize = 4096;
 
+/// More than six octets for each of the most headers that are missing.
+const HEADERS_MOST: u64 = 1 << 20;
+
 /// The value at top level that is open: its octets without the headers of its open containers, and
 /// these headers.
 ///
@@ -45,18 +48,24 @@ pub(crate) struct OpenValue<A: Allocator + Copy> {
     pub octets: HeldOctets<A>,
     pub headers: Headers<A>,
     pub counts: [u32; 5],
+    // `HEADERS_MOST` more than so many octets that may be there for the value to be surely within its
+    // limit, whatever headers are missing. It may be less than it could be.
+    pub room: u64,
 }
 
 impl<A: Allocator + Copy> OpenValue<A> {
     /// Nothing is open. It takes no memory.
-    pub fn new(meter: &Meter<A>) -> OpenValue<A>
+    pub fn new(meter: &Meter<A>, limits: Limits) -> OpenValue<A>
+        requires checked { AreChecked limits }
+        ensures room { HasRoom limits result }
         ensures nothing { (result.octets ≡ nothing) × (result.headers ≡ []) }
-        ensures open { (limits : Limits) → IsOpen limits result }
+        ensures open { IsOpen limits result }
     {
         OpenValue {
             octets: HeldOctets::new(meter),
             headers: Headers::new(meter),
             counts: [0; 5],
+            room: limits.value + HEADERS_MOST,
         }
     }
 
@@ -69,6 +78,7 @@ impl<A: Allocator + Copy> OpenValue<A> {
             octets,
             headers,
             counts: _,
+            room: _,
         } = self;
         octets.release(meter);
         headers.release(meter);
@@ -107,6 +117,7 @@ impl<A: Allocator + Copy> OpenValue<A> {
         ensures counted { IsCountedTo (level + 1) self.new.counts n self.new.headers }
         ensures headers { self.new.headers ≡ self.old.headers }
         ensures octets { self.new.octets ≡ self.old.octets }
+        ensures room { self.new.room ≡ self.old.room }
     {
         let most = match level.checked_sub(1) {
             None => self.headers.len() as u32,
@@ -129,6 +140,7 @@ impl<A: Allocator + Copy> OpenValue<A> {
         ensures size { result ≡ counted_length self.new.counts n self.new.headers }
         ensures headers { self.new.headers ≡ self.old.headers }
         ensures octets { self.new.octets ≡ self.old.octets }
+        ensures room { self.new.room ≡ self.old.room }
     {
         if self.headers.len() == 0 {
             return n;
@@ -147,6 +159,7 @@ impl<A: Allocator + Copy> OpenValue<A> {
         ensures counts { self.new.counts ≡ cut (length self.old.headers) self.old.counts }
         ensures headers { self.new.headers ≡ self.old.headers }
         ensures octets { self.new.octets ≡ self.old.octets }
+        ensures room { self.new.room ≡ self.old.room }
     {
         let total = self.headers.len() as u32;
         // The first is the highest, and mostly it is low enough.
@@ -186,9 +199,13 @@ impl<A: Allocator + Copy> OpenValue<A> {
         match self.octets.head(meter, most, place, innermost.code) {
             Ok(()) => {
                 self.cut();
+                self.room = room_of(limits, self.headers.len() + self.octets.late());
                 Ok(())
             }
-            Err(fault) => Err(fault),
+            Err(fault) => {
+                self.room = room_of(limits, self.headers.len() + self.octets.late());
+                Err(fault)
+            }
         }
     }
 
@@ -333,6 +350,7 @@ impl<A: Allocator + Copy> OpenValue<A> {
             code: type_code(kind),
         };
         self.headers.push(meter, header)?;
+        self.room = room_of(limits, self.headers.len() + self.octets.late());
         let octets = self.octets.len() as u64;
         if self.closed_size(octets) > limits.value {
             return Ok(false);
@@ -388,14 +406,30 @@ impl<A: Allocator + Copy> OpenValue<A> {
         requires checked { AreChecked limits }
         requires within { IsWithin limits self.now }
         requires more { headers ≤ 2 }
-        ensures { result ≡ true → length self.now.octets.all
+        ensures fits { result ≡ true → length self.now.octets.all
             + (octets + 6 * (length self.now.headers + headers)) ≤ limits.value }
+        ensures room { result ≡ true → 2 ^ 20 ≤ self.now.room }
     {
         if octets as u64 > limits.value {
             return false;
         }
-        let headers = 6 * (self.headers.len() + headers) as u64;
-        self.octets.len() as u64 + octets as u64 + headers <= limits.value
+        self.has_room(limits, octets, headers)
+    }
+
+    /// Whether few octets and headers more surely do.
+    #[inline(always)]
+    pub fn has_room(&self, limits: Limits, octets: usize, headers: usize) -> bool
+        requires checked { AreChecked limits }
+        requires within { IsWithin limits self.now }
+        requires few { octets ≤ 2 ^ 32 }
+        requires more { headers ≤ 2 }
+        ensures fits { result ≡ true → length self.now.octets.all
+            + (octets + 6 * (length self.now.headers + headers)) ≤ limits.value }
+        ensures room { result ≡ true → 2 ^ 20 ≤ self.now.room }
+    {
+        let _limits = limits;
+        let there = self.octets.there() as u64;
+        there + octets as u64 + (HEADERS_MOST + 6 * headers as u64) <= self.room
     }
 
     /// Adds octets behind the others, where there is room for them and the value surely keeps within
@@ -483,8 +517,14 @@ impl<A: Allocator + Copy> OpenValue<A> {
             place: (self.octets.len() + front.len()) as u32,
             code: type_code(kind),
         };
-        self.octets
+        if !self
+            .octets
             .extend_with(&mut self.headers, meter, header, front)
+        {
+            return false;
+        }
+        self.room -= 6;
+        true
     }
 
     /// Closes the innermost container, where it has no wrapper, stands in another, is not long, and
@@ -514,6 +554,7 @@ impl<A: Allocator + Copy> OpenValue<A> {
         }
         let _innermost = self.headers.pop(meter);
         self.cut();
+        self.room += 6;
         true
     }
 
@@ -529,6 +570,7 @@ impl<A: Allocator + Copy> OpenValue<A> {
         let _last = self.headers.pop(meter);
         self.octets.clear(meter);
         self.counts = [0; 5];
+        self.room = limits.value + HEADERS_MOST;
     }
 
     // Puts the length of annotations before their ids, where there are any, which begin at a place.
@@ -566,8 +608,18 @@ impl<A: Allocator + Copy> OpenValue<A> {
         };
         self.octets.insert(meter, place, length.as_slice())?;
         self.headers.push(meter, header)?;
+        self.room = room_of(limits, self.headers.len() + self.octets.late());
         Ok(true)
     }
+}
+
+// The room beside so many headers that are missing.
+fn room_of(limits: Limits, headers: usize) -> u64
+    requires checked { AreChecked limits }
+    requires few { headers ≤ 2 * limits.depth }
+    ensures { result + 6 * headers ≡ limits.value + 2 ^ 20 }
+{
+    limits.value + HEADERS_MOST - 6 * headers as u64
 }
 
 // Puts octets in at a place, of which there are mostly none.

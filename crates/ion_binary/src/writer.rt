@@ -73,7 +73,7 @@ impl<A: Allocator + Copy> BinWriter<A> {
             symbols: OutSymbols::new(meter, limits),
             declared: 0,
             due: false,
-            open_value: OpenValue::new(meter),
+            open_value: OpenValue::new(meter, limits),
             failed: None,
         }
     }

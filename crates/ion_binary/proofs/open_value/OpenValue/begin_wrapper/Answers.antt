@@ -65,7 +65,7 @@ returns-in_err-insert-clause-stepped g c =
     let short = c.requires.can_step.within.octets in
     subst (λ (f : Option Fault). Stepped c.args.limits v w c.args.meter.now c.insert.new.meter f) (fault-of c.from_residual.result c.in_err-insert.field-0.0 c.from_residual.ensures)
     (put-stepped c.args.limits v w c.args.meter.now c.insert.new.meter (length c.as_slice.result.now) (Some c.in_err-insert.field-0.0) c.requires.can_step refl c.in_err-insert.ensures.moved c.in_err-insert.ensures.late
-    (omega (arith, same, short)) (omega (arith, e, k, t)))
+    (omega (arith, same, short)) (omega (arith, e, k, t)) refl)
 
 pub returns-in_err-push-clause-stepped : goal.returns-in_err-push-clause-stepped
 returns-in_err-push-clause-stepped g c =
@@ -77,7 +77,7 @@ returns-in_err-push-clause-stepped g c =
     let long : length c.insert.new.self.all ≡ length (put_at c.args.place c.as_slice.result.now v.octets.all) = ap (λ (os : List ℕ). length os) c.in_ok-insert.ensures.ok in
     let sum = put-length c.args.place c.as_slice.result.now v.octets.all c.requires.open.within in
     let s = put-stepped c.args.limits v w c.args.meter.now c.insert.new.meter (length c.as_slice.result.now) None c.requires.can_step refl c.in_ok-insert.ensures.moved c.in_ok-insert.ensures.late
-    (omega (arith, e, k, t, long, sum)) (omega (arith, e, k, t)) in
+    (omega (arith, e, k, t, long, sum)) (omega (arith, e, k, t)) refl in
     subst (λ (hs : List HeaderPlace). Stepped c.args.limits v (record w { headers = hs }) c.args.meter.now c.push.new.meter (fault_of c.from_residual-in_err-push.result)) (sym c.in_err-push.ensures.err)
     (subst (λ (f : Option Fault). Stepped c.args.limits v w c.args.meter.now c.push.new.meter f) (fault-of c.from_residual-in_err-push.result c.in_err-push.field-0.0 c.from_residual-in_err-push.ensures)
     (refused-stepped c.args.limits v w c.args.meter.now c.insert.new.meter c.push.new.meter c.in_err-push.field-0.0 s c.in_err-push.ensures.memory c.in_err-push.ensures.refused))
@@ -86,7 +86,10 @@ pub returns-clause-stepped : goal.returns-clause-stepped
 returns-clause-stepped g c =
     let v = c.args.self.now in
     let w = record v { octets = c.insert.new.self } in
-    let u = record v { octets = c.insert.new.self; headers = c.push.new.self } in
+    let u = record v { octets = c.insert.new.self; headers = c.push.new.self; room = c.room_of-self.result } in
+    let n = c.len-2.ensures in
+    let l = c.late.ensures in
+    let beside = c.room_of-self.ensures in
     let e : c.len-octets.result ≡ length v.octets.all = c.len-octets.ensures in
     let k : c.len.result ≡ length c.as_slice.result.now = c.len.ensures.value ∙ sym (ap (λ (os : List ℕ). length os) c.as_slice.ensures.value) in
     let t = c.if-octets-len.false in
@@ -95,9 +98,9 @@ returns-clause-stepped g c =
     let late = c.in_ok-insert.ensures.late in
     let spared = c.requires.spared in
     let s = put-stepped c.args.limits v w c.args.meter.now c.insert.new.meter (length c.as_slice.result.now) None c.requires.can_step refl c.in_ok-insert.ensures.moved late
-    (omega (arith, e, k, t, long, sum)) (omega (arith, e, k, t)) in
+    (omega (arith, e, k, t, long, sum)) (omega (arith, e, k, t)) refl in
     let more : length c.push.new.self ≡ suc (length v.headers) = ap (λ (hs : List HeaderPlace). length hs) c.in_ok-push.ensures.ok in
-    headed-stepped c.args.limits v w u c.args.meter.now c.insert.new.meter c.push.new.meter c.requires.can_step s refl more c.in_ok-push.ensures.cost (omega (arith, spared, late))
+    headed-stepped c.args.limits v w u c.args.meter.now c.insert.new.meter c.push.new.meter c.requires.can_step s refl more c.in_ok-push.ensures.cost (omega (arith, spared, late)) (omega (arith, n, l, beside))
 
 pub push-requires-clause-room : goal.push-requires-clause-room
 push-requires-clause-room g c =

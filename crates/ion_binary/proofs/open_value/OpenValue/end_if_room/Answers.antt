@@ -23,12 +23,12 @@ returns-clause-open g c is =
     let headers : c.cut.new.self.headers ≡ rest = c.cut.ensures.headers ∙ left in
     let octets : c.cut.new.self.octets.all ≡ headed_at h v.octets.all = ap (λ (y : Content). y.all) c.cut.ensures.octets ∙ c.head_if_room.ensures.octets c.if-not-head_if_room.false in
     let counts : c.cut.new.self.counts ≡ cut (length rest) v.counts = c.cut.ensures.counts ∙ ap (λ (hs : List HeaderPlace). cut (length hs) v.counts) left in
-    innermost-open c.args.limits v c.cut.new.self h rest c.requires.can_step.checked c.requires.open two headers octets counts
+    innermost-open c.args.limits v (record c.cut.new.self { room = c.cut.new.self.room + 6 }) h rest c.requires.can_step.checked c.requires.open two headers octets counts
 
 pub returns-clause-stepped : goal.returns-clause-stepped
 returns-clause-stepped g c =
     let v = c.args.self.now in
-    let w = c.cut.new.self in
+    let w = record c.cut.new.self { room = c.cut.new.self.room + 6 } in
     let h : HeaderPlace = c.in-Some.innermost in
     let rest : List HeaderPlace = c.in-Some.around ∷ drop 2 v.headers in
     let two : v.headers ≡ h ∷ rest = c.in-Some.ensures in
@@ -48,6 +48,8 @@ returns-clause-stepped g c =
     let cost : w.octets.cost ≡ v.octets.cost + length x = ap (λ (y : Content). y.cost) c.cut.ensures.octets ∙ c.head_if_room.ensures.costs t in
     let late : w.octets.late ≡ v.octets.late = ap (λ (y : Content). y.late) c.cut.ensures.octets ∙ c.head_if_room.ensures.late t in
     let grows = c.head_if_room.ensures.cost t in
+    let beside = c.requires.can_step.within.room in
+    let kept = c.cut.ensures.room in
     let least = c.requires.can_step.within.costed.least in
     let most = c.requires.can_step.within.costed.most in
     record {
@@ -55,6 +57,7 @@ returns-clause-stepped g c =
         octets = omega (arith, fits);
         headers = omega (arith, few, before, now, late);
         costed = record { least = omega (arith, least, long, put, cost); most = omega (arith, most, long, put, cost, late) };
+        room = omega (arith, few, now, late, beside, kept);
       };
       memory = record { memory = λ e. absurd (none-some _ e); counted = λ e. shrinks.refused ∙ grows.refused };
       alone = λ f e. absurd (none-some _ e);

@@ -7,7 +7,7 @@ use Rattle.ion_binary.proofs.open_value.OpenValue.extend_if_room.Goals as goal
 pub returns : goal.returns
 returns g c =
     let x = c.args.octets.now in
-    let s = c.surely_fits.ensures c.if-not-surely_fits.false in
+    let s = c.surely_fits.ensures.fits c.if-not-surely_fits.false in
     room-adds c.args.limits c.args.self.now c.extend_if_room.new.self (both_octets x) c.args.meter.now c.extend_if_room.new.meter (length x.front.now + length x.rest.now) c.extend_if_room.result c.requires
     (length-append x.front.now x.rest.now) c.extend_if_room.ensures.octets c.extend_if_room.ensures.cost c.extend_if_room.ensures.declines (omega (arith, s))
 

@@ -13,7 +13,7 @@ returns g c =
     let f : length first ≡ c.len-2.result = ap (λ (os : List ℕ). length os) whole ∙ sym c.len-2.ensures.len in
     let same : c.len-2.result ≡ c.len.result = c.len-2.ensures.len ∙ sym c.len.ensures.len in
     let l = length-append first text in
-    let s = c.surely_fits.ensures c.if-not-surely_fits.false in
+    let s = c.surely_fits.ensures.fits c.if-not-surely_fits.false in
     adds-same
     (ap (λ (os : List ℕ). os ++ text) whole
     ∙ (c.in-Some-noted_front.ensures.octets text refl ∙ ap (λ (os : List ℕ). noted c.args.name c.args.note (os ++ text)) c.in-Some.ensures.octets))

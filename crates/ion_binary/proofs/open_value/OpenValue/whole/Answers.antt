@@ -85,7 +85,7 @@ returns-clause-open g c is =
     let size = c.closed_size.ensures.size in
     let few = c.requires.can_step.within.headers in
     let same : length c.closed_size.new.self.headers ≡ length c.args.self.now.headers = ap (λ (gs : List HeaderPlace). length gs) c.closed_size.ensures.headers in
-    opened c.args.limits c.args.self.now (record { octets = c.extend_some.new.octets; headers = c.closed_size.new.self.headers; counts = c.closed_size.new.self.counts }) c.args.place n c.requires.can_step.checked (omega (arith, few, same)) c.requires.open
+    opened c.args.limits c.args.self.now (record c.closed_size.new.self { octets = c.extend_some.new.octets }) c.args.place n c.requires.can_step.checked (omega (arith, few, same)) c.requires.open
     (omega (arith, e, within)) long c.closed_size.ensures.headers c.closed_size.ensures.counted (omega (arith, t, size))
 
 pub returns-then-length-limits-clause-over : goal.returns-then-length-limits-clause-over
@@ -133,7 +133,7 @@ returns-in_err-insert_some-clause-stepped g c =
     let same : length c.insert_some.new.octets.all ≡ length v.octets.all = ap (λ (os : List ℕ). length os) (c.in_err-insert_some.ensures.err ∙ ap (λ (x : Content). x.all) octets) in
     let short = c.requires.can_step.within.octets in
     subst (λ (f : Option Fault). Stepped c.args.limits v w c.args.meter.now c.insert_some.new.meter f) (fault-of c.from_residual.result c.in_err-insert_some.field-0.0 c.from_residual.ensures)
-    (put-stepped c.args.limits v w c.args.meter.now c.insert_some.new.meter k (Some c.in_err-insert_some.field-0.0) c.requires.can_step headers moved late (omega (arith, same, short)) (omega (arith, e, l, t, size)))
+    (put-stepped c.args.limits v w c.args.meter.now c.insert_some.new.meter k (Some c.in_err-insert_some.field-0.0) c.requires.can_step headers moved late (omega (arith, same, short)) (omega (arith, e, l, t, size)) c.closed_size.ensures.room)
 
 pub extend-requires-clause-room : goal.extend-requires-clause-room
 extend-requires-clause-room g c =
@@ -156,7 +156,7 @@ extend-requires-clause-room g c =
     let first : c.insert_some.new.octets.all ≡ put_at c.args.place c.as_slice.result.now v.octets.all = c.in_ok-insert_some.ensures.ok ∙ ap (λ (x : Content). put_at c.args.place c.as_slice.result.now x.all) octets in
     let long : length c.insert_some.new.octets.all ≡ length (put_at c.args.place c.as_slice.result.now v.octets.all) = ap (λ (os : List ℕ). length os) first in
     let put = put-length c.args.place c.as_slice.result.now v.octets.all c.requires.open.within in
-    let s = put-stepped c.args.limits v w c.args.meter.now c.insert_some.new.meter k None c.requires.can_step headers moved late (omega (arith, e, l, t, size, long, put)) (omega (arith, e, l, t, size)) in
+    let s = put-stepped c.args.limits v w c.args.meter.now c.insert_some.new.meter k None c.requires.can_step headers moved late (omega (arith, e, l, t, size, long, put)) (omega (arith, e, l, t, size)) c.closed_size.ensures.room in
     let h = s.charges.held in
     let most = s.charges.share in
     let own = c.requires.can_step.held in
@@ -192,7 +192,7 @@ returns-in_err-extend-clause-stepped g c =
     let first : c.insert_some.new.octets.all ≡ put_at c.args.place c.as_slice.result.now v.octets.all = c.in_ok-insert_some.ensures.ok ∙ ap (λ (x : Content). put_at c.args.place c.as_slice.result.now x.all) octets in
     let long : length c.insert_some.new.octets.all ≡ length (put_at c.args.place c.as_slice.result.now v.octets.all) = ap (λ (os : List ℕ). length os) first in
     let put = put-length c.args.place c.as_slice.result.now v.octets.all c.requires.open.within in
-    let s = put-stepped c.args.limits v w c.args.meter.now c.insert_some.new.meter k None c.requires.can_step headers moved late (omega (arith, e, l, t, size, long, put)) (omega (arith, e, l, t, size)) in
+    let s = put-stepped c.args.limits v w c.args.meter.now c.insert_some.new.meter k None c.requires.can_step headers moved late (omega (arith, e, l, t, size, long, put)) (omega (arith, e, l, t, size)) c.closed_size.ensures.room in
     let U : Content → Type 0 = λ x. Stepped c.args.limits v (record w { octets = x }) c.args.meter.now c.extend.new.meter (fault_of c.from_residual-in_err-extend.result) in
     subst U (sym c.in_err-extend.ensures.err)
     (subst (λ (f : Option Fault). Stepped c.args.limits v w c.args.meter.now c.extend.new.meter f) (fault-of c.from_residual-in_err-extend.result c.in_err-extend.field-0.0 c.from_residual-in_err-extend.ensures)
@@ -219,12 +219,12 @@ extend_some-requires-clause-room g c =
     let first : c.insert_some.new.octets.all ≡ put_at c.args.place c.as_slice.result.now v.octets.all = c.in_ok-insert_some.ensures.ok ∙ ap (λ (x : Content). put_at c.args.place c.as_slice.result.now x.all) octets in
     let long : length c.insert_some.new.octets.all ≡ length (put_at c.args.place c.as_slice.result.now v.octets.all) = ap (λ (os : List ℕ). length os) first in
     let put = put-length c.args.place c.as_slice.result.now v.octets.all c.requires.open.within in
-    let s = put-stepped c.args.limits v w c.args.meter.now c.insert_some.new.meter k None c.requires.can_step headers moved late (omega (arith, e, l, t, size, long, put)) (omega (arith, e, l, t, size)) in
+    let s = put-stepped c.args.limits v w c.args.meter.now c.insert_some.new.meter k None c.requires.can_step headers moved late (omega (arith, e, l, t, size, long, put)) (omega (arith, e, l, t, size)) c.closed_size.ensures.room in
     let u = record c.closed_size.new.self { octets = c.extend.new.self } in
     let more : length c.extend.new.self.all ≡ length (c.insert_some.new.octets.all ++ front) = ap (λ (x : Content). length x.all) c.in_ok-extend.ensures.ok in
     let a = length-append c.insert_some.new.octets.all front in
     let r = raised-stepped c.args.limits v w u c.args.meter.now c.insert_some.new.meter c.extend.new.meter front c.requires.can_step s c.in_ok-extend.ensures.ok refl
-    (grows-raises c.insert_some.new.meter c.extend.new.meter (length front) c.in_ok-extend.ensures.cost) (omega (arith, e, l, t, size, long, put, more, a, sum, j)) in
+    (grows-raises c.insert_some.new.meter c.extend.new.meter (length front) c.in_ok-extend.ensures.cost) (omega (arith, e, l, t, size, long, put, more, a, sum, j)) refl in
     let h = r.charges.held in
     let most = r.charges.share in
     let own = c.requires.can_step.held in
@@ -261,12 +261,12 @@ returns-in_err-extend_some-clause-stepped g c =
     let first : c.insert_some.new.octets.all ≡ put_at c.args.place c.as_slice.result.now v.octets.all = c.in_ok-insert_some.ensures.ok ∙ ap (λ (x : Content). put_at c.args.place c.as_slice.result.now x.all) octets in
     let long : length c.insert_some.new.octets.all ≡ length (put_at c.args.place c.as_slice.result.now v.octets.all) = ap (λ (os : List ℕ). length os) first in
     let put = put-length c.args.place c.as_slice.result.now v.octets.all c.requires.open.within in
-    let s = put-stepped c.args.limits v w c.args.meter.now c.insert_some.new.meter k None c.requires.can_step headers moved late (omega (arith, e, l, t, size, long, put)) (omega (arith, e, l, t, size)) in
+    let s = put-stepped c.args.limits v w c.args.meter.now c.insert_some.new.meter k None c.requires.can_step headers moved late (omega (arith, e, l, t, size, long, put)) (omega (arith, e, l, t, size)) c.closed_size.ensures.room in
     let u = record c.closed_size.new.self { octets = c.extend.new.self } in
     let more : length c.extend.new.self.all ≡ length (c.insert_some.new.octets.all ++ front) = ap (λ (x : Content). length x.all) c.in_ok-extend.ensures.ok in
     let a = length-append c.insert_some.new.octets.all front in
     let r = raised-stepped c.args.limits v w u c.args.meter.now c.insert_some.new.meter c.extend.new.meter front c.requires.can_step s c.in_ok-extend.ensures.ok refl
-    (grows-raises c.insert_some.new.meter c.extend.new.meter (length front) c.in_ok-extend.ensures.cost) (omega (arith, e, l, t, size, long, put, more, a, sum, j)) in
+    (grows-raises c.insert_some.new.meter c.extend.new.meter (length front) c.in_ok-extend.ensures.cost) (omega (arith, e, l, t, size, long, put, more, a, sum, j)) refl in
     let U : Content → Type 0 = λ x. Stepped c.args.limits v (record u { octets = x }) c.args.meter.now c.extend_some.new.meter (fault_of c.from_residual-in_err-extend_some.result) in
     subst U (sym c.in_err-extend_some.ensures.err)
     (subst (λ (f : Option Fault). Stepped c.args.limits v u c.args.meter.now c.extend_some.new.meter f) (fault-of c.from_residual-in_err-extend_some.result c.in_err-extend_some.field-0.0 c.from_residual-in_err-extend_some.ensures)
@@ -293,14 +293,14 @@ returns-clause-stepped g c =
     let first : c.insert_some.new.octets.all ≡ put_at c.args.place c.as_slice.result.now v.octets.all = c.in_ok-insert_some.ensures.ok ∙ ap (λ (x : Content). put_at c.args.place c.as_slice.result.now x.all) octets in
     let long : length c.insert_some.new.octets.all ≡ length (put_at c.args.place c.as_slice.result.now v.octets.all) = ap (λ (os : List ℕ). length os) first in
     let put = put-length c.args.place c.as_slice.result.now v.octets.all c.requires.open.within in
-    let s = put-stepped c.args.limits v w c.args.meter.now c.insert_some.new.meter k None c.requires.can_step headers moved late (omega (arith, e, l, t, size, long, put)) (omega (arith, e, l, t, size)) in
+    let s = put-stepped c.args.limits v w c.args.meter.now c.insert_some.new.meter k None c.requires.can_step headers moved late (omega (arith, e, l, t, size, long, put)) (omega (arith, e, l, t, size)) c.closed_size.ensures.room in
     let u = record c.closed_size.new.self { octets = c.extend.new.self } in
     let more : length c.extend.new.self.all ≡ length (c.insert_some.new.octets.all ++ front) = ap (λ (x : Content). length x.all) c.in_ok-extend.ensures.ok in
     let a = length-append c.insert_some.new.octets.all front in
     let r = raised-stepped c.args.limits v w u c.args.meter.now c.insert_some.new.meter c.extend.new.meter front c.requires.can_step s c.in_ok-extend.ensures.ok refl
-    (grows-raises c.insert_some.new.meter c.extend.new.meter (length front) c.in_ok-extend.ensures.cost) (omega (arith, e, l, t, size, long, put, more, a, sum, j)) in
+    (grows-raises c.insert_some.new.meter c.extend.new.meter (length front) c.in_ok-extend.ensures.cost) (omega (arith, e, l, t, size, long, put, more, a, sum, j)) refl in
     let z = record c.closed_size.new.self { octets = c.extend_some.new.octets } in
     let last : length c.extend_some.new.octets.all ≡ length (c.extend.new.self.all ++ rest) = ap (λ (x : Content). length x.all) c.in_ok-extend_some.ensures.ok in
     let b = length-append c.extend.new.self.all rest in
     raised-stepped c.args.limits v u z c.args.meter.now c.extend.new.meter c.extend_some.new.meter rest c.requires.can_step r c.in_ok-extend_some.ensures.ok refl
-    c.in_ok-extend_some.ensures.cost (omega (arith, e, l, t, size, long, put, more, a, last, b, sum, j))
+    c.in_ok-extend_some.ensures.cost (omega (arith, e, l, t, size, long, put, more, a, last, b, sum, j)) refl

@@ -46,10 +46,11 @@ returns-clause-taken g c =
     let ch = c.clear.ensures.cost.held in
     let cp = c.clear.ensures.cost.peak in
     let headers = sound.within.headers in
+    let beside = sound.within.room in
     record {
       sound = record {
         checked = sound.checked;
-        within = record { octets = omega (arith, b); headers = omega (arith, late, headers); costed = record { least = omega (arith, b); most = omega (arith, cost) } };
+        within = record { octets = omega (arith, b); headers = omega (arith, late, headers); costed = record { least = omega (arith, b); most = omega (arith, cost) }; room = omega (arith, late, beside) };
         limit = sound.limit;
         share = share;
         few = omega (arith, e, t, few, share, symbols);

@@ -11,10 +11,10 @@ use crate::body::id_of;
 use crate::shown::{shown_note, shown_var};
 use crate::wrapper::Frame;
 use ion_meter::limits::Limits;
-use ion_value::quoting::Quoting;
 use ion_value::ion_type::Kind;
 use ion_value::names::Names;
 use ion_value::plain_item::TextAt;
+use ion_value::quoting::Quoting;
 
 // What is around a member: a container of some kind, or nothing at top level. It is one octet, where an
 // optional kind would be two.

@@ -28,10 +28,10 @@ use crate::wrapper::Frame;
 use ion_meter::device::{Input, Output};
 use ion_meter::meter::Meter;
 use ion_meter::sink::Sink;
-use ion_value::quoting::{Quoting, NameText, bare};
 use ion_value::item::{Head, Sym, SymAt};
 use ion_value::names::Names;
 use ion_value::plain_item::PlainItem;
+use ion_value::quoting::{NameText, Quoting, bare};
 use ion_value::writer::ValueWriter;
 use std::alloc::Allocator;
 

@@ -3,9 +3,9 @@ ghost use Rattle.std.specs.Prelude.{◌≡◌, ◌==◌, Some, IfSome};
 ghost use Rattle.ion_value.specs.Digits.{first_is};
 ghost use Rattle.ion_value.specs.PlainItems.{IsRightlyQuoted};
 
-use ion_value::quoting::Quoting;
 use ion_value::names::Names;
 use ion_value::plain_item::TextAt;
+use ion_value::quoting::Quoting;
 
 // The text of an id that stands at an offset, where it has one that is written as it stands, or any text
 // where `any` says so. Where that is false, the quoting is a constant.

@@ -1,12 +1,11 @@
 -- What more octets change of what is held.
-use Rattle.std.proofs.Common.{◌≡◌, ◌==◌, ℕ, suc, ◌+◌, ◌*◌, ◌<◌, ◌≤◌, ◌^◌, Bool, true, false, List, [], ◌∷◌, ◌++◌, length, Option, Some, None, Result, Ok, Err, OnOk, OnErr, refl, ap, subst, sym, ◌∙◌, arith, append-nil, length-append}
+use Rattle.std.proofs.Common.{◌≡◌, ◌==◌, ℕ, suc, ◌+◌, ◌*◌, ◌≤◌, Bool, true, false, List, [], ◌∷◌, ◌++◌, length, Option, Some, None, Result, Ok, Err, OnOk, OnErr, refl, ap, subst, sym, ◌∙◌, arith, append-nil, length-append}
 use Rattle.std.proofs.lemmas.Bool.{eqb-true}
 use Rattle.ion_meter.specs.Counts.{Counts, Grows, IsRefused, Shrinks}
 use Rattle.ion_meter.specs.declared.fault.Fault.{Fault}
 use Rattle.ion_meter.specs.declared.fault.Fault.TheVariants.{Memory}
 use Rattle.ion_binary.specs.declared.held_octets.LateHeader.{LateHeader}
 use Rattle.ion_binary.specs.Canonical.{length_octets}
-use Rattle.ion_binary.specs.Held.{put_at}
 use Rattle.ion_binary.specs.Late.{Adds, AreLate, Content, IsCosted, Moved, appended, late_octets, missing_of, spread}
 use Rattle.ion_binary.proofs.LateHeaders.{late-more, six-each, spread-append, spread-length}
 use Rattle.ion_binary.proofs.PlacedHeaders.{header-few}

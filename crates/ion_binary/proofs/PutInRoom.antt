@@ -1,5 +1,5 @@
 -- Octets that are put where there is surely room for them: what a call keeps and moves, whether it puts them or declines.
-use Rattle.std.proofs.Common.{◌≡◌, ℕ, suc, ◌+◌, ◌*◌, ◌≤◌, Bool, true, false, List, [], ◌++◌, length, None, refl, ap, sym, subst, ◌∙◌, arith, length-append}
+use Rattle.std.proofs.Common.{◌≡◌, ℕ, suc, ◌+◌, ◌*◌, ◌≤◌, Bool, true, false, List, [], length, None, refl, ap, sym, subst, arith, length-append}
 use Rattle.ion_meter.specs.Counts.{Counts, Grows}
 use Rattle.ion_meter.specs.declared.limits.Limits.{Limits}
 use Rattle.ion_binary.specs.declared.headers.HeaderPlace.{HeaderPlace}

@@ -1,4 +1,4 @@
-use Rattle.std.proofs.Common.{◌++◌, ◌∙◌, ap, refl, length, append_assoc, arith}
+use Rattle.std.proofs.Common.{◌++◌, ◌∙◌, ap, refl, append_assoc, arith}
 use Rattle.std.proofs.lemmas.Grind.{common_steps}
 use Rattle.ion_value.specs.Items.{annotations_of, item_of, raw_field, raw_head}
 use Rattle.ion_value.specs.Writable.{field_symbols}

@@ -1,4 +1,4 @@
-use Rattle.std.proofs.Common.{◌≡◌, suc, ◌+◌, ◌-◌, ◌<◌, ◌≤◌, ◌∷◌, List, ℕ, drop, get_or, length, sym, ap, subst, ◌∙◌, arith}
+use Rattle.std.proofs.Common.{◌≡◌, suc, ◌+◌, ◌-◌, ◌<◌, ◌∷◌, List, ℕ, drop, get_or, length, sym, ap, subst, ◌∙◌, arith}
 use Rattle.ion_binary.specs.declared.held_octets.LateHeader.{LateHeader}
 use Rattle.ion_binary.specs.Late.{AreLate, FitsAt, late_octets, missing_of}
 use Rattle.ion_binary.proofs.LateHeaders.{fits-after, late-at, late-code, late-drop}

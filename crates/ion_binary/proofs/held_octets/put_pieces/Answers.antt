@@ -1,4 +1,4 @@
-use Rattle.std.proofs.Common.{◌≡◌, suc, ◌+◌, ◌-◌, ◌<◌, ◌≤◌, ◌++◌, List, ℕ, drop, get_or, length, take, sym, ap, subst, ◌∙◌, arith}
+use Rattle.std.proofs.Common.{◌≡◌, suc, ◌-◌, ◌<◌, ◌++◌, List, ℕ, drop, get_or, length, take, ap, subst, ◌∙◌, arith}
 use Rattle.ion_meter.proofs.Onward.{onward_as, onward_cut, onward_then}
 use Rattle.ion_meter.specs.Sinks.{IsPut}
 use Rattle.ion_binary.specs.declared.held_octets.LateHeader.{LateHeader}

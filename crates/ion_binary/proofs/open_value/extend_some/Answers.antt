@@ -1,5 +1,5 @@
-use Rattle.std.proofs.Common.{◌≡◌, ◌+◌, ◌++◌, [], List, ℕ, length, ap, sym, ◌∙◌, arith, append-nil}
-use Rattle.ion_binary.specs.Late.{Content, appended}
+use Rattle.std.proofs.Common.{◌≡◌, [], List, ℕ, ap, sym, ◌∙◌}
+use Rattle.ion_binary.specs.Late.{appended}
 use Rattle.ion_binary.proofs.Contents.{appended-none, empty-list}
 use Rattle.ion_binary.proofs.open_value.extend_some.Goals as goal
 

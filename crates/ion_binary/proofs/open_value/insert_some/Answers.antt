@@ -1,4 +1,4 @@
-use Rattle.std.proofs.Common.{◌≡◌, ◌+◌, ◌*◌, [], List, ℕ, drop, length, refl, ap, sym, ◌∙◌, arith, take-append-drop}
+use Rattle.std.proofs.Common.{◌≡◌, [], List, ℕ, ap, sym, ◌∙◌, arith, take-append-drop}
 use Rattle.ion_binary.specs.Held.{put_at}
 use Rattle.ion_binary.proofs.Contents.{empty-list, same-moved}
 use Rattle.ion_binary.proofs.open_value.insert_some.Goals as goal

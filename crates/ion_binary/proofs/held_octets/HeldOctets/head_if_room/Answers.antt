@@ -1,4 +1,4 @@
-use Rattle.std.proofs.Common.{◌≡◌, ◌+◌, ◌-◌, ◌*◌, ◌≤◌, List, ℕ, length, Ok, ap, subst, sym, ◌∙◌, arith}
+use Rattle.std.proofs.Common.{◌≡◌, ◌+◌, ◌-◌, ◌*◌, ◌≤◌, List, ℕ, length, Ok, ap, subst, ◌∙◌, arith}
 use Rattle.ion_meter.specs.Counts.{Grows}
 use Rattle.ion_binary.specs.declared.held_octets.LateHeader.{LateHeader}
 use Rattle.ion_binary.specs.Canonical.{header}

@@ -1,10 +1,10 @@
-use Rattle.std.proofs.Common.{◌≡◌, ◌+◌, ◌*◌, ◌≤◌, [], List, ℕ, Some, length, take, refl, ap, sym, subst, ◌∙◌, arith}
+use Rattle.std.proofs.Common.{◌≡◌, ◌+◌, ◌*◌, List, ℕ, Some, length, take, refl, ap, sym, subst, ◌∙◌, arith}
 use Rattle.ion_meter.specs.Counts.{Shrinks}
 use Rattle.ion_binary.specs.declared.held_octets.LateHeader.{LateHeader}
-use Rattle.ion_binary.specs.Late.{AreLate, Content, IsCosted, Moved, missing_of, spread}
+use Rattle.ion_binary.specs.Late.{Content, IsCosted, Moved, spread}
 use Rattle.ion_binary.proofs.Contents.{content, costed-is, refused-moved, settled-moved}
 use Rattle.ion_binary.proofs.LateHeaders.{spread-length}
-use Rattle.ion_binary.proofs.LateOnes.{gap-front, gap-long, settled-costed}
+use Rattle.ion_binary.proofs.LateOnes.{gap-front, settled-costed}
 use Rattle.ion_binary.proofs.held_octets.HeldOctets.settle.Goals as goal
 
 pub extend_zeros-requires-clause-room : goal.extend_zeros-requires-clause-room

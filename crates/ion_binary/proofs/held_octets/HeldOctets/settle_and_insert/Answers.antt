@@ -1,4 +1,4 @@
-use Rattle.std.proofs.Common.{◌≡◌, ◌≤◌, List, ℕ, OnOk, length, ap, subst, arith}
+use Rattle.std.proofs.Common.{◌≡◌, List, ℕ, OnOk, length, ap, subst, arith}
 use Rattle.ion_binary.specs.Held.{put_at}
 use Rattle.ion_binary.proofs.Contents.{moved-more}
 use Rattle.ion_binary.proofs.LateOnes.{err-all, settled-then}

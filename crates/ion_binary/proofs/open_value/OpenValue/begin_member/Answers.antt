@@ -1,7 +1,6 @@
-use Rattle.std.proofs.Common.{rules, ◌≡◌, ◌≢◌, ◌<◌, ap, sym, ◌∙◌, arith}
-use Rattle.ion_value.specs.Number.{var_uint_octets}
+use Rattle.std.proofs.Common.{◌≢◌, ap, sym, arith}
 use Rattle.ion_binary.specs.Opening.{name_octets}
-use Rattle.ion_binary.proofs.NotedOctets.{named-octets, named-short}
+use Rattle.ion_binary.proofs.NotedOctets.{named-short}
 use Rattle.ion_binary.proofs.PutInRoom.{begins-same}
 use Rattle.ion_binary.proofs.open_value.OpenValue.begin_member.Goals as goal
 

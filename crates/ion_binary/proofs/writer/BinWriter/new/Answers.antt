@@ -1,6 +1,5 @@
-use Rattle.std.proofs.Common.{◌≡◌, ℕ, [], false, length, refl, ap, arith}
-use Rattle.ion_symbols.specs.Output.{Output, texts_cost}
-use Rattle.ion_binary.specs.declared.headers.HeaderPlace.{HeaderPlace}
+use Rattle.std.proofs.Common.{[], false, refl, ap}
+use Rattle.ion_symbols.specs.Output.{Output}
 use Rattle.ion_binary.specs.Late.{Content}
 use Rattle.ion_binary.proofs.WriterSteps.{same-held}
 use Rattle.ion_binary.proofs.writer.BinWriter.new.Goals as goal

@@ -48,8 +48,8 @@ pub(crate) struct OpenValue<A: Allocator + Copy> {
     pub octets: HeldOctets<A>,
     pub headers: Headers<A>,
     pub counts: [u32; 5],
-    // `HEADERS_MOST` more than so many octets that may be there for the value to be surely within its
-    // limit, whatever headers are missing. It may be less than it could be.
+    // How many octets may be there for the value to be surely within its limit beside the headers that
+    // are missing, and `HEADERS_MOST` more. It may be too low.
     pub room: u64,
 }
 

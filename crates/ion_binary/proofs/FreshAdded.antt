@@ -13,6 +13,7 @@ use Rattle.ion_binary.specs.Canonical.{annotation_octets, field_octets, id_in, m
 use Rattle.ion_binary.specs.Fresh.{AreFresh, CanPutFresh, IsFresh}
 use Rattle.ion_binary.specs.Held.{Held, counted_ids, headers_with, octets_with, size_of}
 use Rattle.ion_binary.specs.ItemOctets.{head_name, head_octets, scalar_name}
+use Rattle.ion_binary.specs.Late.{Content, appended}
 use Rattle.ion_binary.specs.Opening.{IsOpen, name_octets, noted}
 use Rattle.ion_binary.specs.Plain.{AddsPlain, HaveIds, IsWhole}
 use Rattle.ion_binary.specs.Writer.{CanTake, added, held_in}
@@ -20,6 +21,7 @@ use Rattle.ion_binary.specs.Writing.{first_over, head_symbols, item_symbols}
 use Rattle.ion_binary.proofs.GivenIds.{cost-push, known-new}
 use Rattle.ion_binary.proofs.KnownIds.{AreKnown, Extends, IsKnown, all_known, annotation_octets-same, id_ext, known_ext}
 use Rattle.ion_binary.proofs.Numbered.{users-item}
+use Rattle.ion_binary.proofs.Contents.{costed-by}
 use Rattle.ion_binary.proofs.OpenSteps.{room-open}
 use Rattle.ion_binary.proofs.PlainAdded.{added-is, have-append, have-same, known-is, known-kept, known-named, scalar-added}
 use Rattle.ion_binary.proofs.WithinLimits.{over-from}
@@ -202,6 +204,7 @@ pub declined : {A : Type 0} (w : BinWriter A) (before : Counts) (item : PlacedIt
 declined w before item can =
     let octets = can.sound.within.octets in
     let headers = can.sound.within.headers in
+    let costed = can.sound.within.costed.most in
     let share = can.sound.share in
     record {
       held = λ e. absurd (Prim.cc e);
@@ -210,27 +213,26 @@ declined w before item can =
       keeps = λ e. absurd (Prim.cc e);
       inside = λ e. absurd (Prim.cc e);
       declines = λ e. (refl, refl);
-      ended = refl;
       taken = record {
         sound = can.sound;
         limits = refl;
         failed = refl;
         memory = record { memory = λ e. absurd (Prim.cc e); counted = λ e. refl };
-        charges = record { held = refl; share = omega (arith, octets, headers, share); peak = omega arith; rises = omega arith };
+        charges = record { held = refl; share = omega (arith, octets, headers, costed, share); peak = omega arith; rises = omega arith };
       };
     }
 
 -- the item was added with its text, if the call says so
-pub fresh-plain : {A : Type 0} (w : BinWriter A) (s : Output) (os : List ℕ) (before after : Counts) (item : PlacedItem) (result : Bool) (fresh : Fresh) (note : ℕ) (y : List ℕ)
+pub fresh-plain : {A : Type 0} (w : BinWriter A) (s : Output) (os : Content) (before after : Counts) (item : PlacedItem) (result : Bool) (fresh : Fresh) (note : ℕ) (y : List ℕ)
     → CanPutFresh w before item fresh note → AreFresh w.symbols.texts item fresh note y
     → (result ≡ true → known_id w.symbols.texts fresh.text.now ≡ None)
     → (result ≡ true → s.texts ≡ w.symbols.texts ++ fresh.text.now ∷ [])
-    → (result ≡ true → os ≡ w.open_value.octets ++ y)
+    → (result ≡ true → os ≡ appended w.open_value.octets y)
     → (result ≡ true → texts_cost s.texts ≤ w.symbols.limit)
     → (result ≡ true → Grows before after (16 + (length fresh.text.now + length y)))
     → s.limit ≡ w.symbols.limit
     → (result ≡ false → (s ≡ w.symbols) × (os ≡ w.open_value.octets) × (after ≡ before))
-    → length w.open_value.octets + (length y + 6 * length w.open_value.headers) ≤ w.limits.value
+    → length w.open_value.octets.all + (length y + 6 * length w.open_value.headers) ≤ w.limits.value
     → AddsPlain w (record w { symbols = s; open_value = record w.open_value { octets = os } }) before after item result
 fresh-plain {A} w s os before after item true fresh note y c spelled new texts octets within grows limit declines room =
     let t : List ℕ = fresh.text.now in
@@ -241,22 +243,28 @@ fresh-plain {A} w s os before after item true fresh note y c spelled new texts o
     let gp = g.peak in
     let own = c.can_take.held in
     let few = c.can_take.sound.within.headers in
+    let beside = c.can_take.sound.within.room in
     let lim = c.can_take.sound.limit in
-    let most = within refl in
+    let cheap = within refl in
     let some = c.inside in
-    let put : os ≡ w.open_value.octets ++ noted fresh.name note (head_octets (id_in (w.symbols.texts ++ t ∷ [])) (user_item item).head) =
-    octets refl ∙ ap (λ (z : List ℕ). w.open_value.octets ++ z) (spelled (new refl)) in
-    let long : length os ≡ length w.open_value.octets + length y = ap (λ (zs : List ℕ). length zs) (octets refl) ∙ length-append w.open_value.octets y in
+    let all : os.all ≡ w.open_value.octets.all ++ y = ap (λ (z : Content). z.all) (octets refl) in
+    let put : os.all ≡ w.open_value.octets.all ++ noted fresh.name note (head_octets (id_in (w.symbols.texts ++ t ∷ [])) (user_item item).head) =
+    all ∙ ap (λ (z : List ℕ). w.open_value.octets.all ++ z) (spelled (new refl)) in
+    let long : length os.all ≡ length w.open_value.octets.all + length y = ap (λ (zs : List ℕ). length zs) all ∙ length-append w.open_value.octets.all y in
+    let paid : os.cost ≡ w.open_value.octets.cost + length y = ap (λ (z : Content). z.cost) (octets refl) in
+    let late : os.late ≡ w.open_value.octets.late = ap (λ (z : Content). z.late) (octets refl) in
+    let costed = costed-by w.open_value.octets os y c.can_take.sound.within.costed (octets refl) in
+    let most = costed.most in
     let push = cost-push w.symbols.texts t in
     let cost : texts_cost s.texts ≡ texts_cost (w.symbols.texts ++ t ∷ []) = ap texts_cost (texts refl) in
     let held : held_in (record w { symbols = s; open_value = v }) ≡ added (held_in w) item =
-    fresh-added (held_in w) item fresh note (head_octets (id_in (w.symbols.texts ++ t ∷ [])) (user_item item).head) os s.texts f c.known c.whole c.annotation refl put (texts refl) in
-    let opened : IsOpen w.limits v = room-open w.limits w.open_value v y c.can_take.sound.checked c.comes.counted (octets refl) refl refl room in
+    fresh-added (held_in w) item fresh note (head_octets (id_in (w.symbols.texts ++ t ∷ [])) (user_item item).head) os.all s.texts f c.known c.whole c.annotation refl put (texts refl) in
+    let opened : IsOpen w.limits v = room-open w.limits w.open_value v y c.can_take.sound.checked c.comes.counted all refl refl room in
     let fits = opened.fits in
-    let same : size_of v.octets v.headers ≡ size_of (added (held_in w) item).octets (added (held_in w) item).headers = ap (λ (h : Held). size_of h.octets h.headers) held in
-    let all : texts_cost (with_symbols w.symbols.texts (map user_symbol_at (item_symbols item))) ≡ texts_cost (w.symbols.texts ++ t ∷ []) = ap texts_cost (f.one c.known) in
+    let same : size_of v.octets.all v.headers ≡ size_of (added (held_in w) item).octets (added (held_in w) item).headers = ap (λ (h : Held). size_of h.octets h.headers) held in
+    let each : texts_cost (with_symbols w.symbols.texts (map user_symbol_at (item_symbols item))) ≡ texts_cost (w.symbols.texts ++ t ∷ []) = ap texts_cost (f.one c.known) in
     let allowed : first_over w.limits.symbols w.symbols.texts (item_symbols item) ≡ None =
-    over-from w.limits.symbols w.symbols.texts (item_symbols item) (omega (arith, all, cost, most, lim)) in
+    over-from w.limits.symbols w.symbols.texts (item_symbols item) (omega (arith, each, cost, cheap, lim)) in
     record {
       held = λ e. held;
       is_open = λ e. opened;
@@ -264,29 +272,28 @@ fresh-plain {A} w s os before after item true fresh note y c spelled new texts o
       keeps = λ e. inl some;
       inside = λ e. some;
       declines = λ e. absurd (Prim.cc e);
-      ended = refl;
       taken = record {
         sound = record {
           checked = c.can_take.sound.checked;
-          within = record { octets = omega (arith, long, room); headers = few };
+          within = record { octets = omega (arith, long, room); headers = omega (arith, few, late); costed = costed; room = omega (arith, late, beside) };
           limit = limit ∙ lim;
-          share = omega (arith, most, lim);
+          share = omega (arith, cheap, lim);
           few = c.can_take.sound.few;
         };
         limits = refl;
         failed = refl;
         memory = record { memory = λ e. absurd (Prim.cc e); counted = λ e. g.refused };
         charges = record {
-          held = omega (arith, gh, long, push, cost);
-          share = omega (arith, most, lim, long, room, few);
-          peak = omega (arith, gh, gp, own, long, push, cost, most, lim, room, few);
+          held = omega (arith, gh, paid, push, cost);
+          share = omega (arith, cheap, most, lim, long, room, few, late);
+          peak = omega (arith, gh, gp, own, paid, most, long, push, cost, cheap, lim, room, few, late);
           rises = omega (arith, gp);
         };
       };
     }
 fresh-plain {A} w s os before after item false fresh note y c spelled new texts octets within grows limit declines room =
     let d = declines refl in
-    let P : Output → List ℕ → Counts → Type 0 = λ u zs m. AddsPlain {A = A} w (record w { symbols = u; open_value = record w.open_value { octets = zs } }) before m item false in
+    let P : Output → Content → Counts → Type 0 = λ u zs m. AddsPlain {A = A} w (record w { symbols = u; open_value = record w.open_value { octets = zs } }) before m item false in
     subst (λ (u : Output). P u os after) (sym d.0)
-    (subst (λ (zs : List ℕ). P w.symbols zs after) (sym d.1)
+    (subst (λ (zs : Content). P w.symbols zs after) (sym d.1)
     (subst (λ (m : Counts). P w.symbols w.open_value.octets m) (sym d.2) (declined w before item c.can_take)))

@@ -33,7 +33,11 @@ mod WithinLimits
 mod PlacedHeaders
 mod CountedHeaders
 mod OpenSteps
-mod EndedRuns
+mod LateHeaders
+mod Contents
+mod LateOnes
+mod MovedSteps
+mod WriterTaken
 mod WriterSteps
 mod WriterFollows
 mod ShortestHeaders
@@ -67,4 +71,3 @@ mod NotedOctets
 mod PlainAdded
 mod WholePut
 mod FreshAdded
-mod EndsLater

@@ -1,5 +1,5 @@
 -- The headers that are missing stay right as one goes in, and as containers begin and values come.
-use Rattle.std.proofs.Common.{◌≡◌, ℕ, suc, ◌+◌, ◌-◌, ◌*◌, ◌^◌, ◌<◌, ◌≤◌, inl, inr, Bool, if◌then◌else◌, List, [], ◌∷◌, ◌++◌, length, map, take, drop, get_or, Option, Some, None, refl, ap, sym, subst, ◌∙◌, arith, append_assoc, length-append, ne_eqb, suc-mul, lit<}
+use Rattle.std.proofs.Common.{◌≡◌, ℕ, zero, suc, ◌+◌, ◌-◌, ◌*◌, ◌^◌, ◌<◌, ◌≤◌, inl, inr, Bool, if◌then◌else◌, List, [], ◌∷◌, ◌++◌, length, map, take, drop, get_or, Option, Some, None, refl, ap, sym, subst, ◌∙◌, arith, append_assoc, length-append, ne_eqb, suc-mul, lit<}
 use Rattle.std.specs.Prelude.{MatchOption}
 use Rattle.std.specs.List.{AllByRecursion}
 use Rattle.std.proofs.lemmas.Bool.{cases_lt}
@@ -66,6 +66,20 @@ missing-few n m (h ∷ hs) small =
 pub closed-few : (n : ℕ) (hs : List HeaderPlace) → n + 6 * length hs < 2 ^ 35 → closed_length n (map place_of_header hs) ≤ n + 6 * length hs
 closed-few n hs small = let r = missing-few n 0 hs (omega (arith, small)) in omega (arith, r)
 
+-- counts of no more headers than there are stay
+pub cut-all : (ns : List ℕ) (total : ℕ) → ((b c : ℕ) → b < c → get_or ns c 0 ≤ get_or ns b 0) → get_or ns 0 0 ≤ total → cut total ns ≡ ns
+cut-all ns total descend first = each ns total (λ c. below c)
+  where
+    each : (ns : List ℕ) (total : ℕ) → ((c : ℕ) → get_or ns c 0 ≤ total) → cut total ns ≡ ns
+    each [] total within = refl
+    each (n ∷ ns) total within =
+        let first : n ≤ total = within 0 in
+        ap (λ m. m ∷ cut total ns) (omega (arith, first)) ∙ ap (λ (ms : List ℕ). n ∷ ms) (each ns total (λ c. within (suc c)))
+
+    below : (c : ℕ) → get_or ns c 0 ≤ total
+    below zero = first
+    below (suc c) = let d = descend 0 (suc c) (omega arith) in omega (arith, d, first)
+
 -- a header goes in, and is counted no more
 pub record IsPut (limits : Limits) (ns octets : List ℕ) (hs : List HeaderPlace) : Type 0 where
   pub placed : ArePlaced (length octets) hs
@@ -89,16 +103,16 @@ is-put limits ns octets h hs checked p r fits =
     }
 
 pub innermost-open : {A : Type 0} (limits : Limits) (v w : OpenValue A) (h : HeaderPlace) (hs : List HeaderPlace) → AreChecked limits → IsOpen limits v
-    → v.headers ≡ h ∷ hs → w.headers ≡ hs → w.octets ≡ headed_at h v.octets → w.counts ≡ cut (length hs) v.counts → IsOpen limits w
+    → v.headers ≡ h ∷ hs → w.headers ≡ hs → w.octets.all ≡ headed_at h v.octets.all → w.counts ≡ cut (length hs) v.counts → IsOpen limits w
 innermost-open limits v w h hs checked o eh ehs eo ec =
-    let A : List HeaderPlace → Type 0 = λ gs. ArePlaced (length v.octets) gs in
-    let B : List HeaderPlace → Type 0 = λ gs. AreReached v.counts (length v.octets) gs in
-    let C : List HeaderPlace → Type 0 = λ gs. size_of v.octets gs ≤ limits.value in
+    let A : List HeaderPlace → Type 0 = λ gs. ArePlaced (length v.octets.all) gs in
+    let B : List HeaderPlace → Type 0 = λ gs. AreReached v.counts (length v.octets.all) gs in
+    let C : List HeaderPlace → Type 0 = λ gs. size_of v.octets.all gs ≤ limits.value in
     let D : List HeaderPlace → Type 0 = λ gs. AllByRecursion (λ g. g.code < 16) gs in
-    let put = is-put limits v.counts v.octets h hs checked (subst A eh o.placed) (subst B eh o.reached) (subst C eh o.fits) in
-    let P : List HeaderPlace → Type 0 = λ gs. IsPut limits (cut (length hs) v.counts) (headed_at h v.octets) gs in
+    let put = is-put limits v.counts v.octets.all h hs checked (subst A eh o.placed) (subst B eh o.reached) (subst C eh o.fits) in
+    let P : List HeaderPlace → Type 0 = λ gs. IsPut limits (cut (length hs) v.counts) (headed_at h v.octets.all) gs in
     let Q : List ℕ → Type 0 = λ os. IsPut limits (cut (length hs) v.counts) os w.headers in
-    let R : List ℕ → Type 0 = λ ns. IsPut limits ns w.octets w.headers in
+    let R : List ℕ → Type 0 = λ ns. IsPut limits ns w.octets.all w.headers in
     let here = subst R (sym ec) (subst Q (sym eo) (subst P (sym ehs) put)) in
     let codes = subst D eh o.codes in
     record { placed = here.placed; codes = subst D (sym ehs) codes.1; reached = here.reached; fits = here.fits }
@@ -191,7 +205,7 @@ counted-fits limits ns octets hs checked p few i fits =
     omega (arith, s, fits)
 
 -- the headers are right where more octets are there, and the counts with them
-pub opened : {A : Type 0} (limits : Limits) (v w : OpenValue A) (place n : ℕ) → AreChecked limits → length w.headers ≤ 2 * limits.depth → IsOpenTo v place → place ≤ n → length w.octets ≡ n → w.headers ≡ v.headers
+pub opened : {A : Type 0} (limits : Limits) (v w : OpenValue A) (place n : ℕ) → AreChecked limits → length w.headers ≤ 2 * limits.depth → IsOpenTo v place → place ≤ n → length w.octets.all ≡ n → w.headers ≡ v.headers
     → IsCounted w.counts n w.headers → counted_length w.counts n w.headers ≤ limits.value → IsOpen limits w
 opened limits v w place n checked few o le long same i fits =
     let A : List HeaderPlace → Type 0 = λ hs. ArePlaced n hs in
@@ -204,7 +218,7 @@ opened limits v w place n checked few o le long same i fits =
       placed = placed;
       codes = subst B (sym same) o.codes;
       reached = counted.reached;
-      fits = counted-fits limits w.counts w.octets w.headers checked placed few counted (omega (arith, long, fits));
+      fits = counted-fits limits w.counts w.octets.all w.headers checked placed few counted (omega (arith, long, fits));
     }
 
 -- ---- a container begins
@@ -253,42 +267,42 @@ begun-more place o le =
 
 -- ---- octets come where there is surely room for all headers
 
-pub room-open : {A : Type 0} (limits : Limits) (v w : OpenValue A) (x : List ℕ) → AreChecked limits → IsOpen limits v → w.octets ≡ v.octets ++ x → w.headers ≡ v.headers → w.counts ≡ v.counts
-    → length v.octets + (length x + 6 * length v.headers) ≤ limits.value → IsOpen limits w
+pub room-open : {A : Type 0} (limits : Limits) (v w : OpenValue A) (x : List ℕ) → AreChecked limits → IsOpen limits v → w.octets.all ≡ v.octets.all ++ x → w.headers ≡ v.headers → w.counts ≡ v.counts
+    → length v.octets.all + (length x + 6 * length v.headers) ≤ limits.value → IsOpen limits w
 room-open limits v w x checked o eo eh ec room =
     let value = checked.value in
-    let long : length w.octets ≡ length v.octets + length x = ap (λ (os : List ℕ). length os) eo ∙ length-append v.octets x in
+    let long : length w.octets.all ≡ length v.octets.all + length x = ap (λ (os : List ℕ). length os) eo ∙ length-append v.octets.all x in
     let few : length w.headers ≡ length v.headers = ap (λ (hs : List HeaderPlace). length hs) eh in
-    let A : List HeaderPlace → Type 0 = λ hs. ArePlaced (length w.octets) hs in
+    let A : List HeaderPlace → Type 0 = λ hs. ArePlaced (length w.octets.all) hs in
     let B : List HeaderPlace → Type 0 = λ hs. AllByRecursion (λ h. h.code < 16) hs in
-    let C : List HeaderPlace → Type 0 = λ hs. AreReached v.counts (length w.octets) hs in
-    let D : List ℕ → Type 0 = λ ns. AreReached ns (length w.octets) w.headers in
-    let f = closed-few (length w.octets) w.headers (omega (arith, long, few, room, value)) in
+    let C : List HeaderPlace → Type 0 = λ hs. AreReached v.counts (length w.octets.all) hs in
+    let D : List ℕ → Type 0 = λ ns. AreReached ns (length w.octets.all) w.headers in
+    let f = closed-few (length w.octets.all) w.headers (omega (arith, long, few, room, value)) in
     record {
-      placed = subst A (sym eh) (placed-more (length v.octets) (length w.octets) v.headers (omega (arith, long)) o.placed);
+      placed = subst A (sym eh) (placed-more (length v.octets.all) (length w.octets.all) v.headers (omega (arith, long)) o.placed);
       codes = subst B (sym eh) o.codes;
-      reached = subst D (sym ec) (subst C (sym eh) (reached-more v.counts (length v.octets) (length w.octets) v.headers (omega (arith, long)) o.reached));
+      reached = subst D (sym ec) (subst C (sym eh) (reached-more v.counts (length v.octets.all) (length w.octets.all) v.headers (omega (arith, long)) o.reached));
       fits = omega (arith, f, long, few, room);
     }
 
 -- so does a container that begins
-pub room-begun : {A : Type 0} (limits : Limits) (v w : OpenValue A) (x : List ℕ) (code : ℕ) → AreChecked limits → IsOpen limits v → code < 16 → w.octets ≡ v.octets ++ x
-    → w.headers ≡ header_at (length v.octets + length x) code ∷ v.headers → w.counts ≡ v.counts
-    → length v.octets + (length x + 6 * (length v.headers + 1)) ≤ limits.value → IsOpen limits w
+pub room-begun : {A : Type 0} (limits : Limits) (v w : OpenValue A) (x : List ℕ) (code : ℕ) → AreChecked limits → IsOpen limits v → code < 16 → w.octets.all ≡ v.octets.all ++ x
+    → w.headers ≡ header_at (length v.octets.all + length x) code ∷ v.headers → w.counts ≡ v.counts
+    → length v.octets.all + (length x + 6 * (length v.headers + 1)) ≤ limits.value → IsOpen limits w
 room-begun limits v w x code checked o small eo eh ec room =
     let value = checked.value in
-    let h : HeaderPlace = header_at (length v.octets + length x) code in
-    let long : length w.octets ≡ length v.octets + length x = ap (λ (os : List ℕ). length os) eo ∙ length-append v.octets x in
+    let h : HeaderPlace = header_at (length v.octets.all + length x) code in
+    let long : length w.octets.all ≡ length v.octets.all + length x = ap (λ (os : List ℕ). length os) eo ∙ length-append v.octets.all x in
     let few : length w.headers ≡ suc (length v.headers) = ap (λ (hs : List HeaderPlace). length hs) eh in
-    let A : List HeaderPlace → Type 0 = λ hs. ArePlaced (length w.octets) hs in
+    let A : List HeaderPlace → Type 0 = λ hs. ArePlaced (length w.octets.all) hs in
     let B : List HeaderPlace → Type 0 = λ hs. AllByRecursion (λ h. h.code < 16) hs in
-    let C : List HeaderPlace → Type 0 = λ hs. AreReached v.counts (length w.octets) hs in
-    let D : List ℕ → Type 0 = λ ns. AreReached ns (length w.octets) w.headers in
-    let f = closed-few (length w.octets) w.headers (omega (arith, long, few, room, value)) in
+    let C : List HeaderPlace → Type 0 = λ hs. AreReached v.counts (length w.octets.all) hs in
+    let D : List ℕ → Type 0 = λ ns. AreReached ns (length w.octets.all) w.headers in
+    let f = closed-few (length w.octets.all) w.headers (omega (arith, long, few, room, value)) in
     record {
-      placed = subst A (sym eh) (omega (arith, long), placed-more (length v.octets) (length v.octets + length x) v.headers (omega arith) o.placed);
+      placed = subst A (sym eh) (omega (arith, long), placed-more (length v.octets.all) (length v.octets.all + length x) v.headers (omega arith) o.placed);
       codes = subst B (sym eh) (small, o.codes);
-      reached = subst D (sym ec) (subst C (sym eh) (reached-inner v.counts (length w.octets) h v.headers (reached-more v.counts (length v.octets) (length w.octets) v.headers (omega (arith, long)) o.reached)));
+      reached = subst D (sym ec) (subst C (sym eh) (reached-inner v.counts (length w.octets.all) h v.headers (reached-more v.counts (length v.octets.all) (length w.octets.all) v.headers (omega (arith, long)) o.reached)));
       fits = omega (arith, f, long, few, room);
     }
 

@@ -30,7 +30,7 @@ use Rattle.ion_binary.proofs.Numbered.{users-item}
 use Rattle.ion_binary.specs.Counting.{ArePlaced}
 use Rattle.ion_binary.proofs.DeclarationOctets.{declaration-none}
 use Rattle.ion_binary.proofs.OpenSteps.{closed-put, put-length}
-use Rattle.ion_binary.proofs.WriterFollows.{codes-after, forgotten-is, held-behind, held-now, may-add, put-behind, refusal-is}
+use Rattle.ion_binary.proofs.WriterFollows.{codes-after, forgotten-is, held-behind, may-add, put-behind, refusal-is}
 use Rattle.ion_binary.proofs.WriterSteps.{kept, not-refused, same-held}
 
 -- nothing is put while a container is open
@@ -58,14 +58,13 @@ adds-taken old new before after sink item result p = record {
   declines = λ e. ((p.declines e).0, refl, (p.declines e).1);
   device = refl;
   fault = refl;
-  ended = p.ended;
   taken = p.taken;
 }
 
-pub plain-comes : {A : Type 0} (w : BinWriter A) (s : Written) (item : PlacedItem) → ComesAt w s item → w.ended ≡ 0 → MayCome w.limits w.open_value item
-plain-comes w s item comes none = record {
+pub plain-comes : {A : Type 0} (w : BinWriter A) (s : Written) (item : PlacedItem) → ComesAt w s item → MayCome w.limits w.open_value item
+plain-comes w s item comes = record {
   counted = comes.0.is_open;
-  follows = may-add w.limits w.open_value s item (ap (λ (h : Held). h.headers) (sym (held-now w none) ∙ comes.0.held)) comes.1;
+  follows = may-add w.limits w.open_value s item (ap (λ (h : Held). h.headers) comes.0.held) comes.1;
 }
 
 -- ---- texts that have ids
@@ -171,12 +170,11 @@ plain-added {A} w v before after item result c known some more held opened decli
   passes = λ e.
       let allowed : first_over w.limits.symbols w.symbols.texts (item_symbols item) ≡ None = have-allowed w.limits.symbols w.symbols.texts (item_symbols item) c.sound.share known in
       let fits = (opened e).fits in
-      let same : size_of v.octets v.headers ≡ size_of (added (held_in w) item).octets (added (held_in w) item).headers = ap (λ (h : Held). size_of h.octets h.headers) (held e) in
+      let same : size_of v.octets.all v.headers ≡ size_of (added (held_in w) item).octets (added (held_in w) item).headers = ap (λ (h : Held). size_of h.octets h.headers) (held e) in
       not-refused w.limits (held_in w) item allowed (omega (arith, fits, same));
   keeps = λ e. some;
   inside = more;
   declines = λ e. (ap (λ (x : OpenValue A). record w { open_value = x }) (declines e).0, (declines e).1);
-  ended = refl;
   taken = plain-taken w v before after c s;
 }
 
@@ -198,8 +196,8 @@ member-noted {A} w v before after item result name notes x c some whole kf ka kh
     ∙ ap (λ (y : List ℕ). field_octets (id_in texts) (user_item item).field ++ y) (ap (λ (y : List ℕ). wrapped y x) ea ∙ ap (wrapped (annotation_octets (id_in texts) (user_item item).annotations)) eh) in
     plain-added w v before after item result c known (inl some) (λ e. omega (arith, long, some))
     (λ e.
-    ap (λ (hs : List HeaderPlace). record (held_in w) { octets = v.octets; headers = hs }) a.headers
-    ∙ scalar-added (held_in w) item v.octets known whole (a.octets e ∙ ap (λ (y : List ℕ). w.open_value.octets ++ y) octets))
+    ap (λ (hs : List HeaderPlace). record (held_in w) { octets = v.octets.all; headers = hs }) a.headers
+    ∙ scalar-added (held_in w) item v.octets.all known whole (a.octets e ∙ ap (λ (y : List ℕ). w.open_value.octets.all ++ y) octets))
     a.is_open a.declines a.stepped
 
 -- a scalar in a container, behind one annotation at most
@@ -305,11 +303,11 @@ ended-single w item may head =
 -- ---- an item that is taken is that of the streaming definition
 
 module _ {A O : Type 0} (old new : BinWriter A) (before after : Counts) (sink put : Outgoing O) (s : Written) (item : PlacedItem)
-    (p : TakesPlain old new before after sink put item true) (comes : ComesAt old s item) (none : old.ended ≡ 0) where
+    (p : TakesPlain old new before after sink put item true) (comes : ComesAt old s item) where
   taken-begun : held_in old ≡ held_forgotten old.limits.symbols (held_of s) (user_item item).head
   taken-begun =
       sym (kept old.limits.symbols (held_in old) old.open_value.headers (p.keeps refl))
-      ∙ forgotten-is old.limits.symbols s (held_in old) (user_item item).head (sym (held-now old none) ∙ comes.0.held) comes.1.value
+      ∙ forgotten-is old.limits.symbols s (held_in old) (user_item item).head comes.0.held comes.1.value
 
   taken-passes : refused_at old.limits s item ≡ None
   taken-passes = sym (refusal-is old.limits s item (held_in old) taken-begun comes.0.codes comes.1) ∙ p.passes refl
@@ -317,9 +315,8 @@ module _ {A O : Type 0} (old new : BinWriter A) (before after : Counts) (sink pu
   pub taken-follows : Follows old new s item (Ok tt)
   taken-follows = record {
     holds = record {
-      held = held-now new (p.ended ∙ none) ∙ (p.held refl ∙ held-behind old.limits.symbols old.limits.depth s item (held_in old) taken-begun comes.0.codes comes.1);
+      held = p.held refl ∙ held-behind old.limits.symbols old.limits.depth s item (held_in old) taken-begun comes.0.codes comes.1;
       is_open = p.is_open refl;
-      ended = let e = p.ended in omega (arith, e, none);
       codes = codes-after old.limits.symbols s (user_item item) comes.0.codes;
     };
     passes = taken-passes;
@@ -342,9 +339,9 @@ drop-all (t ∷ ts) = drop-all ts
 -- its header and its octets were put, and nothing else is due
 module _ {A : Type 0} (w : BinWriter A) (o : HeaderPlace) (item : PlacedItem) (x : List ℕ) (may : MayAdd w.limits w.open_value item.head item) (head : item.head ≡ value.end)
     (one : w.open_value.headers ≡ o ∷ []) (first : o.place ≡ 0) (due : w.due ≡ false) (all : w.declared ≡ length w.symbols.texts)
-    (is : x ≡ header o.code (length w.open_value.octets)) where
+    (is : x ≡ header o.code (length w.open_value.octets.all)) where
   abbrev octets : List ℕ
-  octets = w.open_value.octets
+  octets = w.open_value.octets.all
 
   bare : (item.field ≡ None) × (item.annotations ≡ [])
   bare = ended-bare w.limits w.open_value item head may
@@ -359,10 +356,10 @@ module _ {A : Type 0} (w : BinWriter A) (o : HeaderPlace) (item : PlacedItem) (x
       ap (λ k. take k octets ++ (header o.code (length octets - k) ++ drop k octets)) first
       ∙ (ap (λ k. header o.code k ++ octets) all ∙ ap (λ (y : List ℕ). y ++ octets) (sym is))
 
-  whole-held : (v : OpenValue A) → v.octets ≡ [] → v.headers ≡ []
+  whole-held : (v : OpenValue A) → v.octets.all ≡ [] → v.headers ≡ []
       → held_in (record w { open_value = v }) ≡ value_held (added (held_in w) item) (added (held_in w) item).headers (added (held_in w) item).octets
   whole-held v eo eh =
-      same-held v.octets [] v.headers [] w.symbols.texts w.symbols.texts w.declared (length w.symbols.texts) w.due false eo eh refl all due
+      same-held v.octets.all [] v.headers [] w.symbols.texts w.symbols.texts w.declared (length w.symbols.texts) w.due false eo eh refl all due
       ∙ sym (ap (λ (h : Held). value_held h h.headers h.octets) whole-added)
 
   whole-puts : (pending put : List ℕ) → put ≡ (pending ++ x) ++ octets
@@ -398,7 +395,7 @@ both-put {O} sink first put x y a b ef ea ep eb =
 
 pub plain-ended : {A O : Type 0} (w : BinWriter A) (v : OpenValue A) (o : HeaderPlace) (before after : Counts) (item : PlacedItem) (sink put : Outgoing O) (x : List ℕ) → CanTake w before
     → IsOpen w.limits w.open_value → MayAdd w.limits w.open_value item.head item → item.head ≡ value.end → w.open_value.headers ≡ o ∷ [] → o.place ≡ 0 → w.due ≡ false
-    → w.declared ≡ length w.symbols.texts → x ≡ header o.code (length w.open_value.octets) → put ≡ record sink { pending = (sink.pending ++ x) ++ w.open_value.octets } → v.octets ≡ [] → v.headers ≡ []
+    → w.declared ≡ length w.symbols.texts → x ≡ header o.code (length w.open_value.octets.all) → put ≡ record sink { pending = (sink.pending ++ x) ++ w.open_value.octets.all } → v.octets.all ≡ [] → v.headers ≡ []
     → IsOpen w.limits v → Stepped w.limits w.open_value v before after None → TakesPlain w (record w { open_value = v }) before after sink put item true
 plain-ended w v o before after item sink put x c now may head one first due all is e eo eh open_then s = record {
   held = λ t. whole-held w o item x may head one first due all is v eo eh;
@@ -409,6 +406,5 @@ plain-ended w v o before after item sink put x c now may head one first due all 
   declines = λ t. absurd (Prim.cc t);
   device = ap (λ s. s.device) e;
   fault = ap (λ s. s.fault) e;
-  ended = refl;
   taken = plain-taken w v before after c s;
 }

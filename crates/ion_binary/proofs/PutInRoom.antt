@@ -1,64 +1,75 @@
 -- Octets that are put where there is surely room for them: what a call keeps and moves, whether it puts them or declines.
-use Rattle.std.proofs.Common.{◌≡◌, ℕ, ◌+◌, ◌*◌, ◌≤◌, Bool, true, false, List, ◌++◌, length, None, refl, ap, sym, subst, ◌∙◌, arith, length-append}
+use Rattle.std.proofs.Common.{◌≡◌, ℕ, suc, ◌+◌, ◌*◌, ◌≤◌, Bool, true, false, List, [], length, None, refl, ap, sym, subst, arith, length-append}
 use Rattle.ion_meter.specs.Counts.{Counts, Grows}
 use Rattle.ion_meter.specs.declared.limits.Limits.{Limits}
 use Rattle.ion_binary.specs.declared.headers.HeaderPlace.{HeaderPlace}
 use Rattle.ion_binary.specs.declared.open_value.OpenValue.{OpenValue}
 use Rattle.ion_value.specs.declared.ion_type.Kind.{Kind}
+use Rattle.ion_binary.specs.Late.{Content, appended}
 use Rattle.ion_binary.specs.Opening.{AddsOctets, Begins, CanAdd, CanStep, Stepped}
+use Rattle.ion_binary.proofs.Contents.{costed-by}
 use Rattle.ion_binary.proofs.OpenSteps.{room-open}
 
-pub room-stepped : {A : Type 0} (limits : Limits) (v w : OpenValue A) (m n : Counts) (k : ℕ) (result : Bool) → CanStep limits v m → w.headers ≡ v.headers
-    → (result ≡ true → length w.octets ≡ length v.octets + k) → (result ≡ true → Grows m n k) → (result ≡ false → (w.octets ≡ v.octets) × (n ≡ m))
-    → length v.octets + k ≤ limits.value → Stepped limits v w m n None
-room-stepped limits v w m n k true can same longer grows declines room =
+pub room-stepped : {A : Type 0} (limits : Limits) (v w : OpenValue A) (m n : Counts) (x : List ℕ) (result : Bool) → CanStep limits v m → w.headers ≡ v.headers
+    → (result ≡ true → w.octets ≡ appended v.octets x) → (result ≡ true → Grows m n (length x)) → (result ≡ false → (w.octets ≡ v.octets) × (n ≡ m))
+    → length v.octets.all + length x ≤ limits.value → w.room ≡ v.room → Stepped limits v w m n None
+room-stepped limits v w m n x true can same longer grows declines room kept =
+    let beside = can.within.room in
     let g = grows refl in
     let gh = g.held in
     let gp = g.peak in
-    let long : length w.octets ≡ length v.octets + k = longer refl in
+    let e = longer refl in
+    let sum = length-append v.octets.all x in
+    let long : length w.octets.all ≡ length (appended v.octets x).all = ap (λ (c : Content). length c.all) e in
+    let late : w.octets.late ≡ v.octets.late = ap (λ (c : Content). c.late) e in
+    let cost : w.octets.cost ≡ v.octets.cost + length x = ap (λ (c : Content). c.cost) e in
     let few : length w.headers ≡ length v.headers = ap (λ (hs : List HeaderPlace). length hs) same in
     let before = can.within.headers in
     let held = can.held in
+    let costed = costed-by v.octets w.octets x can.within.costed e in
+    let most = costed.most in
     record {
-      within = record { octets = omega (arith, long, room); headers = omega (arith, few, before) };
+      within = record { octets = omega (arith, long, sum, room); headers = omega (arith, few, late, before); costed = costed; room = omega (arith, few, late, beside, kept) };
       memory = record { memory = λ e. absurd (Prim.cc e); counted = λ e. g.refused };
       alone = λ f e. absurd (Prim.cc e);
       charges =
           record {
-            held = omega (arith, gh, long, few);
-            share = omega (arith, long, few, room, before);
-            peak = omega (arith, gh, gp, long, few, held, room, before);
+            held = omega (arith, gh, cost, few);
+            share = omega (arith, most, long, sum, few, late, room, before);
+            peak = omega (arith, gh, gp, cost, most, long, sum, few, late, held, room, before);
             rises = omega (arith, gp);
           };
     }
-room-stepped {A} limits v w m n k false can same longer grows declines room =
+room-stepped {A} limits v w m n x false can same longer grows declines room kept =
+    let beside = can.within.room in
     let d = declines refl in
-    let long : length w.octets ≡ length v.octets = ap (λ (os : List ℕ). length os) d.0 in
     let few : length w.headers ≡ length v.headers = ap (λ (hs : List HeaderPlace). length hs) same in
     let before = can.within.headers in
     let short = can.within.octets in
-    let After : Counts → Type 0 = λ o. Stepped {A = A} limits v w m o None in
-    subst After (sym d.1)
+    let most = can.within.costed.most in
+    let After : Content → Counts → Type 0 = λ c o. Stepped {A = A} limits v (record w { octets = c }) m o None in
+    subst (After w.octets) (sym d.1)
+    (subst (λ (c : Content). After c m) (sym d.0)
     (record {
-      within = record { octets = omega (arith, long, short); headers = omega (arith, few, before) };
+      within = record { octets = short; headers = omega (arith, few, before); costed = can.within.costed; room = omega (arith, few, beside, kept) };
       memory = record { memory = λ e. absurd (Prim.cc e); counted = λ e. refl };
       alone = λ f e. absurd (Prim.cc e);
       charges =
-          record { held = omega (arith, long, few); share = omega (arith, long, few, short, before); peak = omega arith; rises = omega arith };
-    })
+          record { held = omega (arith, few); share = omega (arith, most, few, short, before); peak = omega arith; rises = omega arith };
+    }))
 
-pub room-adds : {A : Type 0} (limits : Limits) (v : OpenValue A) (y x : List ℕ) (m n : Counts) (k : ℕ) (result : Bool) → CanAdd limits v m → length x ≡ k
-    → (result ≡ true → y ≡ v.octets ++ x) → (result ≡ true → Grows m n k) → (result ≡ false → (y ≡ v.octets) × (n ≡ m))
-    → length v.octets + (k + 6 * length v.headers) ≤ limits.value → AddsOctets limits x v (record v { octets = y }) m n result
+pub room-adds : {A : Type 0} (limits : Limits) (v : OpenValue A) (y : Content) (x : List ℕ) (m n : Counts) (k : ℕ) (result : Bool) → CanAdd limits v m → length x ≡ k
+    → (result ≡ true → y ≡ appended v.octets x) → (result ≡ true → Grows m n k) → (result ≡ false → (y ≡ v.octets) × (n ≡ m))
+    → length v.octets.all + (k + 6 * length v.headers) ≤ limits.value → AddsOctets limits x v (record v { octets = y }) m n result
 room-adds {A} limits v y x m n k result can long put grows declines room =
     let w : OpenValue A = record v { octets = y } in
-    let both = length-append v.octets x in
     record {
-      octets = put;
+      octets = λ is. ap (λ (c : Content). c.all) (put is);
       headers = refl;
-      is_open = λ is. room-open limits v w x can.can_step.checked can.is_open (put is) refl refl (omega (arith, long, room));
-      declines = λ no. (ap (λ (os : List ℕ). record v { octets = os }) (declines no).0, (declines no).1);
-      stepped = room-stepped limits v w m n k result can.can_step refl (λ is. ap (λ (os : List ℕ). length os) (put is) ∙ omega (arith, both, long)) grows declines (omega (arith, room));
+      is_open = λ is. room-open limits v w x can.can_step.checked can.is_open (ap (λ (c : Content). c.all) (put is)) refl refl (omega (arith, long, room));
+      declines = λ no. (ap (λ (c : Content). record v { octets = c }) (declines no).0, (declines no).1);
+      stepped =
+          room-stepped limits v w m n x result can.can_step refl put (λ is. subst (λ (l : ℕ). Grows m n l) (sym long) (grows is)) declines (omega (arith, long, room)) refl;
     }
 
 pub not-added : {A : Type 0} {limits : Limits} {v : OpenValue A} {m : Counts} {x : List ℕ} → CanAdd limits v m → AddsOctets limits x v v m m false
@@ -69,8 +80,62 @@ not-added {A} {limits} {v} {m} {x} can = record {
   declines = λ no. (refl, refl);
   stepped =
       let short = can.can_step.within.octets in
-      room-stepped limits v v m m 0 false can.can_step refl (λ is. absurd (Prim.cc is)) (λ is. absurd (Prim.cc is)) (λ no. (refl, refl)) (omega (arith, short));
+      room-stepped limits v v m m [] false can.can_step refl (λ is. absurd (Prim.cc is)) (λ is. absurd (Prim.cc is)) (λ no. (refl, refl)) (omega (arith, short)) refl;
 }
+
+-- nothing begins
+pub not-begun : {A : Type 0} {limits : Limits} {v : OpenValue A} {m : Counts} {x : List ℕ} {kind : Kind} → CanAdd limits v m → Begins limits x kind v v m m false
+not-begun {A} {limits} {v} {m} {x} {kind} can =
+    let no = not-added {A = A} {x = x} can in
+    record {
+      octets = λ is. absurd (Prim.cc is);
+      headers = λ is. absurd (Prim.cc is);
+      is_open = λ is. absurd (Prim.cc is);
+      declines = λ e. (refl, refl);
+      stepped = no.stepped;
+    }
+
+-- a container that begins has another header
+pub begun-stepped : {A : Type 0} (limits : Limits) (v w : OpenValue A) (m n : Counts) (x : List ℕ) → CanStep limits v m → w.octets ≡ appended v.octets x
+    → length w.headers ≡ suc (length v.headers) → Grows m n (8 + length x) → length v.octets.all + length x ≤ limits.value → length v.headers + 2 * v.octets.late + 1 ≤ 2 * limits.depth
+    → w.room + 6 ≡ v.room → Stepped limits v w m n None
+begun-stepped limits v w m n x can longer more g room deep kept =
+    let gh = g.held in
+    let gp = g.peak in
+    let sum = length-append v.octets.all x in
+    let long : length w.octets.all ≡ length (appended v.octets x).all = ap (λ (c : Content). length c.all) longer in
+    let late : w.octets.late ≡ v.octets.late = ap (λ (c : Content). c.late) longer in
+    let cost : w.octets.cost ≡ v.octets.cost + length x = ap (λ (c : Content). c.cost) longer in
+    let held = can.held in
+    let beside = can.within.room in
+    let costed = costed-by v.octets w.octets x can.within.costed longer in
+    let most = costed.most in
+    record {
+      within = record {
+        octets = omega (arith, long, sum, room);
+        headers = omega (arith, more, late, deep);
+        costed = costed;
+        room = omega (arith, more, late, beside, kept);
+      };
+      memory = record { memory = λ e. absurd (Prim.cc e); counted = λ e. g.refused };
+      alone = λ f e. absurd (Prim.cc e);
+      charges =
+          record {
+            held = omega (arith, gh, cost, more);
+            share = omega (arith, most, long, sum, more, late, room, deep);
+            peak = omega (arith, gh, gp, cost, most, long, sum, more, late, held, room, deep);
+            rises = omega (arith, gp);
+          };
+    }
+
+-- none begins where a call declines
+pub begun-not : {A : Type 0} {limits : Limits} {v : OpenValue A} {y : Content} {hs : List HeaderPlace} {m n : Counts} {x : List ℕ} {kind : Kind} → CanAdd limits v m
+    → (hs ≡ v.headers) × ((y ≡ v.octets) × (n ≡ m)) → Begins limits x kind v (record v { octets = y; headers = hs }) m n false
+begun-not {A} {limits} {v} {y} {hs} {m} {n} {x} {kind} can same =
+    let B : List HeaderPlace → Content → Counts → Type 0 = λ gs c o. Begins {A = A} limits x kind v (record v { octets = c; headers = gs }) m o false in
+    subst (λ (gs : List HeaderPlace). B gs y n) (sym same.0)
+    (subst (λ (c : Content). B v.headers c n) (sym same.1.0)
+    (subst (λ (o : Counts). B v.headers v.octets o) (sym same.1.1) (not-begun {A = A} {x = x} can)))
 
 -- octets that are the same
 pub adds-same : {A : Type 0} {limits : Limits} {v w : OpenValue A} {m n : Counts} {x z : List ℕ} {result : Bool} → x ≡ z → AddsOctets limits x v w m n result → AddsOctets limits z v w m n result

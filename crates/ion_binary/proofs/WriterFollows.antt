@@ -14,10 +14,10 @@ use Rattle.ion_binary.specs.declared.open_value.OpenValue.{OpenValue}
 use Rattle.ion_binary.specs.declared.writer.BinWriter.{BinWriter}
 use Rattle.ion_binary.specs.Canonical.{is_over}
 use Rattle.ion_binary.specs.Grammar.{type_code}
-use Rattle.ion_binary.specs.Held.{HaveCodes, Held, MayCome, closed_run, headers_of, held_forgotten, held_of, texts_forgotten, value_held, value_put, with_names, wrapper_headers}
+use Rattle.ion_binary.specs.Held.{HaveCodes, Held, MayCome, headers_of, held_forgotten, held_of, texts_forgotten, value_held, value_put, with_names, wrapper_headers}
 use Rattle.ion_binary.specs.Opening.{IsOpen, MayAdd}
 use Rattle.ion_binary.specs.Places.{unheaded}
-use Rattle.ion_binary.specs.Writer.{ComesAt, Follows, Holds, Stands, added, adds_at, held_closed, held_in, item_refusal}
+use Rattle.ion_binary.specs.Writer.{ComesAt, Follows, Holds, Stands, added, adds_at, held_in, item_refusal}
 use Rattle.ion_binary.specs.Writing.{Unclosed, Written, after, after_all, begun, closed_size, closed_with, first_over, item_puts, item_symbols, refused_at, refused_by, unless_refused, with_end, with_head, with_ids_given, with_value, written_behind}
 use Rattle.ion_binary.specs.ItemPuts.{after_all-last}
 use Rattle.ion_binary.proofs.HeldMoves.{forgetting-moves, forgetting-open, what_is_held_moves}
@@ -81,16 +81,12 @@ pub may-add : {A : Type 0} (limits : Limits) (v : OpenValue A) (s : Written) (it
     → MayCome limits.depth s (user_item item) → MayAdd limits v item.head item
 may-add limits v s item e come = may-add-by limits v s item item.head e come
 
--- no end waits
-pub held-now : {A : Type 0} (w : BinWriter A) → w.ended ≡ 0 → held_closed w ≡ held_in w
-held-now w none = ap (λ k. record (held_in w) { octets = closed_run k w.open_value.octets w.open_value.headers; headers = drop k w.open_value.headers }) none
-
-pub may-add-behind : {A : Type 0} (old new : BinWriter A) (s : Written) (item : PlacedItem) → ComesAt old s item → old.ended ≡ 0 → new.open_value ≡ old.open_value → new.limits ≡ old.limits
+pub may-add-behind : {A : Type 0} (old new : BinWriter A) (s : Written) (item : PlacedItem) → ComesAt old s item → new.open_value ≡ old.open_value → new.limits ≡ old.limits
     → MayAdd new.limits new.open_value item.head item
-may-add-behind {A} old new s item comes none ev el =
+may-add-behind {A} old new s item comes ev el =
     let P : OpenValue A → Type 0 = λ v. MayAdd old.limits v item.head item in
     let Q : Limits → Type 0 = λ l. MayAdd l new.open_value item.head item in
-    subst Q (sym el) (subst P (sym ev) (may-add old.limits old.open_value s item (ap (λ (h : Held). h.headers) (sym (held-now old none) ∙ comes.0.held)) comes.1))
+    subst Q (sym el) (subst P (sym ev) (may-add old.limits old.open_value s item (ap (λ (h : Held). h.headers) comes.0.held) comes.1))
 
 -- ---- open containers
 
@@ -249,21 +245,18 @@ no-refusal {T} (Err f) r p cause e = let y : ◌≡◌ {A = Result T Fault} (Err
 
 pub follows-out : {A : Type 0} (old mid new : BinWriter A) (s : Written) (item : PlacedItem) (result : Result (Unit {0}) Fault) (b : Held) → ComesAt old s item
     → b ≡ held_forgotten old.limits.symbols (held_of s) (user_item item).head → held_in mid ≡ added b item → item_refusal old.limits b item ≡ None
-    → OnOk result (held_in new ≡ value_held (held_in mid) mid.open_value.headers mid.open_value.octets) → OnOk result (IsOpen new.limits new.open_value)
-    → IfErr result (λ f. f ≡ WriteFault) → new.ended ≡ 0 → Follows old new s item result
-follows-out old mid new s item (Ok x) b comes e m none held opened cause ended = record {
+    → OnOk result (held_in new ≡ value_held (held_in mid) mid.open_value.headers mid.open_value.octets.all) → OnOk result (IsOpen new.limits new.open_value)
+    → IfErr result (λ f. f ≡ WriteFault) → Follows old new s item result
+follows-out old mid new s item (Ok x) b comes e m none held opened cause = record {
   holds = record {
-    held =
-        held-now new ended
-        ∙ (held ∙ (ap (λ (h : Held). value_held h h.headers h.octets) m ∙ held-behind old.limits.symbols old.limits.depth s item b e comes.0.codes comes.1));
+    held = held ∙ (ap (λ (h : Held). value_held h h.headers h.octets) m ∙ held-behind old.limits.symbols old.limits.depth s item b e comes.0.codes comes.1);
     is_open = opened;
-    ended = omega (arith, ended);
     codes = codes-after old.limits.symbols s (user_item item) comes.0.codes;
   };
   passes = sym (refusal-is old.limits s item b e comes.0.codes comes.1) ∙ none;
   refuses = λ r p is. absurd (no-refusal (Ok x) r p cause is);
 }
-follows-out old mid new s item (Err f) b comes e m none held opened cause ended = record {
+follows-out old mid new s item (Err f) b comes e m none held opened cause = record {
   holds = tt;
   passes = tt;
   refuses = λ r p is. absurd (no-refusal (Err f) r p cause is);
@@ -280,7 +273,7 @@ follows-err old new s item fault b comes e why = record {
 
 pub adds-are : {A : Type 0} (old mid : BinWriter A) (s : Written) (item : PlacedItem) (b : Held) → ComesAt old s item
     → b ≡ held_forgotten old.limits.symbols (held_of s) (user_item item).head → held_in mid ≡ added b item → item_refusal old.limits b item ≡ None
-    → value_put (held_in mid) mid.open_value.headers mid.open_value.octets ≡ adds_at old.limits s item
+    → value_put (held_in mid) mid.open_value.headers mid.open_value.octets.all ≡ adds_at old.limits s item
 adds-are old mid s item b comes e m none =
     ap (λ (h : Held). value_put h h.headers h.octets) m
     ∙ (put-behind old.limits.symbols old.limits.depth s item b e comes.0.codes comes.1

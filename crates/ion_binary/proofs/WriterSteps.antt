@@ -19,6 +19,8 @@ use Rattle.ion_binary.specs.Canonical.{field_octets, id_in, id_octets, is_over, 
 use Rattle.ion_binary.specs.Held.{Held, ids_place, moved_headers, moved_octets, size_of, texts_forgotten, value_put, with_front, with_names}
 use Rattle.ion_binary.specs.ItemOctets.{head_name}
 use Rattle.ion_binary.specs.Numbering.{IsFront}
+use Rattle.ion_binary.specs.Counting.{ArePlaced, AreReached}
+use Rattle.ion_binary.specs.Late.{Content}
 use Rattle.ion_binary.specs.Opening.{IsOpen, IsOpenTo, MayAdd, MayFollow}
 use Rattle.ion_binary.specs.Writer.{PutsOctets, added, item_refusal}
 use Rattle.ion_binary.specs.Writing.{first_over, item_symbols, refused_by}
@@ -143,43 +145,46 @@ front-refused limits v h item fits may over =
     omega (arith, l)
 
 -- a head may follow
-may-follow-by : {A : Type 0} (limits : Limits) (v : OpenValue A) (octets : List ℕ) (place : ℕ) (head : Head SymbolAt) (item : PlacedItem)
-    → IsOpen limits v → length v.octets ≤ place → place ≤ length octets → (item.field ≡ None → item.annotations ≡ [] → octets ≡ v.octets)
+may-follow-by : {A : Type 0} (limits : Limits) (v : OpenValue A) (octets : Content) (place : ℕ) (head : Head SymbolAt) (item : PlacedItem)
+    → IsOpen limits v → length v.octets.all ≤ place → place ≤ length octets.all → (item.field ≡ None → item.annotations ≡ [] → octets.all ≡ v.octets.all)
     → MayAdd limits v head item → MayFollow limits (record v { octets = octets }) place head
 may-follow-by limits v octets place (value.whole body) item o low high same may = (to limits v octets place o low high, may)
   where
-    to : {A : Type 0} (limits : Limits) (v : OpenValue A) (octets : List ℕ) (place : ℕ) → IsOpen limits v → length v.octets ≤ place → place ≤ length octets
+    to : {A : Type 0} (limits : Limits) (v : OpenValue A) (octets : Content) (place : ℕ) → IsOpen limits v → length v.octets.all ≤ place → place ≤ length octets.all
         → IsOpenTo (record v { octets = octets }) place
     to limits v octets place o low high = record {
       within = high;
-      placed = placed-more (length v.octets) place v.headers low o.placed;
+      placed = placed-more (length v.octets.all) place v.headers low o.placed;
       codes = o.codes;
-      reached = reached-more v.counts (length v.octets) place v.headers low o.reached;
+      reached = reached-more v.counts (length v.octets.all) place v.headers low o.reached;
     }
 may-follow-by limits v octets place (value.begin k) item o low high same may = (
   record {
     within = high;
-    placed = placed-more (length v.octets) place v.headers low o.placed;
+    placed = placed-more (length v.octets.all) place v.headers low o.placed;
     codes = o.codes;
-    reached = reached-more v.counts (length v.octets) place v.headers low o.reached;
+    reached = reached-more v.counts (length v.octets.all) place v.headers low o.reached;
   },
   may,
 )
 may-follow-by {A} limits v octets place value.end item o low high same may =
-    let P : List ℕ → Type 0 = λ os. IsOpen {A = A} limits (record v { octets = os }) in
-    subst P (sym (same may.0 may.1)) (record { placed = o.placed; codes = o.codes; reached = o.reached; fits = o.fits })
+    let e = same may.0 may.1 in
+    let P : List ℕ → Type 0 = λ os. ArePlaced (length os) v.headers in
+    let Q : List ℕ → Type 0 = λ os. AreReached v.counts (length os) v.headers in
+    let R : List ℕ → Type 0 = λ os. size_of os v.headers ≤ limits.value in
+    record { placed = subst P (sym e) o.placed; codes = o.codes; reached = subst Q (sym e) o.reached; fits = subst R (sym e) o.fits }
 may-follow-by limits v octets place value.marker item o low high same may = absurd may
 
-pub may-follow : {A : Type 0} (limits : Limits) (v : OpenValue A) (h : Held) (item : PlacedItem) (octets : List ℕ) (place : ℕ) (head : Head SymbolAt)
-    → h.octets ≡ v.octets → IsOpen limits v → octets ≡ with_front (with_names h (user_item item)) (user_item item)
+pub may-follow : {A : Type 0} (limits : Limits) (v : OpenValue A) (h : Held) (item : PlacedItem) (octets : Content) (place : ℕ) (head : Head SymbolAt)
+    → h.octets ≡ v.octets.all → IsOpen limits v → octets.all ≡ with_front (with_names h (user_item item)) (user_item item)
     → place ≡ ids_place (with_names h (user_item item)) (user_item item) → head ≡ item.head
     → MayAdd limits v item.head item → MayFollow limits (record v { octets = octets }) place head
 may-follow {A} limits v h item octets place head eo o front at is may =
     let n : Held = with_names h (user_item item) in
     let ids : UserSymbol → ℕ = id_in n.texts in
     let w = place-within n (user_item item) in
-    let long : length octets ≡ length (with_front n (user_item item)) = ap (λ (os : List ℕ). length os) front in
-    let same : length h.octets ≡ length v.octets = ap (λ (os : List ℕ). length os) eo in
+    let long : length octets.all ≡ length (with_front n (user_item item)) = ap (λ (os : List ℕ). length os) front in
+    let same : length h.octets ≡ length v.octets.all = ap (λ (os : List ℕ). length os) eo in
     let P : Head SymbolAt → Type 0 = λ x. MayFollow {A = A} limits (record v { octets = octets }) place x in
     subst P (sym is)
     (may-follow-by limits v octets place item.head item o (omega (arith, at, same)) (omega (arith, at, w, long))

@@ -1,6 +1,6 @@
 -- What a writer of the canonical form may hold: the octets of the open value, which come without the headers of its open containers, and
 -- where these go in. It tells all that the streaming definition needs.
-use Rattle.std.specs.Prelude.{◌≡◌, ℕ, zero, suc, ◌+◌, ◌-◌, ◌<◌, Bool, true, false, not, ◌&&◌, nat_eq, if◌then◌else◌, List, [], ◌∷◌, ◌++◌, length, map, take, drop}
+use Rattle.std.specs.Prelude.{◌≡◌, ℕ, ◌+◌, ◌-◌, ◌<◌, Bool, true, false, not, ◌&&◌, nat_eq, if◌then◌else◌, List, [], ◌∷◌, ◌++◌, length, map, take, drop}
 use Rattle.std.specs.List.{AllByRecursion}
 use Rattle.ion_value.specs.declared.ion_type.Kind.{Kind}
 use Rattle.ion_value.specs.Number.{var_uint_octets}
@@ -86,11 +86,6 @@ closed_in octets hs = wrapped_in (innermost_in octets hs) (drop 1 hs)
 -- the headers that are still missing where the innermost container has closed
 abbrev pub headers_around : List HeaderPlace → List HeaderPlace
 headers_around hs = without_wrapper (drop 1 hs)
-
--- the octets where so many of the innermost headers have gone in, one after the other
-abbrev pub closed_run : ℕ → List ℕ → List HeaderPlace → List ℕ
-closed_run zero octets hs = octets
-closed_run (suc k) octets hs = closed_run k (innermost_in octets hs) (drop 1 hs)
 
 -- ---- an item more
 

@@ -19,32 +19,39 @@ use Rattle.ion_binary.specs.Canonical.{wrapped}
 use Rattle.ion_binary.specs.Grammar.{type_code}
 use Rattle.ion_binary.specs.Held.{counted_ids, header_at, size_of}
 use Rattle.ion_binary.specs.ItemOctets.{opening}
+use Rattle.ion_binary.specs.Late.{IsCosted}
 use Rattle.ion_binary.specs.Counting.{ArePlaced, AreReached}
 
 -- the counted bytes that it holds
 abbrev pub open_cost : {A : Type 0} → OpenValue A → ℕ
-open_cost v = 8 * length v.headers + length v.octets
+open_cost v = 8 * length v.headers + v.octets.cost
 
 -- the most counted bytes that an open value may hold under limits
 abbrev pub open_most : Limits → ℕ
 open_most limits = 16 * limits.depth + limits.value
 
+-- so many octets may be there, and 2 ^ 20 more than that, as each header that is missing may have six
+abbrev pub HasRoom : {A : Type 0} → Limits → OpenValue A → Type 0
+HasRoom limits v = v.room + 6 * (length v.headers + v.octets.late) ≤ limits.value + 2 ^ 20
+
 -- it stays within its limits
 pub record IsWithin {A : Type 0} (limits : Limits) (v : OpenValue A) : Type 0 where
-  pub octets : length v.octets ≤ limits.value
-  pub headers : length v.headers ≤ 2 * limits.depth
+  pub octets : length v.octets.all ≤ limits.value
+  pub headers : length v.headers + 2 * v.octets.late ≤ 2 * limits.depth
+  pub costed : IsCosted v.octets
+  pub room : HasRoom limits v
 
 -- the headers that are missing are right, no count of them is too high, and the closed value is not too long. A count may be too low: whoever
 -- asks for the closed size raises it first
 pub record IsOpen {A : Type 0} (limits : Limits) (v : OpenValue A) : Type 0 where
-  pub placed : ArePlaced (length v.octets) v.headers
+  pub placed : ArePlaced (length v.octets.all) v.headers
   pub codes : AllByRecursion (λ h. h.code < 16) v.headers
-  pub reached : AreReached v.counts (length v.octets) v.headers
-  pub fits : size_of v.octets v.headers ≤ limits.value
+  pub reached : AreReached v.counts (length v.octets.all) v.headers
+  pub fits : size_of v.octets.all v.headers ≤ limits.value
 
 -- the same before a place behind which there are more octets
 pub record IsOpenTo {A : Type 0} (v : OpenValue A) (place : ℕ) : Type 0 where
-  pub within : place ≤ length v.octets
+  pub within : place ≤ length v.octets.all
   pub placed : ArePlaced place v.headers
   pub codes : AllByRecursion (λ h. h.code < 16) v.headers
   pub reached : AreReached v.counts place v.headers
@@ -78,7 +85,7 @@ pub record CanAdd {A : Type 0} (limits : Limits) (v : OpenValue A) (meter : Coun
 
 -- they were added after the others, or were not, and nothing is changed
 pub record AddsOctets {A : Type 0} (limits : Limits) (x : List ℕ) (old new : OpenValue A) (before after : Counts) (result : Bool) : Type 0 where
-  pub octets : result ≡ true → new.octets ≡ old.octets ++ x
+  pub octets : result ≡ true → new.octets.all ≡ old.octets.all ++ x
   pub headers : new.headers ≡ old.headers
   pub is_open : result ≡ true → IsOpen limits new
   pub declines : result ≡ false → (new ≡ old) × (after ≡ before)
@@ -86,8 +93,8 @@ pub record AddsOctets {A : Type 0} (limits : Limits) (x : List ℕ) (old new : O
 
 -- a container begins after them, or nothing is changed
 pub record Begins {A : Type 0} (limits : Limits) (x : List ℕ) (kind : Kind) (old new : OpenValue A) (before after : Counts) (result : Bool) : Type 0 where
-  pub octets : result ≡ true → new.octets ≡ old.octets ++ x
-  pub headers : result ≡ true → new.headers ≡ header_at (length old.octets + length x) (type_code kind) ∷ old.headers
+  pub octets : result ≡ true → new.octets.all ≡ old.octets.all ++ x
+  pub headers : result ≡ true → new.headers ≡ header_at (length old.octets.all + length x) (type_code kind) ∷ old.headers
   pub is_open : result ≡ true → IsOpen limits new
   pub declines : result ≡ false → (new ≡ old) × (after ≡ before)
   pub stepped : Stepped limits old new before after None

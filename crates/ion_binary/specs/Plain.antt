@@ -59,14 +59,13 @@ pub record AddsPlain {A : Type 0} (old new : BinWriter A) (before after : Counts
   pub keeps : result ≡ true → (0 < length old.open_value.headers) ⊎ (texts_cost old.symbols.texts ≤ old.limits.symbols / 2)
   pub inside : result ≡ true → 0 < length new.open_value.headers
   pub declines : result ≡ false → (new ≡ old) × (after ≡ before)
-  pub ended : new.ended ≡ old.ended
   pub taken : Taken old new before after None
 
 -- nothing stands before the next value: no container is open, no version marker is due, all texts have been declared, and none is forgotten
 pub record IsSettled {A : Type 0} (w : BinWriter A) : Type 0 where
   pub due : w.due ≡ false
   pub headers : w.open_value.headers ≡ []
-  pub octets : w.open_value.octets ≡ []
+  pub octets : w.open_value.octets.all ≡ []
   pub all : w.declared ≡ length w.symbols.texts
   pub few : texts_cost w.symbols.texts ≤ w.limits.symbols / 2
 
@@ -91,5 +90,4 @@ pub record TakesPlain {A O : Type 0} (old new : BinWriter A) (before after : Cou
   pub declines : result ≡ false → (new ≡ old) × (put ≡ sink) × (after ≡ before)
   pub device : put.device ≡ sink.device
   pub fault : put.fault ≡ sink.fault
-  pub ended : new.ended ≡ old.ended
   pub taken : Taken old new before after None

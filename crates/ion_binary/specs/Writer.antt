@@ -1,5 +1,5 @@
 -- What contracts see of the writer of binary.
-use Rattle.std.specs.Prelude.{◌≡◌, ℕ, ◌+◌, ◌-◌, ◌^◌, ◌<◌, ◌≤◌, List, ◌++◌, drop, length, Option, Some, None, Result, Err, OnOk}
+use Rattle.std.specs.Prelude.{◌≡◌, ℕ, ◌+◌, ◌-◌, ◌^◌, ◌<◌, ◌≤◌, List, ◌++◌, Option, Some, None, Result, Err, OnOk}
 use Rattle.ion_meter.specs.Counts.{Counts}
 use Rattle.ion_meter.specs.Limits.{AreChecked}
 use Rattle.ion_meter.specs.Windows.{Outgoing, so_far, Puts}
@@ -12,25 +12,18 @@ use Rattle.ion_value.specs.Shares.{Charges, MemoryCauses}
 use Rattle.ion_value.specs.Value.{PlacedItem, user_item}
 use Rattle.ion_symbols.specs.Output.{texts_cost}
 use Rattle.ion_binary.specs.declared.writer.BinWriter.{BinWriter}
-use Rattle.ion_binary.specs.Held.{HaveCodes, Held, MayCome, closed_run, headers_with, held_of, octets_with, size_of, with_names}
+use Rattle.ion_binary.specs.Held.{HaveCodes, Held, MayCome, headers_with, held_of, octets_with, size_of, with_names}
 use Rattle.ion_binary.specs.Opening.{IsOpen, IsWithin, open_cost, open_most}
 use Rattle.ion_binary.specs.Writing.{Written, after, at_begin, first_over, item_puts, item_symbols, refused_at, refused_by, unless_refused, written_behind}
 
 -- what it holds
 abbrev pub held_in : {A : Type 0} → BinWriter A → Held
 held_in w = record {
-  octets = w.open_value.octets;
+  octets = w.open_value.octets.all;
   headers = w.open_value.headers;
   texts = w.symbols.texts;
   declared = w.declared;
   due = w.due;
-}
-
--- the same where the headers have gone in of containers that have ended
-abbrev pub held_closed : {A : Type 0} → BinWriter A → Held
-held_closed w = record (held_in w) {
-  octets = closed_run w.ended w.open_value.octets w.open_value.headers;
-  headers = drop w.ended w.open_value.headers;
 }
 
 -- the counted bytes that it holds
@@ -49,11 +42,10 @@ pub record IsSound {A : Type 0} (w : BinWriter A) : Type 0 where
   pub share : texts_cost w.symbols.texts ≤ w.limits.symbols
   pub few : w.declared ≤ 2 ^ 30
 
--- it is where the streaming definition is, once the headers have gone in of containers that have ended; the outermost has not
+-- it is where the streaming definition is
 pub record Holds {A : Type 0} (w : BinWriter A) (s : Written) : Type 0 where
-  pub held : held_closed w ≡ held_of s
+  pub held : held_in w ≡ held_of s
   pub is_open : IsOpen w.limits w.open_value
-  pub ended : w.ended ≤ length w.open_value.headers - 1
   pub codes : HaveCodes s.open_containers
 
 -- no call has failed, and it is where these items lead

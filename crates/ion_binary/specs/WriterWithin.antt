@@ -9,8 +9,9 @@ pub binary-within : {A : Type 0} (w : BinWriter A) → IsSound w → WritesWithi
 binary-within w s =
     let octets = s.within.octets in
     let headers = s.within.headers in
+    let most = s.within.costed.most in
     let share = s.share in
     let depth = s.checked.depth in
     let value = s.checked.value in
     let symbols = s.checked.symbols in
-    record { share = omega (arith, octets, headers, share); small = omega (arith, depth, value, symbols) }
+    record { share = omega (arith, octets, headers, most, share); small = omega (arith, depth, value, symbols) }

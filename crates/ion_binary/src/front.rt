@@ -9,10 +9,11 @@ ghost use Rattle.ion_value.specs.Writable.{field_symbols};
 ghost use Rattle.ion_symbols.specs.Output.{CanAdd, texts_cost};
 ghost use Rattle.ion_binary.specs.Canonical.{id_in, id_octets, with_symbols};
 ghost use Rattle.ion_binary.specs.ItemOctets.{head_name, user_head};
+ghost use Rattle.ion_binary.specs.Late.{Adds};
 ghost use Rattle.ion_binary.specs.Numbering.{CanNumber, IsFront, Numbers, PutsWithin, numbering, users};
 ghost use Rattle.ion_binary.specs.Writing.{head_symbols, item_symbols};
 
-use ion_meter::buf::Buf;
+use crate::held_octets::HeldOctets;
 use ion_meter::fault::{Fault, Reason};
 use ion_meter::meter::Meter;
 use ion_symbols::output::OutSymbols;
@@ -38,27 +39,28 @@ pub(crate) struct Front {
 /// It answers `SymbolLimit` at the symbol with which the texts cost too much.
 pub(crate) fn put_front<A: Allocator + Copy, N: Names>(
     symbols: &mut OutSymbols<A>,
-    buffer: &mut Buf<A>,
+    buffer: &mut HeldOctets<A>,
     meter: &mut Meter<A>,
     item: &Item<'_, N>,
     head: Head<'_>,
     most: u64,
 ) -> Result<Front, Fault>
-    requires can_number { CanNumber most (numbering symbols.old buffer.old meter.old) }
+    requires can_number { CanNumber most (numbering symbols.old buffer.old.all meter.old) }
     requires head { raw_head head ≡ (item_of N.text item.now).head }
-    ensures numbers { Numbers most (numbering symbols.old buffer.old meter.old)
-        (numbering symbols.new buffer.new meter.new) result
+    ensures numbers { Numbers most (numbering symbols.old buffer.old.all meter.old)
+        (numbering symbols.new buffer.new.all meter.new) result
         (item_symbols (item_of N.text item.now)) }
     ensures texts { OnOk result (symbols.new.texts
         ≡ with_symbols symbols.old.texts (item_symbols (user_item (item_of N.text item.now)))) }
-    ensures front { IfOk result (IsFront most (id_in symbols.new.texts) buffer.old buffer.new
+    ensures adds { Adds buffer.old buffer.new }
+    ensures front { IfOk result (IsFront most (id_in symbols.new.texts) buffer.old.all buffer.new.all
         (user_item (item_of N.text item.now))) }
 {
     let there = match put_field(symbols, buffer, meter, item.field(), most) {
         Ok(there) => there,
         Err(fault) => return Err(fault),
     };
-    let ids = buffer.as_slice().len();
+    let ids = buffer.len();
     let annotations = item.annotations();
     let fits = match put_annotations(symbols, buffer, meter, &annotations, most, there) {
         Ok(fits) => fits,
@@ -75,16 +77,17 @@ pub(crate) fn put_front<A: Allocator + Copy, N: Names>(
 #[inline]
 fn put_field<A: Allocator + Copy>(
     symbols: &mut OutSymbols<A>,
-    buffer: &mut Buf<A>,
+    buffer: &mut HeldOctets<A>,
     meter: &mut Meter<A>,
     field: Option<SymAt<'_>>,
     most: u64,
 ) -> Result<bool, Fault>
-    requires can_number { CanNumber most (numbering symbols.old buffer.old meter.old) }
-    ensures numbers { Numbers most (numbering symbols.old buffer.old meter.old)
-        (numbering symbols.new buffer.new meter.new) result
+    requires can_number { CanNumber most (numbering symbols.old buffer.old.all meter.old) }
+    ensures numbers { Numbers most (numbering symbols.old buffer.old.all meter.old)
+        (numbering symbols.new buffer.new.all meter.new) result
         (field_symbols (raw_field field.entry)) }
-    ensures puts { IfOk result (λ there. PutsWithin most true there buffer.old buffer.new
+    ensures adds { Adds buffer.old buffer.new }
+    ensures puts { IfOk result (λ there. PutsWithin most true there buffer.old.all buffer.new.all
         (id_octets (id_in symbols.new.texts) (users (field_symbols (raw_field field.entry))))) }
 {
     match field {
@@ -96,17 +99,18 @@ fn put_field<A: Allocator + Copy>(
 // Puts the ids of annotations, as long as all before them are there and they fit too.
 fn put_annotations<A: Allocator + Copy, N: Names>(
     symbols: &mut OutSymbols<A>,
-    buffer: &mut Buf<A>,
+    buffer: &mut HeldOctets<A>,
     meter: &mut Meter<A>,
     annotations: &Annotations<'_, N>,
     most: u64,
     there: bool,
 ) -> Result<bool, Fault>
-    requires can_number { CanNumber most (numbering symbols.old buffer.old meter.old) }
-    ensures numbers { Numbers most (numbering symbols.old buffer.old meter.old)
-        (numbering symbols.new buffer.new meter.new) result
+    requires can_number { CanNumber most (numbering symbols.old buffer.old.all meter.old) }
+    ensures numbers { Numbers most (numbering symbols.old buffer.old.all meter.old)
+        (numbering symbols.new buffer.new.all meter.new) result
         (annotations_of N.text annotations.now) }
-    ensures puts { IfOk result (λ fits. PutsWithin most there fits buffer.old buffer.new
+    ensures adds { Adds buffer.old buffer.new }
+    ensures puts { IfOk result (λ fits. PutsWithin most there fits buffer.old.all buffer.new.all
         (id_octets (id_in symbols.new.texts) (users (annotations_of N.text annotations.now)))) }
 {
     let mut fits = there;
@@ -125,16 +129,17 @@ fn put_annotations<A: Allocator + Copy, N: Names>(
 #[inline]
 fn put_symbol<A: Allocator + Copy>(
     symbols: &mut OutSymbols<A>,
-    buffer: &mut Buf<A>,
+    buffer: &mut HeldOctets<A>,
     meter: &mut Meter<A>,
     at: SymAt<'_>,
     most: u64,
     there: bool,
 ) -> Result<bool, Fault>
-    requires can_number { CanNumber most (numbering symbols.old buffer.old meter.old) }
-    ensures numbers { Numbers most (numbering symbols.old buffer.old meter.old)
-        (numbering symbols.new buffer.new meter.new) result (symbol_at at.entry ∷ []) }
-    ensures puts { IfOk result (λ fits. PutsWithin most there fits buffer.old buffer.new
+    requires can_number { CanNumber most (numbering symbols.old buffer.old.all meter.old) }
+    ensures numbers { Numbers most (numbering symbols.old buffer.old.all meter.old)
+        (numbering symbols.new buffer.new.all meter.new) result (symbol_at at.entry ∷ []) }
+    ensures adds { Adds buffer.old buffer.new }
+    ensures puts { IfOk result (λ fits. PutsWithin most there fits buffer.old.all buffer.new.all
         (id_octets (id_in symbols.new.texts) (users (symbol_at at.entry ∷ [])))) }
 {
     let id = match id_of(symbols, meter, at) {
@@ -147,24 +152,26 @@ fn put_symbol<A: Allocator + Copy>(
 // Puts an id, as long as all before it are there and it fits too.
 #[inline]
 fn put_id<A: Allocator + Copy>(
-    buffer: &mut Buf<A>,
+    buffer: &mut HeldOctets<A>,
     meter: &mut Meter<A>,
     id: u32,
     most: u64,
     there: bool,
 ) -> Result<bool, Fault>
-    requires within { length buffer.old ≤ most }
+    requires within { length buffer.old.all ≤ most }
+    requires bound { most ≤ 2 ^ 30 }
     requires room { meter.old.held ≤ 2 ^ 62 + 2 ^ 31 }
-    requires held { length buffer.old ≤ meter.old.held }
+    requires held { length buffer.old.all ≤ meter.old.held }
     requires countable { meter.old.refused < 2 ^ 64 - 1 }
-    ensures puts { IfOk result (λ fits. PutsWithin most there fits buffer.old buffer.new
+    ensures adds { Adds buffer.old buffer.new }
+    ensures puts { IfOk result (λ fits. PutsWithin most there fits buffer.old.all buffer.new.all
         (var_uint_octets id)) }
     ensures memory { IfErr result (λ fault. fault ≡ Memory) }
-    ensures charges { Charges meter.old meter.new (length buffer.old) (length buffer.new) most }
+    ensures charges { Charges meter.old meter.new (length buffer.old.all) (length buffer.new.all) most }
     ensures causes { MemoryCauses (fault_of result) meter.old meter.new }
 {
     let octets = var_uint_write(id as u64);
-    if !there || most < (buffer.as_slice().len() + octets.len()) as u64 {
+    if !there || most < (buffer.len() + octets.len()) as u64 {
         return Ok(false);
     }
     match buffer.extend(meter, octets.as_slice()) {

@@ -71,17 +71,6 @@ impl<A: Allocator + Copy> Headers<A> {
         self.table.as_slice().last().copied()
     }
 
-    /// The one that `k` others are inside of.
-    pub fn nth(&self, k: usize) -> Option<HeaderPlace>
-        ensures { result ≡ slice_get self.now k }
-    {
-        let headers = self.table.as_slice();
-        if k >= headers.len() {
-            return None;
-        }
-        Some(headers[headers.len() - 1 - k])
-    }
-
     /// The one header that there is, where there is one alone.
     pub fn only(&self) -> Option<HeaderPlace>
         ensures { IfSome result (λ header. self.now ≡ header ∷ []) }
@@ -150,17 +139,6 @@ impl<A: Allocator + Copy> Headers<A> {
             (λ _. Shrinks meter.old meter.new 8) }
     {
         self.table.pop(meter)
-    }
-
-    /// Takes the innermost `k` off.
-    pub fn drop_innermost(&mut self, meter: &mut Meter<A>, k: usize)
-        requires few { k ≤ length self.old }
-        requires held { 8 * k ≤ meter.old.held }
-        ensures headers { self.new ≡ drop k self.old }
-        ensures cost { Shrinks meter.old meter.new (8 * k) }
-    {
-        let left = self.table.as_slice().len() - k;
-        self.table.truncate(meter, left);
     }
 
     /// Gives all back.

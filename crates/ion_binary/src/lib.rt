@@ -12,6 +12,7 @@ mod few;
 mod front;
 mod header;
 mod headers;
+mod held_octets;
 pub mod laws;
 mod noted;
 mod octets;

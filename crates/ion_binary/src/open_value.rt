@@ -1,6 +1,6 @@
 //! The value at top level that is being written.
-ghost use Rattle.std.specs.Prelude.{◌≡◌, ◌+◌, ◌-◌, ◌*◌, ◌^◌, ◌<◌, ◌≤◌, ℕ, List, true, false, [], ◌++◌, length, drop, take, Ok, OnOk, OnErr, IfErr, None};
-ghost use Rattle.ion_meter.specs.Counts.{Grows, IsRefused, Shrinks};
+ghost use Rattle.std.specs.Prelude.{◌≡◌, ◌≢◌, ◌+◌, ◌-◌, ◌*◌, ◌^◌, ◌<◌, ◌≤◌, ℕ, List, true, false, [], ◌++◌, length, drop, slice_index, take, Ok, OnOk, OnErr, IfErr, None};
+ghost use Rattle.ion_meter.specs.Counts.{IsRefused, Shrinks};
 ghost use Rattle.ion_meter.specs.declared.limits.Limits.{Limits};
 ghost use Rattle.ion_value.specs.Items.{raw_head};
 ghost use Rattle.ion_value.specs.Shares.{fault_of};
@@ -8,20 +8,19 @@ ghost use Rattle.ion_value.specs.Value.{UserSymbol};
 ghost use Rattle.ion_binary.specs.Counting.{IsCounted, IsCountedTo, AreReached, content_around, counted_length, cut, sizes_from};
 ghost use Rattle.ion_binary.specs.Canonical.{header};
 ghost use Rattle.ion_binary.specs.Grammar.{type_code};
-ghost use Rattle.ion_binary.specs.Held.{begun_at, begun_headers, closed_in, headers_around, innermost_in, moved_headers, moved_octets, size_of, whole_at, wrapper_headers};
+ghost use Rattle.ion_binary.specs.Held.{begun_at, begun_headers, closed_in, headers_around, innermost_in, moved_headers, moved_octets, put_at, size_of, whole_at, wrapper_headers};
 ghost use Rattle.ion_binary.specs.ItemOctets.{head_name, user_head};
+ghost use Rattle.ion_binary.specs.Late.{IsCosted, Moved, appended, nothing};
 ghost use Rattle.ion_meter.specs.Limits.{AreChecked};
-ghost use Rattle.ion_binary.specs.Opening.{AddsOctets, Begins, CanAdd, CanStep, IsOpen, IsOpenTo, IsWithin, MayFollow, Raises, Stepped, both_octets, name_octets, open_cost};
+ghost use Rattle.ion_binary.specs.Opening.{AddsOctets, Begins, CanAdd, CanStep, HasRoom, IsOpen, IsOpenTo, IsWithin, MayFollow, Raises, Stepped, both_octets, name_octets, open_cost};
 
-mod ended;
 mod plain;
 
 use crate::front::Front;
-use crate::header::header;
 use crate::headers::{HeaderPlace, Headers};
+use crate::held_octets::HeldOctets;
 use crate::opening::{WRAPPER, wrapper};
 use crate::scalar::{Octets, spell};
-use ion_meter::buf::Buf;
 use ion_meter::fault::Fault;
 use ion_meter::limits::Limits;
 use ion_meter::meter::Meter;
@@ -33,8 +32,11 @@ use std::alloc::Allocator;
 /// From so many octets on a header has two octets, three, four, five and six.
 const THRESHOLDS: [u64; 5] = [14, 128, 16_384, 2_097_152, 268_435_456];
 
-/// From so many octets on a container's header waits where it ends, and goes in with others.
-pub(crate) const LONG: usize = 4096;
+/// So many headers are late at most: to find one among them has to cost little.
+const MOST_LATE: usize = 4096;
+
+/// More than six octets for each of the most headers that are missing.
+const HEADERS_MOST: u64 = 1 << 20;
 
 /// The value at top level that is open: its octets without the headers of its open containers, and
 /// these headers.
@@ -43,21 +45,27 @@ pub(crate) const LONG: usize = 4096;
 /// to count how many of them have two octets or more, three or more, and so on.
 #[derive(Drop)]
 pub(crate) struct OpenValue<A: Allocator + Copy> {
-    pub octets: Buf<A>,
+    pub octets: HeldOctets<A>,
     pub headers: Headers<A>,
     pub counts: [u32; 5],
+    // How many octets may be there for the value to be surely within its limit beside the headers that
+    // are missing, and `HEADERS_MOST` more. It may be too low.
+    pub room: u64,
 }
 
 impl<A: Allocator + Copy> OpenValue<A> {
     /// Nothing is open. It takes no memory.
-    pub fn new(meter: &Meter<A>) -> OpenValue<A>
-        ensures nothing { (result.octets ≡ []) × (result.headers ≡ []) }
-        ensures open { (limits : Limits) → IsOpen limits result }
+    pub fn new(meter: &Meter<A>, limits: Limits) -> OpenValue<A>
+        requires checked { AreChecked limits }
+        ensures room { HasRoom limits result }
+        ensures nothing { (result.octets ≡ nothing) × (result.headers ≡ []) }
+        ensures open { IsOpen limits result }
     {
         OpenValue {
-            octets: Buf::new(meter),
+            octets: HeldOctets::new(meter),
             headers: Headers::new(meter),
             counts: [0; 5],
+            room: limits.value + HEADERS_MOST,
         }
     }
 
@@ -70,6 +78,7 @@ impl<A: Allocator + Copy> OpenValue<A> {
             octets,
             headers,
             counts: _,
+            room: _,
         } = self;
         octets.release(meter);
         headers.release(meter);
@@ -108,6 +117,7 @@ impl<A: Allocator + Copy> OpenValue<A> {
         ensures counted { IsCountedTo (level + 1) self.new.counts n self.new.headers }
         ensures headers { self.new.headers ≡ self.old.headers }
         ensures octets { self.new.octets ≡ self.old.octets }
+        ensures room { self.new.room ≡ self.old.room }
     {
         let most = match level.checked_sub(1) {
             None => self.headers.len() as u32,
@@ -130,6 +140,7 @@ impl<A: Allocator + Copy> OpenValue<A> {
         ensures size { result ≡ counted_length self.new.counts n self.new.headers }
         ensures headers { self.new.headers ≡ self.old.headers }
         ensures octets { self.new.octets ≡ self.old.octets }
+        ensures room { self.new.room ≡ self.old.room }
     {
         if self.headers.len() == 0 {
             return n;
@@ -143,14 +154,31 @@ impl<A: Allocator + Copy> OpenValue<A> {
     // No more headers are counted than there are.
     fn cut(&mut self)
         requires few { length self.old.headers ≤ 2 ^ 31 }
+        requires descend { (b c : ℕ) → b < c
+            → slice_index self.old.counts c ≤ slice_index self.old.counts b }
         ensures counts { self.new.counts ≡ cut (length self.old.headers) self.old.counts }
         ensures headers { self.new.headers ≡ self.old.headers }
         ensures octets { self.new.octets ≡ self.old.octets }
+        ensures room { self.new.room ≡ self.old.room }
     {
         let total = self.headers.len() as u32;
+        // The first is the highest, and mostly it is low enough.
+        if self.counts[0] <= total {
+            return;
+        }
         for count in &mut self.counts {
             *count = (*count).min(total);
         }
+    }
+
+    // How many headers may be late beside those of open containers.
+    fn most_late(&self, limits: Limits) -> usize
+        requires checked { AreChecked limits }
+        requires few { length self.now.headers ≤ 2 * limits.depth }
+        ensures { length self.now.headers + 2 * result ≤ 2 * limits.depth }
+    {
+        let share = 2 * limits.depth as usize - self.headers.len();
+        MOST_LATE.min(share / 2)
     }
 
     // Puts the innermost header in, if any is missing.
@@ -158,7 +186,7 @@ impl<A: Allocator + Copy> OpenValue<A> {
         requires can_step { CanStep limits self.old meter.old }
         requires open { IsOpen limits self.old }
         ensures octets { OnOk result
-            (self.new.octets ≡ innermost_in self.old.octets self.old.headers) }
+            (self.new.octets.all ≡ innermost_in self.old.octets.all self.old.headers) }
         ensures headers { OnOk result (self.new.headers ≡ drop 1 self.old.headers) }
         ensures open { OnOk result (IsOpen limits self.new) }
         ensures stepped { Stepped limits self.old self.new meter.old meter.new (fault_of result) }
@@ -167,13 +195,18 @@ impl<A: Allocator + Copy> OpenValue<A> {
             return Ok(());
         };
         let place = innermost.place as usize;
-        let octets = header(
-            innermost.code,
-            (self.octets.as_slice().len() - place) as u64,
-        );
-        self.octets.insert_slice(meter, place, octets.as_slice())?;
-        self.cut();
-        Ok(())
+        let most = self.most_late(limits);
+        match self.octets.head(meter, most, place, innermost.code) {
+            Ok(()) => {
+                self.cut();
+                self.room = room_of(limits, self.headers.len() + self.octets.late());
+                Ok(())
+            }
+            Err(fault) => {
+                self.room = room_of(limits, self.headers.len() + self.octets.late());
+                Err(fault)
+            }
+        }
     }
 
     /// Closes the innermost container: its header goes in, and its wrapper's.
@@ -181,7 +214,7 @@ impl<A: Allocator + Copy> OpenValue<A> {
         requires can_step { CanStep limits self.old meter.old }
         requires open { IsOpen limits self.old }
         ensures octets { OnOk result
-            (self.new.octets ≡ closed_in self.old.octets self.old.headers) }
+            (self.new.octets.all ≡ closed_in self.old.octets.all self.old.headers) }
         ensures headers { OnOk result (self.new.headers ≡ headers_around self.old.headers) }
         ensures open { OnOk result (IsOpen limits self.new) }
         ensures stepped { Stepped limits self.old self.new meter.old meter.new (fault_of result) }
@@ -207,11 +240,11 @@ impl<A: Allocator + Copy> OpenValue<A> {
         requires can_step { CanStep limits self.old meter.old }
         requires open { IsOpenTo self.old place }
         ensures octets { result ≡ Ok true
-            → self.new.octets ≡ whole_at place self.old.octets (both_octets scalar.now) }
+            → self.new.octets.all ≡ whole_at place self.old.octets.all (both_octets scalar.now) }
         ensures headers { self.new.headers ≡ self.old.headers }
         ensures open { result ≡ Ok true → IsOpen limits self.new }
         ensures over { result ≡ Ok false → limits.value
-            < size_of (whole_at place self.old.octets (both_octets scalar.now))
+            < size_of (whole_at place self.old.octets.all (both_octets scalar.now))
             self.old.headers }
         ensures stepped { Stepped limits self.old self.new meter.old meter.new (fault_of result) }
     {
@@ -219,7 +252,7 @@ impl<A: Allocator + Copy> OpenValue<A> {
         if length > limits.value {
             return Ok(false);
         }
-        let octets = self.octets.as_slice().len();
+        let octets = self.octets.len();
         let front = wrapper((octets - place) as u64, length);
         if self.closed_size(octets as u64 + front.len() as u64 + length) > limits.value {
             return Ok(false);
@@ -242,24 +275,83 @@ impl<A: Allocator + Copy> OpenValue<A> {
         requires can_step { CanStep limits self.old meter.old }
         requires open { IsOpenTo self.old place }
         requires deep { length self.old.headers + 2 ≤ 2 * limits.depth }
-        ensures octets { result ≡ Ok true → self.new.octets ≡ begun_at place self.old.octets }
+        ensures octets { result ≡ Ok true → self.new.octets.all
+            ≡ begun_at place self.old.octets.all }
         ensures headers { result ≡ Ok true
-            → self.new.headers ≡ begun_headers place self.old.octets kind self.old.headers }
+            → self.new.headers ≡ begun_headers place self.old.octets.all kind self.old.headers }
         ensures open { result ≡ Ok true → IsOpen limits self.new }
         ensures over { result ≡ Ok false → limits.value
-            < size_of (begun_at place self.old.octets)
-            (begun_headers place self.old.octets kind self.old.headers) }
+            < size_of (begun_at place self.old.octets.all)
+            (begun_headers place self.old.octets.all kind self.old.headers) }
+        ensures stepped { Stepped limits self.old self.new meter.old meter.new (fault_of result) }
+    {
+        if let Err(fault) = self.spare(meter, limits) {
+            return Err(fault);
+        }
+        self.begin_spared(meter, limits, place, kind)
+    }
+
+    // Puts the late headers in where two more headers would cost too much beside them.
+    fn spare(&mut self, meter: &mut Meter<A>, limits: Limits) -> Result<(), Fault>
+        requires can_step { CanStep limits self.old meter.old }
+        requires deep { length self.old.headers + 2 ≤ 2 * limits.depth }
+        ensures octets { self.new.octets.all ≡ self.old.octets.all }
+        ensures headers { self.new.headers ≡ self.old.headers }
+        ensures counts { self.new.counts ≡ self.old.counts }
+        ensures spared { OnOk result
+            (length self.new.headers + 2 * self.new.octets.late + 2 ≤ 2 * limits.depth) }
+        ensures stepped { Stepped limits self.old self.new meter.old meter.new (fault_of result) }
+    {
+        if self.spares(limits, 2) {
+            return Ok(());
+        }
+        self.octets.settle(meter)
+    }
+
+    // Whether so many headers more cost no more than they may, beside those that are late.
+    #[inline(always)]
+    fn spares(&self, limits: Limits, headers: usize) -> bool
+        requires within { IsWithin limits self.now }
+        requires checked { AreChecked limits }
+        requires few { headers ≤ 2 }
+        ensures { result ≡ true → length self.now.headers + 2 * self.now.octets.late + headers
+            ≤ 2 * limits.depth }
+    {
+        self.headers.len() + 2 * self.octets.late() + headers <= 2 * limits.depth as usize
+    }
+
+    // Begins a container for the headers of which there is a share.
+    fn begin_spared(
+        &mut self,
+        meter: &mut Meter<A>,
+        limits: Limits,
+        place: usize,
+        kind: Kind,
+    ) -> Result<bool, Fault>
+        requires can_step { CanStep limits self.old meter.old }
+        requires open { IsOpenTo self.old place }
+        requires spared { length self.old.headers + 2 * self.old.octets.late + 2
+            ≤ 2 * limits.depth }
+        ensures octets { result ≡ Ok true → self.new.octets.all
+            ≡ begun_at place self.old.octets.all }
+        ensures headers { result ≡ Ok true
+            → self.new.headers ≡ begun_headers place self.old.octets.all kind self.old.headers }
+        ensures open { result ≡ Ok true → IsOpen limits self.new }
+        ensures over { result ≡ Ok false → limits.value
+            < size_of (begun_at place self.old.octets.all)
+            (begun_headers place self.old.octets.all kind self.old.headers) }
         ensures stepped { Stepped limits self.old self.new meter.old meter.new (fault_of result) }
     {
         if !self.begin_wrapper(meter, limits, place)? {
             return Ok(false);
         }
         let header = HeaderPlace {
-            place: self.octets.as_slice().len() as u32,
+            place: self.octets.len() as u32,
             code: type_code(kind),
         };
         self.headers.push(meter, header)?;
-        let octets = self.octets.as_slice().len() as u64;
+        self.room = room_of(limits, self.headers.len() + self.octets.late());
+        let octets = self.octets.len() as u64;
         if self.closed_size(octets) > limits.value {
             return Ok(false);
         }
@@ -278,15 +370,17 @@ impl<A: Allocator + Copy> OpenValue<A> {
         requires can_step { CanStep limits self.old meter.old }
         requires may_follow { MayFollow limits self.old front.ids (raw_head head) }
         ensures octets { (ids : UserSymbol → ℕ) → front.name ≡ head_name ids (user_head head.entry)
-            → result ≡ Ok true → self.new.octets ≡ moved_octets front.ids self.old.octets
-            self.old.headers ids (user_head head.entry) }
+            → result ≡ Ok true → self.new.octets.all ≡ moved_octets front.ids
+            self.old.octets.all self.old.headers ids (user_head head.entry) }
         ensures headers { result ≡ Ok true → self.new.headers
-            ≡ moved_headers front.ids self.old.octets self.old.headers (user_head head.entry) }
+            ≡ moved_headers front.ids self.old.octets.all self.old.headers (user_head head.entry) }
         ensures open { result ≡ Ok true → IsOpen limits self.new }
         ensures over { (ids : UserSymbol → ℕ) → front.name ≡ head_name ids (user_head head.entry)
             → result ≡ Ok false → limits.value < size_of
-            (moved_octets front.ids self.old.octets self.old.headers ids (user_head head.entry))
-            (moved_headers front.ids self.old.octets self.old.headers (user_head head.entry)) }
+            (moved_octets front.ids self.old.octets.all self.old.headers ids
+            (user_head head.entry))
+            (moved_headers front.ids self.old.octets.all self.old.headers
+            (user_head head.entry)) }
         ensures stepped { Stepped limits self.old self.new meter.old meter.new (fault_of result) }
     {
         match head {
@@ -312,14 +406,30 @@ impl<A: Allocator + Copy> OpenValue<A> {
         requires checked { AreChecked limits }
         requires within { IsWithin limits self.now }
         requires more { headers ≤ 2 }
-        ensures { result ≡ true → length self.now.octets
+        ensures fits { result ≡ true → length self.now.octets.all
             + (octets + 6 * (length self.now.headers + headers)) ≤ limits.value }
+        ensures room { result ≡ true → 2 ^ 20 ≤ self.now.room }
     {
         if octets as u64 > limits.value {
             return false;
         }
-        let headers = 6 * (self.headers.len() + headers) as u64;
-        self.octets.as_slice().len() as u64 + octets as u64 + headers <= limits.value
+        self.has_room(limits, octets, headers)
+    }
+
+    /// Whether few octets and headers more surely do.
+    #[inline(always)]
+    pub fn has_room(&self, limits: Limits, octets: usize, headers: usize) -> bool
+        requires checked { AreChecked limits }
+        requires within { IsWithin limits self.now }
+        requires few { octets ≤ 2 ^ 32 }
+        requires more { headers ≤ 2 }
+        ensures fits { result ≡ true → length self.now.octets.all
+            + (octets + 6 * (length self.now.headers + headers)) ≤ limits.value }
+        ensures room { result ≡ true → 2 ^ 20 ≤ self.now.room }
+    {
+        let _limits = limits;
+        let there = self.octets.there() as u64;
+        there + octets as u64 + (HEADERS_MOST + 6 * headers as u64) <= self.room
     }
 
     /// Adds octets behind the others, where there is room for them and the value surely keeps within
@@ -361,6 +471,24 @@ impl<A: Allocator + Copy> OpenValue<A> {
         if name < 128 {
             return self.begin_if_room(meter, *limits, &[128 + name as u8], kind);
         }
+        self.begin_after_long(meter, limits, name, kind)
+    }
+
+    // Begins such a container after a long id.
+    #[inline(never)]
+    fn begin_after_long(
+        &mut self,
+        meter: &mut Meter<A>,
+        limits: &Limits,
+        name: u32,
+        kind: Kind,
+    ) -> bool
+        requires can_add { CanAdd limits.now self.old meter.old }
+        requires deep { length self.old.headers + 1 ≤ 2 * limits.now.depth }
+        requires some { name ≢ 0 }
+        ensures { Begins limits.now (name_octets name) kind
+            self.old self.new meter.old meter.new result }
+    {
         let front = var_uint_write(u64::from(name));
         self.begin_if_room(meter, *limits, front.as_slice(), kind)
     }
@@ -382,12 +510,21 @@ impl<A: Allocator + Copy> OpenValue<A> {
         if !self.surely_fits(limits, front.len(), 1) {
             return false;
         }
+        if self.octets.is_late() && !self.spares(limits, 1) {
+            return false;
+        }
         let header = HeaderPlace {
-            place: (self.octets.as_slice().len() + front.len()) as u32,
+            place: (self.octets.len() + front.len()) as u32,
             code: type_code(kind),
         };
-        self.headers
-            .push_with(&mut self.octets, meter, header, front)
+        if !self
+            .octets
+            .extend_with(&mut self.headers, meter, header, front)
+        {
+            return false;
+        }
+        self.room -= 6;
+        true
     }
 
     /// Closes the innermost container, where it has no wrapper, stands in another, is not long, and
@@ -397,7 +534,7 @@ impl<A: Allocator + Copy> OpenValue<A> {
         requires can_step { CanStep limits self.old meter.old }
         requires open { IsOpen limits self.old }
         ensures octets { result ≡ true
-            → self.new.octets ≡ closed_in self.old.octets self.old.headers }
+            → self.new.octets.all ≡ closed_in self.old.octets.all self.old.headers }
         ensures headers { result ≡ true → self.new.headers ≡ headers_around self.old.headers }
         ensures inside { result ≡ true → (0 < length self.old.headers)
             × (0 < length self.new.headers) }
@@ -409,15 +546,15 @@ impl<A: Allocator + Copy> OpenValue<A> {
             return false;
         };
         let place = innermost.place as usize;
-        let inside = self.octets.as_slice().len() - place;
-        if around.code == WRAPPER || inside >= LONG {
+        if around.code == WRAPPER {
             return false;
         }
-        if !insert_header(&mut self.octets, meter, innermost.code, place, inside) {
+        if !self.octets.head_if_room(meter, place, innermost.code) {
             return false;
         }
         let _innermost = self.headers.pop(meter);
         self.cut();
+        self.room += 6;
         true
     }
 
@@ -426,13 +563,14 @@ impl<A: Allocator + Copy> OpenValue<A> {
     pub fn clear(&mut self, meter: &mut Meter<A>, limits: Limits)
         requires can_step { CanStep limits self.old meter.old }
         requires one { length self.old.headers ≡ 1 }
-        ensures nothing { (self.new.octets ≡ []) × (self.new.headers ≡ []) }
+        ensures nothing { (self.new.octets ≡ nothing) × (self.new.headers ≡ []) }
         ensures open { IsOpen limits self.new }
         ensures stepped { Stepped limits self.old self.new meter.old meter.new None }
     {
         let _last = self.headers.pop(meter);
         self.octets.clear(meter);
         self.counts = [0; 5];
+        self.room = limits.value + HEADERS_MOST;
     }
 
     // Puts the length of annotations before their ids, where there are any, which begin at a place.
@@ -444,15 +582,19 @@ impl<A: Allocator + Copy> OpenValue<A> {
     ) -> Result<bool, Fault>
         requires can_step { CanStep limits self.old meter.old }
         requires open { IsOpenTo self.old place }
-        requires deep { length self.old.headers + 2 ≤ 2 * limits.depth }
-        ensures octets { result ≡ Ok true → self.new.octets ≡ begun_at place self.old.octets }
+        requires spared { length self.old.headers + 2 * self.old.octets.late + 2
+            ≤ 2 * limits.depth }
+        ensures octets { result ≡ Ok true → self.new.octets.all
+            ≡ begun_at place self.old.octets.all }
         ensures headers { result ≡ Ok true → self.new.headers
-            ≡ wrapper_headers (drop place self.old.octets) place ++ self.old.headers }
+            ≡ wrapper_headers (drop place self.old.octets.all) place ++ self.old.headers }
         ensures counts { self.new.counts ≡ self.old.counts }
-        ensures over { result ≡ Ok false → limits.value < length (begun_at place self.old.octets) }
+        ensures late { self.new.octets.late ≤ self.old.octets.late }
+        ensures over { result ≡ Ok false
+            → limits.value < length (begun_at place self.old.octets.all) }
         ensures stepped { Stepped limits self.old self.new meter.old meter.new (fault_of result) }
     {
-        let octets = self.octets.as_slice().len();
+        let octets = self.octets.len();
         if octets == place {
             return Ok(true);
         }
@@ -464,98 +606,58 @@ impl<A: Allocator + Copy> OpenValue<A> {
             place: place as u32,
             code: WRAPPER,
         };
-        self.octets.insert_slice(meter, place, length.as_slice())?;
+        self.octets.insert(meter, place, length.as_slice())?;
         self.headers.push(meter, header)?;
+        self.room = room_of(limits, self.headers.len() + self.octets.late());
         Ok(true)
     }
 }
 
-// Puts the header of a body of so many octets in at a place, where there is room for it. Else it
-// answers false, and nothing is changed.
-#[inline(always)]
-fn insert_header<A: Allocator + Copy>(
-    octets: &mut Buf<A>,
-    meter: &mut Meter<A>,
-    code: u8,
-    place: usize,
-    inside: usize,
-) -> bool
-    requires code { code < 16 }
-    requires within { place ≤ length octets.old }
-    requires short { inside < 2 ^ 63 }
-    requires room { meter.old.held + 10 < 2 ^ 63 }
-    ensures octets { result ≡ true → octets.new
-        ≡ take place octets.old ++ (header code inside ++ drop place octets.old) }
-    ensures cost { result ≡ true → Grows meter.old meter.new (length (header code inside)) }
-    ensures declines { result ≡ false → (octets.new ≡ octets.old) × (meter.new ≡ meter.old) }
+// The room beside so many headers that are missing.
+fn room_of(limits: Limits, headers: usize) -> u64
+    requires checked { AreChecked limits }
+    requires few { headers ≤ 2 * limits.depth }
+    ensures { result + 6 * headers ≡ limits.value + 2 ^ 20 }
 {
-    if inside < 14 {
-        let one = [16 * code + inside as u8];
-        return octets.insert_if_room(meter, place, &one);
-    }
-    if inside < 128 {
-        let two = [16 * code + 14, 128 + inside as u8];
-        return octets.insert_if_room(meter, place, &two);
-    }
-    insert_long_header(octets, meter, code, place, inside)
-}
-
-// Puts any header of a body of so many octets in at a place, where there is room for it.
-#[inline(never)]
-fn insert_long_header<A: Allocator + Copy>(
-    octets: &mut Buf<A>,
-    meter: &mut Meter<A>,
-    code: u8,
-    place: usize,
-    inside: usize,
-) -> bool
-    requires code { code < 16 }
-    requires within { place ≤ length octets.old }
-    requires short { inside < 2 ^ 63 }
-    requires room { meter.old.held + 10 < 2 ^ 63 }
-    ensures octets { result ≡ true → octets.new
-        ≡ take place octets.old ++ (header code inside ++ drop place octets.old) }
-    ensures cost { result ≡ true → Grows meter.old meter.new (length (header code inside)) }
-    ensures declines { result ≡ false → (octets.new ≡ octets.old) × (meter.new ≡ meter.old) }
-{
-    let all = header(code, inside as u64);
-    octets.insert_if_room(meter, place, all.as_slice())
+    limits.value + HEADERS_MOST - 6 * headers as u64
 }
 
 // Puts octets in at a place, of which there are mostly none.
 #[inline(always)]
 fn insert_some<A: Allocator + Copy>(
-    octets: &mut Buf<A>,
+    octets: &mut HeldOctets<A>,
     meter: &mut Meter<A>,
     place: usize,
     more: &[u8],
 ) -> Result<(), Fault>
-    requires within { place ≤ length octets.old }
-    requires room { meter.old.held + length more.now < 2 ^ 63 }
+    requires within { place ≤ length octets.old.all }
+    requires short { length octets.old.all ≤ 2 ^ 32 }
+    requires room { meter.old.held + (length octets.old.all + length more.now) < 2 ^ 63 }
+    requires held { octets.old.cost ≤ meter.old.held }
     requires countable { meter.old.refused < 2 ^ 64 - 1 }
-    ensures ok { OnOk result (octets.new
-        ≡ take place octets.old ++ (more.now ++ drop place octets.old)) }
-    ensures cost { OnOk result (Raises meter.old meter.new (length more.now)) }
-    ensures memory { IfErr result (λ e. e ≡ Fault.Memory) }
-    ensures err { OnErr result (octets.new ≡ octets.old) }
-    ensures refused { OnErr result (IsRefused meter.old meter.new) }
+    requires costed { IsCosted octets.old }
+    ensures ok { OnOk result (octets.new.all ≡ put_at place more.now octets.old.all) }
+    ensures err { OnErr result (octets.new.all ≡ octets.old.all) }
+    ensures late { octets.new.late ≤ octets.old.late }
+    ensures moved { Moved octets.old octets.new meter.old meter.new
+        (length octets.old.all + length more.now + 16 * octets.old.late) (fault_of result) }
 {
     if more.is_empty() {
         return Ok(());
     }
-    octets.insert_slice(meter, place, more)
+    octets.insert(meter, place, more)
 }
 
 // Puts octets behind others, if there are any.
 #[inline(always)]
 fn extend_some<A: Allocator + Copy>(
-    octets: &mut Buf<A>,
+    octets: &mut HeldOctets<A>,
     meter: &mut Meter<A>,
     more: &[u8],
 ) -> Result<(), Fault>
     requires room { meter.old.held + length more.now < 2 ^ 63 }
     requires countable { meter.old.refused < 2 ^ 64 - 1 }
-    ensures ok { OnOk result (octets.new ≡ octets.old ++ more.now) }
+    ensures ok { OnOk result (octets.new ≡ appended octets.old more.now) }
     ensures cost { OnOk result (Raises meter.old meter.new (length more.now)) }
     ensures memory { IfErr result (λ e. e ≡ Fault.Memory) }
     ensures err { OnErr result (octets.new ≡ octets.old) }

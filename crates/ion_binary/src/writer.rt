@@ -1,18 +1,17 @@
 //! The writer of binary.
-ghost use Rattle.std.specs.Prelude.{◌≡◌, ℕ, ◌+◌, ◌^◌, ◌<◌, ◌≤◌, true, false, length, [], None, Some, Ok, Err, OnOk, OnErr, IfErr, ◌≢◌};
+ghost use Rattle.std.specs.Prelude.{◌≡◌, ℕ, ◌+◌, ◌<◌, ◌≤◌, true, false, [], None, Some, Ok, Err, OnOk, OnErr, IfErr, ◌≢◌};
 ghost use Rattle.ion_meter.specs.Counts.{Shrinks};
 ghost use Rattle.ion_meter.specs.Limits.{AreChecked};
 ghost use Rattle.ion_meter.specs.Sinks.{IsPut};
 ghost use Rattle.ion_meter.specs.declared.fault.Fault.{Fault};
-ghost use Rattle.ion_meter.specs.declared.fault.Fault.TheVariants.{Memory, Refused, WriteFault};
+ghost use Rattle.ion_meter.specs.declared.fault.Fault.TheVariants.{Refused, WriteFault};
 ghost use Rattle.ion_meter.specs.declared.fault.Reason.{Reason};
 ghost use Rattle.ion_value.specs.Items.{item_of, raw_head};
 ghost use Rattle.ion_value.specs.Shares.{WriteCauses, fault_of};
-ghost use Rattle.ion_value.specs.Value.{end};
 ghost use Rattle.ion_binary.specs.Canonical.{is_over, marker_if};
-ghost use Rattle.ion_binary.specs.Held.{closed_in, headers_around, texts_forgotten, value_held, value_put};
+ghost use Rattle.ion_binary.specs.Held.{texts_forgotten, value_held, value_put};
 ghost use Rattle.ion_binary.specs.Opening.{IsOpen, MayCome};
-ghost use Rattle.ion_binary.specs.Writer.{CanPut, CanTake, ComesAt, Follows, IsNew, IsSound, PutsOctets, Stands, Taken, added, adds_at, failed_of, held_closed, held_in, item_refusal, limits_of, most_of, own_of};
+ghost use Rattle.ion_binary.specs.Writer.{CanPut, CanTake, ComesAt, Follows, IsNew, IsSound, PutsOctets, Stands, Taken, added, adds_at, failed_of, held_in, item_refusal, limits_of, most_of, own_of};
 ghost use Rattle.ion_binary.specs.Writing.{Written, binary_adds, binary_puts, binary_refusal};
 ghost use Rattle.ion_binary.specs.ItemPuts.{binary_grows, binary_silent};
 ghost use Rattle.ion_binary.specs.WriterWithin.{binary-within};
@@ -25,9 +24,7 @@ mod whole;
 
 use crate::declaration::{FIRST_ID, put_declaration};
 use crate::front::put_front;
-use crate::open_value::{LONG, OpenValue};
-use crate::opening::WRAPPER;
-use crate::put::put;
+use crate::open_value::OpenValue;
 use ion_meter::device::Output;
 use ion_meter::fault::{Fault, Reason};
 use ion_meter::limits::Limits;
@@ -61,9 +58,6 @@ pub struct BinWriter<A: Allocator + Copy> {
     declared: u32,
     due: bool,
     open_value: OpenValue<A>,
-    // How many of the innermost headers are of containers that have ended: they go in together, before
-    // the next item that is no end.
-    ended: usize,
     failed: Option<Fault>,
 }
 
@@ -80,8 +74,7 @@ impl<A: Allocator + Copy> BinWriter<A> {
             symbols: OutSymbols::new(meter, limits),
             declared: 0,
             due: false,
-            open_value: OpenValue::new(meter),
-            ended: 0,
+            open_value: OpenValue::new(meter, limits),
             failed: None,
         }
     }
@@ -97,7 +90,6 @@ impl<A: Allocator + Copy> BinWriter<A> {
             declared: _,
             due: _,
             open_value,
-            ended: _,
             failed: _,
         } = self;
         symbols.release(meter);
@@ -111,7 +103,6 @@ impl<A: Allocator + Copy> BinWriter<A> {
             self.old.open_value.headers
             (is_over self.old.limits.symbols self.old.symbols.texts) }
         ensures open_value { self.new.open_value ≡ self.old.open_value }
-        ensures ended { self.new.ended ≡ self.old.ended }
         ensures can_take { CanTake self.new meter.new }
         ensures taken { Taken self.old self.new meter.old meter.new None }
     {
@@ -142,7 +133,6 @@ impl<A: Allocator + Copy> BinWriter<A> {
             → item_refusal self.old.limits (held_in self.old) (item_of N.text item.now)
             ≡ Some (r, p) }
         ensures no_device { (n : ℕ) → WriteCauses (fault_of result) n n }
-        ensures ended { self.new.ended ≡ self.old.ended }
         ensures taken { Taken self.old self.new meter.old meter.new (fault_of result) }
     {
         let front = match put_front(
@@ -171,7 +161,7 @@ impl<A: Allocator + Copy> BinWriter<A> {
         requires sound { IsSound self.now }
         requires whole { self.now.open_value.headers ≡ [] }
         ensures puts { PutsOctets O.Output sink.old sink.new result
-            (value_put (held_in self.now) [] self.now.open_value.octets) }
+            (value_put (held_in self.now) [] self.now.open_value.octets.all) }
         ensures cause { IfErr result (λ fault. fault ≡ WriteFault) }
         ensures causes { sink.old.fault ≡ None → WriteCauses (fault_of result)
             (O.failure_count sink.old.device) (O.failure_count sink.new.device) }
@@ -183,7 +173,7 @@ impl<A: Allocator + Copy> BinWriter<A> {
         if let Err(fault) = put_declaration(sink, &texts) {
             return Err(fault);
         }
-        put(sink, self.open_value.octets.as_slice())
+        self.open_value.octets.put(sink)
     }
 
     // Puts the value where it is whole.
@@ -195,11 +185,10 @@ impl<A: Allocator + Copy> BinWriter<A> {
         requires can_put { CanPut self.old meter.old }
         requires open { IsOpen self.old.limits self.old.open_value }
         ensures held { OnOk result (held_in self.new ≡ value_held (held_in self.old)
-            self.old.open_value.headers self.old.open_value.octets) }
+            self.old.open_value.headers self.old.open_value.octets.all) }
         ensures open { OnOk result (IsOpen self.new.limits self.new.open_value) }
-        ensures ended { self.new.ended ≡ self.old.ended }
         ensures puts { PutsOctets O.Output sink.old sink.new result (value_put (held_in self.old)
-            self.old.open_value.headers self.old.open_value.octets) }
+            self.old.open_value.headers self.old.open_value.octets.all) }
         ensures cause { IfErr result (λ fault. fault ≡ WriteFault) }
         ensures causes { sink.old.fault ≡ None → WriteCauses (fault_of result)
             (O.failure_count sink.old.device) (O.failure_count sink.new.device) }
@@ -218,78 +207,7 @@ impl<A: Allocator + Copy> BinWriter<A> {
         Ok(())
     }
 
-    // Whether a head is an end that should wait: others do, or so much has to be moved for its header
-    // that it should move once with theirs.
-    #[inline(always)]
-    fn may_wait(&self, head: Head<'_>) -> bool
-        ensures { result ≡ true → raw_head head.entry ≡ end }
-    {
-        if !matches!(head, Head::End) {
-            return false;
-        }
-        let Some(innermost) = self.open_value.headers.innermost() else {
-            return false;
-        };
-        let octets = self.open_value.octets.as_slice().len();
-        self.ended > 0 || octets.saturating_sub(innermost.place as usize) >= LONG
-    }
-
-    // Lets the end of a container wait that stands in another. False where it stands in none.
-    #[inline(never)]
-    fn end_later(&mut self) -> bool
-        requires few { length self.old.open_value.headers ≤ 2 ^ 31 }
-        ensures octets { result ≡ true → (held_closed self.new).octets
-            ≡ closed_in (held_closed self.old).octets (held_closed self.old).headers }
-        ensures headers { result ≡ true → (held_closed self.new).headers
-            ≡ headers_around (held_closed self.old).headers }
-        ensures inside { result ≡ true → self.new.ended < length self.old.open_value.headers }
-        ensures rest { self.new ≡ record self.old { ended = self.new.ended } }
-        ensures declines { result ≡ false → self.new ≡ self.old }
-    {
-        let headers = &self.open_value.headers;
-        let Some(_innermost) = headers.nth(self.ended) else {
-            return false;
-        };
-        let Some(around) = headers.nth(self.ended + 1) else {
-            return false;
-        };
-        let ended = if around.code == WRAPPER {
-            self.ended + 2
-        } else {
-            self.ended + 1
-        };
-        if ended >= headers.len() {
-            return false;
-        }
-        self.ended = ended;
-        true
-    }
-
-    // Puts the headers in that wait.
-    fn put_ended(&mut self, meter: &mut Meter<A>) -> Result<(), Fault>
-        requires can_take { CanTake self.old meter.old }
-        requires open { IsOpen self.old.limits self.old.open_value }
-        requires few { self.old.ended ≤ length self.old.open_value.headers }
-        ensures held { OnOk result (held_in self.new ≡ held_closed self.old) }
-        ensures open { OnOk result (IsOpen self.new.limits self.new.open_value) }
-        ensures ended { OnOk result (self.new.ended ≡ 0) }
-        ensures can_take { OnOk result (CanTake self.new meter.new) }
-        ensures memory { IfErr result (λ fault. fault ≡ Memory) }
-        ensures taken { Taken self.old self.new meter.old meter.new (fault_of result) }
-    {
-        if self.ended == 0 {
-            return Ok(());
-        }
-        match self.open_value.put_ended(meter, self.limits, self.ended) {
-            Ok(()) => {
-                self.ended = 0;
-                Ok(())
-            }
-            Err(fault) => Err(fault),
-        }
-    }
-
-    // Takes an item: an end waits, or what waits goes in before it.
+    // Takes an item, and puts the value where it is whole.
     fn step<O: Output, N: Names>(
         &mut self,
         meter: &mut Meter<A>,
@@ -308,42 +226,8 @@ impl<A: Allocator + Copy> BinWriter<A> {
             (O.failure_count sink.old.device) (O.failure_count sink.new.device) }
         ensures taken { Taken self.old self.new meter.old meter.new (fault_of result) }
     {
-        let head = item.head();
-        if self.may_wait(head) {
-            if self.end_later() {
-                return Ok(());
-            }
-        }
-        if let Err(fault) = self.put_ended(meter) {
-            return Err(fault);
-        }
-        self.take(meter, sink, item, head)
-    }
-
-    // Takes an item of this head before which no end waits, and puts the value where it is whole.
-    fn take<O: Output, N: Names>(
-        &mut self,
-        meter: &mut Meter<A>,
-        sink: &mut Sink<O, A>,
-        item: &Item<'_, N>,
-        head: Head<'_>,
-    ) -> Result<(), Fault>
-        requires can_take { CanTake self.old meter.old }
-        requires none { self.old.ended ≡ 0 }
-        requires head { raw_head head ≡ (item_of N.text item.now).head }
-        requires comes { (s : Written) × ComesAt self.old s (item_of N.text item.now) }
-        ensures follows { (s : Written) → ComesAt self.old s (item_of N.text item.now)
-            → Follows self.old self.new s (item_of N.text item.now) result }
-        ensures puts { (s : Written) → ComesAt self.old s (item_of N.text item.now)
-            → PutsOctets O.Output sink.old sink.new result
-            (adds_at self.old.limits s (item_of N.text item.now)) }
-        ensures still { result ≢ Err WriteFault → OnErr result (sink.new ≡ sink.old) }
-        ensures causes { sink.old.fault ≡ None → WriteCauses (fault_of result)
-            (O.failure_count sink.old.device) (O.failure_count sink.new.device) }
-        ensures taken { Taken self.old self.new meter.old meter.new (fault_of result) }
-    {
         self.forget(meter);
-        if let Err(fault) = self.add(meter, item, head) {
+        if let Err(fault) = self.add(meter, item, item.head()) {
             return Err(fault);
         }
         self.put_out(meter, sink)
@@ -409,10 +293,6 @@ impl<O: Output, A: Allocator + Copy> ValueWriter<O, A> for BinWriter<A> {
             if self.open_value.headers.len() == 1 {
                 return self.end_whole(meter, sink, &single);
             }
-        }
-        let waits = self.ended > 0;
-        if waits {
-            return false;
         }
         self.add_plain(meter, sink, single, item.second)
     }

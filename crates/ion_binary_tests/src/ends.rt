@@ -114,6 +114,36 @@ const ROWS: &[Row] = &[
         "BE 65 E3 BE 3E C9 BE 17 BB 8E 17 B8 SHORT 8E 27 88 LONG EE 27 93 81 84 BE 27 8E BE 27 8B \
          8E 27 88 LONG 11",
     ),
+    // Long and short ones stand beside each other.
+    (
+        16_031,
+        &[
+            LIST, LIST, TEXT, END, LIST, TRUE, END, LIST, TEXT, END, LIST, END, LIST, LIST, FEW,
+            END, FEW, END, TRUE, END,
+        ],
+        "BE 7D 9C BE 27 8B 8E 27 88 LONG B1 11 BE 27 8B 8E 27 88 LONG B0 BE 2E F9 BE 17 BB 8E 17 B8 SHORT \
+         8E 17 B8 SHORT 11",
+    ),
+    // Those with wrappers do, and a member comes behind each.
+    (
+        15_054,
+        &[
+            LIST, NAMED, NAMED, TEXT, END, TRUE, END, NAMED_TRUE, NAMED, TEXT, END, LIST, NAMED,
+            TRUE, END, LIST, TEXT, END, TRUE, END, TRUE, END,
+        ],
+        "BE 75 CB EE 27 99 81 84 BE 27 94 EE 27 90 81 84 BE 27 8B 8E 27 88 LONG 11 E3 81 84 11 EE 27 90 81 84 \
+         BE 27 8B 8E 27 88 LONG BE 27 94 E4 81 84 B1 11 BE 27 8B 8E 27 88 LONG 11 11",
+    ),
+    // More are long than headers may be late at a depth of 4, inside of two others.
+    (
+        35_056,
+        &[
+            LIST, LIST, LIST, LIST, TEXT, END, LIST, TEXT, END, LIST, TEXT, END, LIST, TEXT, END,
+            TRUE, END, LIST, TEXT, END, LIST, TEXT, END, LIST, TEXT, END, END, TRUE, END,
+        ],
+        "BE 02 11 EC BE 02 11 E7 BE 01 1C B9 BE 27 8B 8E 27 88 LONG BE 27 8B 8E 27 88 LONG BE 27 8B 8E 27 88 LONG \
+         BE 27 8B 8E 27 88 LONG 11 BE 27 8B 8E 27 88 LONG BE 27 8B 8E 27 88 LONG BE 27 8B 8E 27 88 LONG 11",
+    ),
 ];
 
 // The octets of a row.
@@ -129,16 +159,21 @@ fn row_octets(rt: &impl Abort, alloc: Global, text: &str) -> Vec<u8> {
     octets
 }
 
-// Asserts what is written of a row, where a value may have the length of the first, and that one octet
-// less is too few.
-fn expect_row(rt: &impl Abort, alloc: Global, row: &Row) {
+// Asserts what is written of a row at a depth, where a value may have the length of the first, and that
+// one octet less is too few.
+fn expect_row(rt: &impl Abort, alloc: Global, row: &Row, depth: u32) {
     let (value, steps, text) = *row;
-    let limits = Limits { value, ..LIMITS };
+    let limits = Limits {
+        value,
+        depth,
+        ..LIMITS
+    };
     let written = put(rt, alloc, limits, steps, Ok(()), Vec::new(alloc));
     let want = row_octets(rt, alloc, text);
     same(rt, written.as_slice(), want.as_slice());
     let limits = Limits {
         value: value.saturating_sub(1),
+        depth,
         ..LIMITS
     };
     let over = Err(Fault::Refused(Reason::ValueLimit, 0));
@@ -149,6 +184,7 @@ fn expect_row(rt: &impl Abort, alloc: Global, row: &Row) {
 #[test]
 fn ends_in_a_row_are_written(rt: HostRuntime) {
     for row in ROWS {
-        expect_row(&rt, rt.alloc(), row);
+        expect_row(&rt, rt.alloc(), row, 64);
+        expect_row(&rt, rt.alloc(), row, 4);
     }
 }

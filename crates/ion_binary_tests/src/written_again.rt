@@ -388,11 +388,22 @@ fn first_unmet(rt: &impl Abort, alloc: Global, octets: &[u8]) -> u64 {
     panic!(rt; "each run met a refusal")
 }
 
+/// A list of a long list and an int, in another one.
+fn late_headers(rt: &impl Abort, alloc: Global) -> Vec<u8> {
+    let mut late = octets(rt, alloc, MARKER, "BE 27 93 BE 27 8F BE 27 8B 8E 27 88");
+    add(rt, &mut late, &[b'a'; 5_000]);
+    add_digits(rt, &mut late, "11 11");
+    late
+}
+
 // The first growth is refused, then the second alone, and so on until none is.
 #[test]
 fn each_growth_refused(rt: HostRuntime) {
-    let octets = octets(&rt, rt.alloc(), MARKER, PLAIN);
-    same(&rt, first_unmet(&rt, rt.alloc(), octets.as_slice()), 19);
+    let plain = octets(&rt, rt.alloc(), MARKER, PLAIN);
+    same(&rt, first_unmet(&rt, rt.alloc(), plain.as_slice()), 19);
+    // Headers that are late take a growth too.
+    let late = late_headers(&rt, rt.alloc());
+    holds(&rt, first_unmet(&rt, rt.alloc(), late.as_slice()) > 4);
 }
 
 /// The parts of a stream, and what is written when each was read.

@@ -207,7 +207,7 @@ impl<A: Allocator + Copy> OpenValue<A> {
         let Some(whole) = noted_front(front, size, name, note) else {
             return self.put_behind_long(meter, limits, name, note, front, body, size);
         };
-        if !self.surely_fits(*limits, 16, 0) {
+        if !self.has_room(*limits, 16, 0) {
             return false;
         }
         self.octets

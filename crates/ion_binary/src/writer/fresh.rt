@@ -138,8 +138,9 @@ impl<A: Allocator + Copy> BinWriter<A> {
             front: octets.front,
             rest: octets.rest,
         };
-        self.symbols
-            .give_next(&mut self.open_value.octets, meter, added)
+        self.open_value
+            .octets
+            .give_next(&mut self.symbols, meter, added)
     }
 
     // The text that is new, if one is and no other: that of the field, or where this has an id that of a

@@ -121,7 +121,9 @@ impl<A: Allocator + Copy> BinWriter<A> {
         if self.symbols.new_since(FIRST_ID).len() != self.declared as usize {
             return false;
         }
-        let octets = self.open_value.octets.as_slice();
+        let Some(octets) = self.open_value.octets.all() else {
+            return false;
+        };
         let before = header(outermost.code, octets.len() as u64);
         if sink.room() < before.len() + octets.len() {
             return false;

@@ -140,7 +140,10 @@ impl<A: Allocator + Copy> BinWriter<A> {
         if self.due || self.symbols.cost() > self.limits.symbols / 2 {
             return false;
         }
-        if self.open_value.headers.len() > 0 || !self.open_value.octets.as_slice().is_empty() {
+        let Some(octets) = self.open_value.octets.all() else {
+            return false;
+        };
+        if self.open_value.headers.len() > 0 || !octets.is_empty() {
             return false;
         }
         self.symbols.new_since(FIRST_ID).len() == self.declared as usize

@@ -4,6 +4,7 @@ use Rattle.std.specs.Prelude.{slice_get}
 use Rattle.ion_value.specs.Items.{annotations_of, raw_field, symbol_at}
 use Rattle.ion_binary.specs.Canonical.{id_in, id_octets}
 use Rattle.ion_binary.specs.Numbering.{users}
+use Rattle.ion_binary.proofs.Contents.{adds-then}
 use Rattle.ion_binary.proofs.Numbered.{got-within, numbers-as, numbers-failed, numbers-next, puts-as, puts-next, take-past}
 use Rattle.ion_binary.proofs.front.put_annotations.Goals as goal
 
@@ -28,6 +29,7 @@ loop-at-preserved g c =
     let got : slice_get all c.loop-at.index ≡ Some at = sym c.get.ensures ∙ ap raw_field c.in-Some.is in
     let within : c.loop-at.index < length all = got-within all c.loop-at.index at got in
     record {
+      adds = adds-then inv.adds c.in-Ok.ensures.adds;
       within = omega (arith, within);
       numbers = numbers-next all c.loop-at.index at c.requires.can_number got inv.numbers refl c.in-Ok.ensures.numbers;
       puts = puts-next c.args.symbols.now.texts c.loop-at.symbols.texts c.put_symbol.new.symbols.texts all c.loop-at.index at got inv.numbers.texts c.in-Ok.ensures.numbers.texts inv.puts
@@ -54,3 +56,6 @@ returns-in-Err-clause-puts g c = grind (arith, common_steps) steps 400000
 
 pub put_symbol-requires : goal.put_symbol-requires
 put_symbol-requires g c = grind (arith, common_steps) steps 400000
+
+pub returns-in-Err-clause-adds : goal.returns-in-Err-clause-adds
+returns-in-Err-clause-adds g c = adds-then c.loop-at.invariant.adds c.put_symbol.ensures.adds

@@ -1,6 +1,7 @@
 use Rattle.std.proofs.Common.{◌-◌, ◌≤◌, length, take, Bool, Ok}
 use Rattle.ion_value.specs.Items.{annotations_of}
 use Rattle.ion_binary.specs.Canonical.{id_in, id_octets}
+use Rattle.ion_binary.specs.Late.{Adds}
 use Rattle.ion_binary.specs.Numbering.{Numbers, PutsWithin, numbering, users}
 use Rattle.ion_binary.proofs.front.put_annotations.Given as goal
 
@@ -8,9 +9,10 @@ use Rattle.ion_binary.proofs.front.put_annotations.Given as goal
 abbrev pub invariant-loop-at : goal.invariant-loop-at
 invariant-loop-at g l =
     record {
+      adds : Adds l.fn.buffer l.buffer;
       within : l.index ≤ length (annotations_of g.N.Names.text l.annotations);
-      numbers : Numbers {T = Bool} l.most (numbering l.fn.symbols l.fn.buffer l.fn.meter) (numbering l.symbols l.buffer l.meter) (Ok l.fits) (take l.index (annotations_of g.N.Names.text l.annotations));
-      puts : PutsWithin l.most l.there l.fits l.fn.buffer l.buffer (id_octets (id_in l.symbols.texts) (users (take l.index (annotations_of g.N.Names.text l.annotations))));
+      numbers : Numbers {T = Bool} l.most (numbering l.fn.symbols l.fn.buffer.all l.fn.meter) (numbering l.symbols l.buffer.all l.meter) (Ok l.fits) (take l.index (annotations_of g.N.Names.text l.annotations));
+      puts : PutsWithin l.most l.there l.fits l.fn.buffer.all l.buffer.all (id_octets (id_in l.symbols.texts) (users (take l.index (annotations_of g.N.Names.text l.annotations))));
     }
 
 abbrev pub decreases-loop-at : goal.decreases-loop-at

@@ -1,9 +1,10 @@
-use Rattle.std.proofs.Common.{◌++◌, ◌∙◌, ap, refl, length, append_assoc, arith}
+use Rattle.std.proofs.Common.{◌++◌, ◌∙◌, ap, refl, append_assoc, arith}
 use Rattle.std.proofs.lemmas.Grind.{common_steps}
 use Rattle.ion_value.specs.Items.{annotations_of, item_of, raw_field, raw_head}
 use Rattle.ion_value.specs.Writable.{field_symbols}
 use Rattle.ion_binary.specs.Canonical.{with_symbols}
 use Rattle.ion_binary.specs.Writing.{head_symbols}
+use Rattle.ion_binary.proofs.Contents.{adds-then}
 use Rattle.ion_binary.proofs.Numbered.{can-then, front-is, item-symbols, numbers-as, numbers-beside, numbers-cut, numbers-err, numbers-ok, numbers-then, users-item}
 use Rattle.ion_binary.proofs.front.put_front.Goals as goal
 
@@ -24,7 +25,7 @@ returns-in-Err-name_of-clause-numbers g c =
     let head = head_symbols (raw_head c.args.head) in
     let both = numbers-then field annotations c.requires.can_number c.in-Ok.is c.put_field.ensures.numbers c.put_annotations.ensures.numbers in
     let can = can-then c.requires.can_number c.in-Ok-put_annotations.is both in
-    let all = numbers-then (field ++ annotations) head c.requires.can_number c.in-Ok-put_annotations.is both (numbers-beside c.put_annotations.new.buffer can c.name_of.ensures.numbers) in
+    let all = numbers-then (field ++ annotations) head c.requires.can_number c.in-Ok-put_annotations.is both (numbers-beside c.put_annotations.new.buffer.all can c.name_of.ensures.numbers) in
     numbers-as (numbers-err ((field ++ annotations) ++ head) c.in-Err-name_of.is all)
     (append_assoc field annotations head ∙ item-symbols i (raw_field c.field.result) annotations (raw_head c.args.head) c.field.ensures c.annotations-annotations.ensures c.requires.head)
 
@@ -36,7 +37,7 @@ returns-clause-numbers g c =
     let head = head_symbols (raw_head c.args.head) in
     let both = numbers-then field annotations c.requires.can_number c.in-Ok.is c.put_field.ensures.numbers c.put_annotations.ensures.numbers in
     let can = can-then c.requires.can_number c.in-Ok-put_annotations.is both in
-    let all = numbers-then (field ++ annotations) head c.requires.can_number c.in-Ok-put_annotations.is both (numbers-beside c.put_annotations.new.buffer can c.name_of.ensures.numbers) in
+    let all = numbers-then (field ++ annotations) head c.requires.can_number c.in-Ok-put_annotations.is both (numbers-beside c.put_annotations.new.buffer.all can c.name_of.ensures.numbers) in
     numbers-as (numbers-ok _ c.in-Ok-name_of.is all)
     (append_assoc field annotations head ∙ item-symbols i (raw_field c.field.result) annotations (raw_head c.args.head) c.field.ensures c.annotations-annotations.ensures c.requires.head)
 
@@ -50,14 +51,14 @@ pub returns-clause-front : goal.returns-clause-front
 returns-clause-front g c =
     front-is c.args.most c.args.symbols.now.texts c.put_field.new.symbols.texts c.put_annotations.new.symbols.texts c.name_of.new.symbols.texts (item_of g.N.Names.text c.args.item.now)
     (raw_field c.field.result) (annotations_of g.N.Names.text c.annotations-annotations.result) (raw_head c.args.head)
-    c.args.buffer.now c.put_field.new.buffer c.put_annotations.new.buffer c.in-Ok.there _ c.field.ensures c.annotations-annotations.ensures c.requires.head
+    c.args.buffer.now.all c.put_field.new.buffer.all c.put_annotations.new.buffer.all c.in-Ok.there _ c.field.ensures c.annotations-annotations.ensures c.requires.head
     record {
       field = c.in-Ok.ensures.numbers.texts;
       annotations_given = c.in-Ok-put_annotations.ensures.numbers.texts;
       head = c.in-Ok-name_of.ensures.numbers.texts;
       field_put = c.in-Ok.ensures.puts;
       annotations_put = c.in-Ok-put_annotations.ensures.puts;
-      ids = ap length c.as_slice-ids.ensures;
+      ids = c.len-ids.ensures;
       name = c.in-Ok-name_of.ensures.name;
     }
 
@@ -66,3 +67,12 @@ name_of-requires g c = grind (arith, common_steps) steps 400000
 
 pub put_annotations-requires : goal.put_annotations-requires
 put_annotations-requires g c = grind (arith, common_steps) steps 400000
+
+pub returns-in-Err-put_annotations-clause-adds : goal.returns-in-Err-put_annotations-clause-adds
+returns-in-Err-put_annotations-clause-adds g c = adds-then c.put_field.ensures.adds c.put_annotations.ensures.adds
+
+pub returns-in-Err-name_of-clause-adds : goal.returns-in-Err-name_of-clause-adds
+returns-in-Err-name_of-clause-adds g c = adds-then c.put_field.ensures.adds c.put_annotations.ensures.adds
+
+pub returns-clause-adds : goal.returns-clause-adds
+returns-clause-adds g c = adds-then c.put_field.ensures.adds c.put_annotations.ensures.adds

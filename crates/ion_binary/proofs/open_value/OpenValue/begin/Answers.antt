@@ -1,121 +1,36 @@
-use Rattle.std.proofs.Common.{◌≡◌, ◌<◌, ◌≤◌, ◌*◌, ◌++◌, ◌∷◌, ℕ, List, length, drop, sym, ap, subst, ◌∙◌, rules, arith}
-use Rattle.std.proofs.lemmas.Grind.{common_steps}
+use Rattle.std.proofs.Common.{◌<◌, ℕ, List, ap, subst, ◌∙◌}
 use Rattle.ion_binary.specs.declared.headers.HeaderPlace.{HeaderPlace}
-use Rattle.std.specs.List.{AllByRecursion}
-use Rattle.ion_binary.specs.Counting.{ArePlaced, AreReached, IsCounted, counted_length}
-use Rattle.ion_binary.specs.Grammar.{type_code}
-use Rattle.ion_binary.specs.Held.{begun_at, begun_headers, header_at, wrapper_headers}
-use Rattle.ion_binary.proofs.OpenSteps.{begun-few, begun-more, begun-placed, begun-reached, counted-fits, size-counted}
+use Rattle.ion_binary.specs.Held.{begun_at, begun_headers, size_of}
+use Rattle.ion_binary.proofs.MovedSteps.{open-to-again, stepped-then}
+use Rattle.ion_binary.proofs.OpenSteps.{can-step-again}
 use Rattle.ion_binary.proofs.open_value.OpenValue.begin.Goals as goal
 
-pub closed_size-requires-clause-reached : goal.closed_size-requires-clause-reached
-closed_size-requires-clause-reached g c =
-    let o : List ℕ = c.args.self.now.octets in
-    let place : ℕ = c.args.place in
-    let hs : List HeaderPlace = c.args.self.now.headers in
-    let within = c.requires.open.within in
-    let octets : c.begin_wrapper.new.self.octets ≡ begun_at place o = search rules in
-    let counts : c.begin_wrapper.new.self.counts ≡ c.args.self.now.counts = search rules in
-    let n : length (begun_at place o) ≡ length c.as_slice-2.result.now = ap (λ (os : List ℕ). length os) (sym (c.as_slice-2.ensures ∙ octets)) in
-    let pushed : c.push.new.self ≡ header_at (length c.as_slice.result.now) c.type_code.result ∷ c.begin_wrapper.new.self.headers = search rules in
-    let wrapped : c.begin_wrapper.new.self.headers ≡ wrapper_headers (drop place o) place ++ hs = search rules in
-    let h : HeaderPlace = header_at (length c.as_slice.result.now) c.type_code.result in
-    let headers : c.push.new.self ≡ h ∷ (wrapper_headers (drop place o) place ++ hs) = pushed ∙ ap (λ (gs : List HeaderPlace). h ∷ gs) wrapped in
-    let more = begun-more place o within in
-    let r = begun-reached c.args.self.now.counts (drop place o) place (length c.as_slice-2.result.now) h hs c.requires.open.reached (omega (arith, within, more, n)) in
-    let P : List ℕ → Type 0 = λ ns. AreReached ns (length c.as_slice-2.result.now) c.push.new.self in
-    let Q : List HeaderPlace → Type 0 = λ gs. AreReached c.args.self.now.counts (length c.as_slice-2.result.now) gs in
-    subst P (sym counts) (subst Q (sym headers) r)
+pub begin_spared-requires-clause-can_step : goal.begin_spared-requires-clause-can_step
+begin_spared-requires-clause-can_step g c = can-step-again c.args.limits c.args.self.now c.spare.new.self c.args.meter.now c.spare.new.meter c.requires.can_step c.in_default.ensures.stepped
 
-pub returns-then-closed_size-limits-clause-over : goal.returns-then-closed_size-limits-clause-over
-returns-then-closed_size-limits-clause-over g c is =
-    let o : List ℕ = c.args.self.now.octets in
-    let place : ℕ = c.args.place in
-    let hs : List HeaderPlace = c.args.self.now.headers in
-    let within = c.requires.open.within in
-    let octets : c.begin_wrapper.new.self.octets ≡ begun_at place o = search rules in
-    let n : length c.as_slice-2.result.now ≡ length (begun_at place o) = ap (λ (os : List ℕ). length os) (c.as_slice-2.ensures ∙ octets) in
-    let m : length c.as_slice.result.now ≡ length (begun_at place o) = ap (λ (os : List ℕ). length os) (c.as_slice.ensures ∙ octets) in
-    let pushed : c.push.new.self ≡ header_at (length c.as_slice.result.now) c.type_code.result ∷ c.begin_wrapper.new.self.headers = search rules in
-    let wrapped : c.begin_wrapper.new.self.headers ≡ wrapper_headers (drop place o) place ++ hs = search rules in
-    let headers : c.push.new.self ≡ begun_headers place o c.args.kind hs =
-    pushed
-    ∙ (ap (λ (gs : List HeaderPlace). header_at (length c.as_slice.result.now) c.type_code.result ∷ gs) wrapped
-    ∙ (ap (λ k. header_at k c.type_code.result ∷ (wrapper_headers (drop place o) place ++ hs)) m
-    ∙ ap (λ k. header_at (length (begun_at place o)) k ∷ (wrapper_headers (drop place o) place ++ hs)) c.type_code.ensures)) in
-    let more = begun-more place o within in
-    let ns : List ℕ = c.closed_size.new.self.counts in
-    let same : c.closed_size.new.self.headers ≡ begun_headers place o c.args.kind hs = c.closed_size.ensures.headers ∙ headers in
-    let P : List HeaderPlace → Type 0 = λ gs. IsCounted ns (length c.as_slice-2.result.now) gs in
-    let Q : ℕ → Type 0 = λ k. IsCounted ns k (begun_headers place o c.args.kind hs) in
-    let i : IsCounted ns (length (begun_at place o)) (begun_headers place o c.args.kind hs) = subst Q n (subst P same c.closed_size.ensures.counted) in
-    let p = begun-placed (drop place o) place (length (begun_at place o)) (header_at (length (begun_at place o)) (type_code c.args.kind)) hs c.requires.open.placed (omega arith) (omega (arith, within, more)) in
-    let few = begun-few (drop place o) place hs in
-    let deep = c.requires.deep in
-    let depth = c.requires.can_step.checked.depth in
-    let value = c.requires.can_step.checked.value in
-    let short : length (begun_at place o) ≤ c.args.limits.value =
-    let b : length c.begin_wrapper.new.self.octets ≡ length (begun_at place o) = ap (λ (os : List ℕ). length os) octets in
-    let w = c.begin_wrapper.ensures.stepped.within.octets in
-    omega (arith, b, w) in
-    let s = size-counted ns (length (begun_at place o)) (begun_headers place o c.args.kind hs) i p (omega (arith, few, deep, depth)) (omega (arith, short, value)) in
-    let t : c.args.limits.value < c.closed_size.result = c.if-closed_size-limits.true in
-    let size = c.closed_size.ensures.size in
-    let sized : counted_length ns (length c.as_slice-2.result.now) c.closed_size.new.self.headers ≡ counted_length ns (length (begun_at place o)) (begun_headers place o c.args.kind hs) =
-    ap (counted_length ns (length c.as_slice-2.result.now)) same ∙ ap (λ k. counted_length ns k (begun_headers place o c.args.kind hs)) n in
-    omega (arith, t, size, sized, s)
-
-pub returns-clause-open : goal.returns-clause-open
-returns-clause-open g c is =
-    let w = c.closed_size.new.self in
-    let placed : ArePlaced (length w.octets) w.headers = grind (arith, common_steps) in
-    let reached : AreReached w.counts (length w.octets) w.headers = grind (arith, common_steps) in
-    let codes : AllByRecursion (λ h. h.code < 16) w.headers = grind (arith, common_steps) in
-    let few : length w.headers ≤ 2 * c.args.limits.depth = grind (arith, common_steps) in
-    let n : length c.as_slice-2.result.now ≡ length w.octets = ap (λ (os : List ℕ). length os) c.as_slice-2.ensures ∙ ap (λ (os : List ℕ). length os) (sym c.closed_size.ensures.octets) in
-    let P : ℕ → Type 0 = λ k. IsCounted w.counts k w.headers in
-    let t = c.if-closed_size-limits.false in
-    let size = c.closed_size.ensures.size in
-    let long : counted_length w.counts (length c.as_slice-2.result.now) w.headers ≡ counted_length w.counts (length w.octets) w.headers = ap (λ k. counted_length w.counts k w.headers) n in
-    record {
-      placed = placed;
-      codes = codes;
-      reached = reached;
-      fits = counted-fits c.args.limits w.counts w.octets w.headers c.requires.can_step.checked placed few (subst P n c.closed_size.ensures.counted) (omega (arith, t, size, long));
-    }
-
-pub returns-clause-over : goal.returns-clause-over
-returns-clause-over c = grind (arith, common_steps) steps 400000
-
-pub returns-then-not-branch-clause-over : goal.returns-then-not-branch-clause-over
-returns-then-not-branch-clause-over c = grind (arith, common_steps) steps 400000
-
-pub returns-then-not-branch-clause-open : goal.returns-then-not-branch-clause-open
-returns-then-not-branch-clause-open c = grind (arith, common_steps) steps 400000
-
-pub push-requires-clause-countable : goal.push-requires-clause-countable
-push-requires-clause-countable c = grind (arith, common_steps) steps 400000
-
-pub returns-clause-headers : goal.returns-clause-headers
-returns-clause-headers c = grind (arith, common_steps) steps 400000
+pub begin_spared-requires-clause-open : goal.begin_spared-requires-clause-open
+begin_spared-requires-clause-open g c =
+    open-to-again c.args.self.now c.spare.new.self c.args.place c.requires.open c.in_default.ensures.octets c.in_default.ensures.headers c.in_default.ensures.counts
 
 pub returns-clause-octets : goal.returns-clause-octets
-returns-clause-octets c = grind (arith, common_steps) steps 400000
+returns-clause-octets g c is = c.begin_spared.ensures.octets is ∙ ap (λ (o : List ℕ). begun_at c.args.place o) c.in_default.ensures.octets
 
-pub closed_size-requires-clause-short : goal.closed_size-requires-clause-short
-closed_size-requires-clause-short c = grind (arith, common_steps) steps 400000
+pub returns-clause-headers : goal.returns-clause-headers
+returns-clause-headers g c is =
+    let w = c.spare.new.self in
+    c.begin_spared.ensures.headers is
+    ∙ (ap (λ (o : List ℕ). begun_headers c.args.place o c.args.kind w.headers) c.in_default.ensures.octets
+    ∙ ap (λ (hs : List HeaderPlace). begun_headers c.args.place c.args.self.now.octets.all c.args.kind hs) c.in_default.ensures.headers)
 
-pub returns-then-closed_size-limits-clause-open : goal.returns-then-closed_size-limits-clause-open
-returns-then-closed_size-limits-clause-open c = grind (arith, common_steps) steps 400000
+pub returns-clause-over : goal.returns-clause-over
+returns-clause-over g c is =
+    let v = c.args.self.now in
+    let w = c.spare.new.self in
+    let P : List ℕ → Type 0 = λ o. c.args.limits.value < size_of (begun_at c.args.place o) (begun_headers c.args.place o c.args.kind w.headers) in
+    let Q : List HeaderPlace → Type 0 = λ hs. c.args.limits.value < size_of (begun_at c.args.place v.octets.all) (begun_headers c.args.place v.octets.all c.args.kind hs) in
+    subst Q c.in_default.ensures.headers (subst P c.in_default.ensures.octets (c.begin_spared.ensures.over is))
 
-pub closed_size-requires-clause-few : goal.closed_size-requires-clause-few
-closed_size-requires-clause-few c = grind (arith, common_steps) steps 400000
-
-pub returns-then-closed_size-limits-clause-octets : goal.returns-then-closed_size-limits-clause-octets
-returns-then-closed_size-limits-clause-octets c = grind (arith, common_steps) steps 400000
-
-pub returns-then-closed_size-limits-clause-headers : goal.returns-then-closed_size-limits-clause-headers
-returns-then-closed_size-limits-clause-headers c = grind (arith, common_steps) steps 400000
-
-pub overflow_cast-header : goal.overflow_cast-header
-overflow_cast-header c = grind (arith, common_steps) steps 400000
+pub returns-clause-stepped : goal.returns-clause-stepped
+returns-clause-stepped g c =
+    stepped-then c.args.limits c.args.self.now c.spare.new.self c.begin_spared.new.self c.args.meter.now c.spare.new.meter c.begin_spared.new.meter _ c.requires.can_step
+    c.in_default.ensures.stepped c.begin_spared.ensures.stepped

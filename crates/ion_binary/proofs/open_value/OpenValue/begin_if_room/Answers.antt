@@ -1,8 +1,11 @@
-use Rattle.std.proofs.Common.{◌≡◌, ◌+◌, ◌∷◌, List, ℕ, length, refl, ap, ◌∙◌, arith}
+use Rattle.std.proofs.Common.{◌≡◌, ◌≤◌, ◌+◌, ◌-◌, ◌*◌, ◌∷◌, List, ℕ, length, refl, ap, ◌∙◌, arith}
 use Rattle.std.proofs.lemmas.Grind.{common_steps}
+use Rattle.ion_binary.specs.declared.headers.HeaderPlace.{HeaderPlace}
 use Rattle.ion_binary.specs.Grammar.{type_code}
 use Rattle.ion_binary.specs.Held.{header_at}
+use Rattle.ion_binary.specs.Late.{Content}
 use Rattle.ion_binary.proofs.OpenSteps.{kind-small, room-begun}
+use Rattle.ion_binary.proofs.PutInRoom.{begun-not, begun-stepped, not-begun}
 use Rattle.ion_binary.proofs.open_value.OpenValue.begin_if_room.Goals as goal
 
 pub returns : goal.returns
@@ -10,23 +13,37 @@ returns g c =
     let v = c.args.self.now in
     let x : List ℕ = c.args.front.now in
     let code : ℕ = type_code c.args.kind in
-    let p = c.push_with.ensures in
-    let s = c.surely_fits.ensures c.if-not-surely_fits.false in
-    let long : length c.as_slice.result.now ≡ length v.octets = ap (λ (os : List ℕ). length os) c.as_slice.ensures in
-    let header : header_at (length c.as_slice.result.now + length x) c.type_code.result ≡ header_at (length v.octets + length x) code =
-    ap (λ n. header_at (n + length x) c.type_code.result) long ∙ ap (header_at (length v.octets + length x)) c.type_code.ensures in
+    let w = record v { octets = c.extend_with.new.self; headers = c.extend_with.new.headers; room = v.room - 6 } in
+    let is = c.if-not-extend_with.false in
+    let fits = c.surely_fits.ensures.fits c.if-not-surely_fits.false in
+    let room = c.surely_fits.ensures.room c.if-not-surely_fits.false in
+    let octets = c.extend_with.ensures.octets is in
+    let header : header_at (c.len.result + length x) c.type_code.result ≡ header_at (length v.octets.all + length x) code =
+    ap (λ n. header_at (n + length x) c.type_code.result) c.len.ensures ∙ ap (header_at (length v.octets.all + length x)) c.type_code.ensures in
+    let headers = c.extend_with.ensures.headers is ∙ ap (λ h. h ∷ v.headers) header in
+    let deep : length v.headers + 2 * v.octets.late + 1 ≤ 2 * c.args.limits.depth = grind (arith, common_steps) in
     record {
-      octets = p.octets;
-      headers = λ is. p.headers is ∙ ap (λ h. h ∷ v.headers) header;
-      is_open = λ is.
-          room-begun c.args.limits v (record { octets = c.push_with.new.others; headers = c.push_with.new.self; counts = v.counts }) x code c.requires.can_add.can_step.checked c.requires.can_add.is_open (kind-small c.args.kind)
-          (p.octets is) (p.headers is ∙ ap (λ h. h ∷ v.headers) header) refl (omega (arith, s));
-      declines = grind (arith, common_steps) steps 400000;
-      stepped = grind (arith, common_steps);
+      octets = λ e. ap (λ (y : Content). y.all) octets;
+      headers = λ e. headers;
+      is_open = λ e.
+          room-begun c.args.limits v w x code c.requires.can_add.can_step.checked c.requires.can_add.is_open
+          (kind-small c.args.kind) (ap (λ (y : Content). y.all) octets) headers refl (omega (arith, fits));
+      declines = λ e. absurd (Prim.cc e);
+      stepped =
+          begun-stepped c.args.limits v w c.args.meter.now c.extend_with.new.meter x c.requires.can_add.can_step octets (ap (λ (hs : List HeaderPlace). length hs) headers)
+          (c.extend_with.ensures.cost is) (omega (arith, fits)) deep (omega (arith, room));
     }
 
-pub push_with-requires : goal.push_with-requires
-push_with-requires g c = grind (arith, common_steps) steps 400000
+pub returns-then-not-extend_with : goal.returns-then-not-extend_with
+returns-then-not-extend_with g c =
+    let d = c.extend_with.ensures.declines c.if-not-extend_with.true in
+    begun-not c.requires.can_add (d.0, (d.1, d.2))
+
+pub extend_with-requires : goal.extend_with-requires
+extend_with-requires g c = grind (arith, common_steps) steps 400000
 
 pub overflow_cast-header : goal.overflow_cast-header
 overflow_cast-header g c = grind (arith, common_steps) steps 400000
+
+pub returns-then-not-surely_fits : goal.returns-then-not-surely_fits
+returns-then-not-surely_fits g c = not-begun c.requires.can_add

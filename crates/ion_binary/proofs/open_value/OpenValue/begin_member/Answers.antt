@@ -1,7 +1,6 @@
-use Rattle.std.proofs.Common.{rules, ◌≡◌, ◌≢◌, ◌<◌, ap, sym, ◌∙◌, arith}
-use Rattle.ion_value.specs.Number.{var_uint_octets}
+use Rattle.std.proofs.Common.{◌≢◌, ap, sym, arith}
 use Rattle.ion_binary.specs.Opening.{name_octets}
-use Rattle.ion_binary.proofs.NotedOctets.{named-octets, named-short}
+use Rattle.ion_binary.proofs.NotedOctets.{named-short}
 use Rattle.ion_binary.proofs.PutInRoom.{begins-same}
 use Rattle.ion_binary.proofs.open_value.OpenValue.begin_member.Goals as goal
 
@@ -11,9 +10,3 @@ returns-then-name-eq0 g c = begins-same (ap name_octets (sym c.if-name-eq0.true)
 pub returns-then-name-lt128 : goal.returns-then-name-lt128
 returns-then-name-lt128 g c =
     begins-same (named-short c.args.name (let f : c.args.name ≢ 0 = c.if-name-eq0.false in omega (arith, f)) c.if-name-lt128.true) c.begin_if_room-then-name-lt128.ensures
-
-pub returns : goal.returns
-returns g c =
-    let some : 0 < c.args.name = let f : c.args.name ≢ 0 = c.if-name-eq0.false in omega (arith, f) in
-    let same : c.from.result ≡ c.args.name = search rules in
-    begins-same (c.as_slice.ensures.value ∙ (c.var_uint_write-front.ensures.spelled ∙ (ap var_uint_octets same ∙ sym (named-octets c.args.name some)))) c.begin_if_room-2.ensures

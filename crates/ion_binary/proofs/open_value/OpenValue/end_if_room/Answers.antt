@@ -1,14 +1,16 @@
-use Rattle.std.proofs.Common.{rules, ◌≡◌, ◌-◌, ◌∷◌, List, ℕ, drop, length, refl, ap, subst, ◌∙◌, arith}
+use Rattle.std.proofs.Common.{◌≡◌, ◌+◌, ◌-◌, ◌∷◌, List, ℕ, drop, length, refl, ap, subst, ◌∙◌, arith}
 use Rattle.std.proofs.lemmas.Grind.{common_steps}
 use Rattle.std.proofs.lemmas.Option.{none-some}
-use Rattle.ion_meter.specs.Counts.{Grows, Shrinks}
+use Rattle.ion_meter.specs.Counts.{Shrinks}
 use Rattle.ion_binary.specs.declared.headers.HeaderPlace.{HeaderPlace}
 use Rattle.ion_binary.specs.Canonical.{header}
 use Rattle.ion_binary.specs.Counting.{ArePlaced, cut}
 use Rattle.ion_binary.specs.Held.{headed_at}
-use Rattle.ion_binary.specs.Opening.{IsOpen, open_cost, open_most}
-use Rattle.ion_binary.specs.Places.{header_size}
-use Rattle.ion_binary.proofs.OpenSteps.{grow-shrink, innermost-open, popped, popped-cost, put-length}
+use Rattle.ion_binary.specs.Late.{Content}
+use Rattle.ion_binary.specs.Opening.{open_cost, open_most}
+use Rattle.ion_binary.proofs.LateHeaders.{put-length}
+use Rattle.ion_binary.proofs.MovedSteps.{header-fits}
+use Rattle.ion_binary.proofs.OpenSteps.{grow-shrink, innermost-open, popped, popped-cost}
 use Rattle.ion_binary.proofs.open_value.OpenValue.end_if_room.Goals as goal
 
 pub returns-clause-open : goal.returns-clause-open
@@ -19,73 +21,80 @@ returns-clause-open g c is =
     let two : v.headers ≡ h ∷ rest = c.in-Some.ensures in
     let left : c.pop-innermost.new.self ≡ rest = popped c.pop-innermost.result v.headers c.pop-innermost.new.self rest h two c.pop-innermost.ensures.items in
     let headers : c.cut.new.self.headers ≡ rest = c.cut.ensures.headers ∙ left in
-    let octets : c.cut.new.self.octets ≡ headed_at h v.octets = search rules in
+    let octets : c.cut.new.self.octets.all ≡ headed_at h v.octets.all = ap (λ (y : Content). y.all) c.cut.ensures.octets ∙ c.head_if_room.ensures.octets c.if-not-head_if_room.false in
     let counts : c.cut.new.self.counts ≡ cut (length rest) v.counts = c.cut.ensures.counts ∙ ap (λ (hs : List HeaderPlace). cut (length hs) v.counts) left in
-    innermost-open c.args.limits v c.cut.new.self h rest c.requires.can_step.checked c.requires.open two headers octets counts
+    innermost-open c.args.limits v (record c.cut.new.self { room = c.cut.new.self.room + 6 }) h rest c.requires.can_step.checked c.requires.open two headers octets counts
 
 pub returns-clause-stepped : goal.returns-clause-stepped
 returns-clause-stepped g c =
     let v = c.args.self.now in
-    let w = c.cut.new.self in
+    let w = record c.cut.new.self { room = c.cut.new.self.room + 6 } in
     let h : HeaderPlace = c.in-Some.innermost in
     let rest : List HeaderPlace = c.in-Some.around ∷ drop 2 v.headers in
     let two : v.headers ≡ h ∷ rest = c.in-Some.ensures in
+    let t = c.if-not-head_if_room.false in
     let left : c.pop-innermost.new.self ≡ rest = popped c.pop-innermost.result v.headers c.pop-innermost.new.self rest h two c.pop-innermost.ensures.items in
-    let shrinks : Shrinks c.insert_header.new.meter c.pop-innermost.new.meter 8 =
-    popped-cost c.pop-innermost.result v.headers c.pop-innermost.new.self rest h c.insert_header.new.meter c.pop-innermost.new.meter two c.pop-innermost.ensures.items c.pop-innermost.ensures.cost in
-    let opened : IsOpen c.args.limits w = returns-clause-open g c refl in
-    let fits = opened.fits in
+    let shrinks : Shrinks c.head_if_room.new.meter c.pop-innermost.new.meter 8 =
+    popped-cost c.pop-innermost.result v.headers c.pop-innermost.new.self rest h c.head_if_room.new.meter c.pop-innermost.new.meter two c.pop-innermost.ensures.items c.pop-innermost.ensures.cost in
+    let fits = (returns-clause-open g c refl).fits in
     let before = c.requires.can_step.within.headers in
     let few : length v.headers ≡ length (h ∷ rest) = ap (λ (hs : List HeaderPlace). length hs) two in
     let now : length w.headers ≡ length rest = ap (λ (hs : List HeaderPlace). length hs) (c.cut.ensures.headers ∙ left) in
-    let octets : w.octets ≡ headed_at h v.octets = search rules in
-    let long : length w.octets ≡ length (headed_at h v.octets) = ap (λ (os : List ℕ). length os) octets in
-    let Placed : List HeaderPlace → Type 0 = λ hs. ArePlaced (length v.octets) hs in
-    let placed = subst Placed two c.requires.open.placed in
-    let put = put-length h v.octets placed.0 in
-    let x : List ℕ = header h.code (length v.octets - h.place) in
-    let size : length x ≡ header_size (length v.octets - h.place) = refl in
-    let same : length c.as_slice.result.now ≡ length v.octets = ap (λ (os : List ℕ). length os) c.as_slice.ensures in
-    let Cost : ℕ → Type 0 = λ k. Grows c.args.meter.now c.insert_header.new.meter (length (header h.code (k - h.place))) in
-    let grows : Grows c.args.meter.now c.insert_header.new.meter (length x) = subst Cost same (c.insert_header.ensures.cost c.if-not-insert_header.false) in
+    let x : List ℕ = header h.code (length v.octets.all - h.place) in
+    let room = header-fits c.args.limits v h rest c.requires.open two in
+    let placed = (subst (λ (hs : List HeaderPlace). ArePlaced (length v.octets.all) hs) two c.requires.open.placed).0 in
+    let long : length w.octets.all ≡ length (headed_at h v.octets.all) = ap (λ (os : List ℕ). length os) (ap (λ (y : Content). y.all) c.cut.ensures.octets ∙ c.head_if_room.ensures.octets t) in
+    let put = put-length h.place x v.octets.all placed in
+    let cost : w.octets.cost ≡ v.octets.cost + length x = ap (λ (y : Content). y.cost) c.cut.ensures.octets ∙ c.head_if_room.ensures.costs t in
+    let late : w.octets.late ≡ v.octets.late = ap (λ (y : Content). y.late) c.cut.ensures.octets ∙ c.head_if_room.ensures.late t in
+    let grows = c.head_if_room.ensures.cost t in
+    let beside = c.requires.can_step.within.room in
+    let kept = c.cut.ensures.room in
+    let least = c.requires.can_step.within.costed.least in
+    let most = c.requires.can_step.within.costed.most in
     record {
-      within = record { octets = omega (arith, fits); headers = omega (arith, few, before, now) };
+      within = record {
+        octets = omega (arith, fits);
+        headers = omega (arith, few, before, now, late);
+        costed = record { least = omega (arith, least, long, put, cost); most = omega (arith, most, long, put, cost, late) };
+        room = omega (arith, few, now, late, beside, kept);
+      };
       memory = record { memory = λ e. absurd (none-some _ e); counted = λ e. shrinks.refused ∙ grows.refused };
       alone = λ f e. absurd (none-some _ e);
       charges =
-          grow-shrink c.args.meter.now c.insert_header.new.meter c.pop-innermost.new.meter (length x) 8 (open_cost v) (open_cost w) (open_most c.args.limits)
-          grows shrinks (omega (arith, few, now, long, put, size)) c.requires.can_step.held (omega (arith, fits, few, before, long, put, size));
+          grow-shrink c.args.meter.now c.head_if_room.new.meter c.pop-innermost.new.meter (length x) 8 (open_cost v) (open_cost w) (open_most c.args.limits)
+          grows shrinks (omega (arith, few, now, cost)) c.requires.can_step.held (omega (arith, most, few, before, room));
     }
 
 pub returns-clause-inside : goal.returns-clause-inside
 returns-clause-inside g c = grind (arith, common_steps) steps 400000
 
-pub insert_header-requires-clause-code : goal.insert_header-requires-clause-code
-insert_header-requires-clause-code g c = grind (arith, common_steps) steps 400000
+pub head_if_room-requires-clause-code : goal.head_if_room-requires-clause-code
+head_if_room-requires-clause-code g c = grind (arith, common_steps) steps 400000
 
 pub pop-innermost-requires : goal.pop-innermost-requires
 pop-innermost-requires g c = grind (arith, common_steps) steps 400000
 
-pub cut-requires : goal.cut-requires
-cut-requires g c = grind (arith, common_steps) steps 400000
+pub cut-requires-clause-few : goal.cut-requires-clause-few
+cut-requires-clause-few g c = grind (arith, common_steps) steps 400000
 
-pub returns-then-not-insert_header-clause-open : goal.returns-then-not-insert_header-clause-open
-returns-then-not-insert_header-clause-open g c = grind (arith, common_steps) steps 400000
+pub cut-requires-clause-descend : goal.cut-requires-clause-descend
+cut-requires-clause-descend g c = c.requires.open.reached.descend
 
-pub insert_header-requires-clause-within : goal.insert_header-requires-clause-within
-insert_header-requires-clause-within g c = grind (arith, common_steps) steps 400000
+pub returns-then-not-head_if_room-clause-open : goal.returns-then-not-head_if_room-clause-open
+returns-then-not-head_if_room-clause-open g c = grind (arith, common_steps) steps 400000
+
+pub head_if_room-requires-clause-within : goal.head_if_room-requires-clause-within
+head_if_room-requires-clause-within g c = grind (arith, common_steps) steps 400000
 
 pub returns-clause-octets : goal.returns-clause-octets
 returns-clause-octets g c = grind (arith, common_steps) steps 400000
 
-pub returns-then-not-insert_header-clause-declines : goal.returns-then-not-insert_header-clause-declines
-returns-then-not-insert_header-clause-declines g c = grind (arith, common_steps) steps 400000
+pub returns-then-not-head_if_room-clause-declines : goal.returns-then-not-head_if_room-clause-declines
+returns-then-not-head_if_room-clause-declines g c = grind (arith, common_steps) steps 400000
 
-pub insert_header-requires-clause-room : goal.insert_header-requires-clause-room
-insert_header-requires-clause-room g c = grind (arith, common_steps) steps 400000
+pub head_if_room-requires-clause-room : goal.head_if_room-requires-clause-room
+head_if_room-requires-clause-room g c = grind (arith, common_steps) steps 400000
 
-pub overflow_sub-inside : goal.overflow_sub-inside
-overflow_sub-inside g c = grind (arith, common_steps) steps 400000
-
-pub insert_header-requires-clause-short : goal.insert_header-requires-clause-short
-insert_header-requires-clause-short g c = grind (arith, common_steps) steps 400000
+pub head_if_room-requires-clause-short : goal.head_if_room-requires-clause-short
+head_if_room-requires-clause-short g c = grind (arith, common_steps) steps 400000

@@ -16,13 +16,13 @@ returns g c =
     let r : length rest ≡ c.args.size = length-take-le c.args.size c.args.body (omega (arith, all, z)) in
     let l = length-append first rest in
     let few = c.len.ensures.few in
-    let s = c.surely_fits.ensures c.if-not-surely_fits.false in
+    let s = c.has_room.ensures.fits c.if-not-has_room.false in
     adds-same (ap (λ (os : List ℕ). os ++ rest) whole ∙ c.in-Some.ensures.octets rest r)
     (room-adds c.args.limits.now v c.extend_blocks_if_room.new.self (first ++ rest) c.args.meter.now c.extend_blocks_if_room.new.meter (c.len.result + c.args.size) c.extend_blocks_if_room.result
-    c.requires.can_add (omega (arith, l, f, r)) c.extend_blocks_if_room.ensures.bytes c.extend_blocks_if_room.ensures.cost c.extend_blocks_if_room.ensures.declines (omega (arith, z, few, s)))
+    c.requires.can_add (omega (arith, l, f, r)) c.extend_blocks_if_room.ensures.octets c.extend_blocks_if_room.ensures.cost c.extend_blocks_if_room.ensures.declines (omega (arith, z, few, s)))
 
-pub returns-then-not-surely_fits : goal.returns-then-not-surely_fits
-returns-then-not-surely_fits g c = not-added c.requires.can_add
+pub returns-then-not-has_room : goal.returns-then-not-has_room
+returns-then-not-has_room g c = not-added c.requires.can_add
 
 pub extend_blocks_if_room-requires : goal.extend_blocks_if_room-requires
 extend_blocks_if_room-requires g c = grind (arith, common_steps) steps 400000

@@ -1,59 +1,70 @@
-use Rattle.std.proofs.Common.{◌≡◌, ℕ, ◌-◌, List, ◌∷◌, length, refl, ap, subst, arith, rules}
-use Rattle.std.proofs.lemmas.Grind.{common_steps}
-use Rattle.std.proofs.lemmas.Option.{none-some}
-use Rattle.ion_binary.specs.Counting.{ArePlaced}
-use Rattle.ion_binary.specs.declared.headers.HeaderPlace.{HeaderPlace}
+use Rattle.std.proofs.Common.{◌≡◌, ℕ, ◌+◌, ◌*◌, ◌-◌, List, ◌∷◌, drop, length, max, None, Some, refl, ap, sym, subst, ◌∙◌, arith}
 use Rattle.ion_binary.specs.Canonical.{header}
-use Rattle.ion_binary.specs.Held.{headed_at}
-use Rattle.ion_binary.specs.Places.{header_size}
-use Rattle.ion_binary.specs.Opening.{IsOpen, open_cost, open_most}
-use Rattle.ion_binary.proofs.OpenSteps.{innermost-open, put-length, shrink-grow}
+use Rattle.ion_binary.specs.Counting.{cut}
+use Rattle.ion_binary.specs.declared.headers.HeaderPlace.{HeaderPlace}
+use Rattle.ion_binary.specs.Held.{innermost_in}
+use Rattle.ion_binary.specs.Late.{Content, Moved}
+use Rattle.ion_binary.proofs.MovedSteps.{header-fits, popped-stepped}
+use Rattle.ion_binary.proofs.OpenSteps.{innermost-open}
 use Rattle.ion_binary.proofs.open_value.OpenValue.put_innermost.Goals as goal
 
-pub returns-clause-open : goal.returns-clause-open
-returns-clause-open g c =
-    innermost-open c.args.limits c.args.self.now c.cut.new.self c.in-Some.innermost c.cut.new.self.headers c.requires.can_step.checked c.requires.open (search rules) refl (search rules) (search rules)
+pub returns-in-Ok-clause-octets : goal.returns-in-Ok-clause-octets
+returns-in-Ok-clause-octets g c =
+    let v = c.args.self.now in
+    let h = c.in-Some.innermost in
+    ap (λ (x : Content). x.all) c.cut.ensures.octets
+    ∙ (c.in-Ok.ensures.ok ∙ ap (λ (hs : List HeaderPlace). innermost_in v.octets.all hs) (sym c.in-Some.ensures.items))
 
-pub returns-clause-stepped : goal.returns-clause-stepped
-returns-clause-stepped g c =
-    let opened : IsOpen c.args.limits c.cut.new.self = returns-clause-open g c in
-    let fits = opened.fits in
+pub returns-in-Ok-clause-headers : goal.returns-in-Ok-clause-headers
+returns-in-Ok-clause-headers g c = c.cut.ensures.headers ∙ ap (λ (hs : List HeaderPlace). drop 1 hs) (sym c.in-Some.ensures.items)
+
+pub returns-in-Ok-clause-open : goal.returns-in-Ok-clause-open
+returns-in-Ok-clause-open g c =
+    let v = c.args.self.now in
+    let w = record c.cut.new.self { room = c.room_of-self.result } in
+    let h = c.in-Some.innermost in
+    innermost-open c.args.limits v w h w.headers c.requires.can_step.checked c.requires.open
+    (c.in-Some.ensures.items ∙ ap (λ (hs : List HeaderPlace). h ∷ hs) (sym c.cut.ensures.headers)) refl
+    (ap (λ (x : Content). x.all) c.cut.ensures.octets ∙ c.in-Ok.ensures.ok)
+    (c.cut.ensures.counts ∙ ap (λ (hs : List HeaderPlace). cut (length hs) v.counts) (sym c.cut.ensures.headers))
+
+pub returns-in-Ok-clause-stepped : goal.returns-in-Ok-clause-stepped
+returns-in-Ok-clause-stepped g c =
+    let v = c.args.self.now in
+    let w = record c.cut.new.self { room = c.room_of-self.result } in
+    let n = c.len.ensures in
+    let k2 = c.late.ensures in
+    let beside = c.room_of-self.ensures in
+    let h = c.in-Some.innermost in
+    let fits = (returns-in-Ok-clause-open g c).fits in
     let before = c.requires.can_step.within.headers in
-    let headers : c.args.self.now.headers ≡ c.in-Some.innermost ∷ c.cut.new.self.headers = search rules in
-    let few : length c.args.self.now.headers ≡ length (c.in-Some.innermost ∷ c.cut.new.self.headers) = ap (λ (hs : List HeaderPlace). length hs) headers in
-    let octets : c.cut.new.self.octets ≡ headed_at c.in-Some.innermost c.args.self.now.octets = search rules in
-    let long : length c.cut.new.self.octets ≡ length (headed_at c.in-Some.innermost c.args.self.now.octets) = ap (λ (os : List ℕ). length os) octets in
-    let Placed : List HeaderPlace → Type 0 = λ hs. ArePlaced (length c.args.self.now.octets) hs in
-    let placed = subst Placed headers c.requires.open.placed in
-    let put = put-length c.in-Some.innermost c.args.self.now.octets placed.0 in
-    let x : c.as_slice-2.result.now ≡ header c.in-Some.innermost.code (length c.args.self.now.octets - c.in-Some.innermost.place) = search rules in
-    let size : length c.as_slice-2.result.now ≡ header_size (length c.args.self.now.octets - c.in-Some.innermost.place) = ap (λ (os : List ℕ). length os) x in
-    record {
-      within = record { octets = omega (arith, fits); headers = omega (arith, few, before) };
-      memory = search rules;
-      alone = λ f e. absurd (none-some _ e);
-      charges =
-          shrink-grow c.args.meter.now c.pop.new.meter c.insert_slice.new.meter 8 (length c.as_slice-2.result.now) (open_cost c.args.self.now) (open_cost c.cut.new.self) (open_most c.args.limits)
-          c.in-Some.ensures.cost (search rules) (omega (arith, few, long, put, size)) c.requires.can_step.held (omega (arith, fits, few, before));
-    }
+    let few : length v.headers ≡ length (h ∷ c.pop.new.self) = ap (λ (hs : List HeaderPlace). length hs) c.in-Some.ensures.items in
+    let left : length w.headers ≡ length c.pop.new.self = ap (λ (hs : List HeaderPlace). length hs) c.cut.ensures.headers in
+    let room = header-fits c.args.limits v h c.pop.new.self c.requires.open c.in-Some.ensures.items in
+    let most = c.most_late-most.ensures in
+    let late = c.in-Ok.ensures.late in
+    let same : w.octets.late ≡ c.head.new.self.late = ap (λ (x : Content). x.late) c.cut.ensures.octets in
+    let k : ℕ = length v.octets.all + length (header h.code (length v.octets.all - h.place)) + 16 * max v.octets.late c.most_late-most.result in
+    let M : Content → Type 0 = λ x. Moved v.octets x c.pop.new.meter c.head.new.meter k None in
+    popped-stepped c.args.limits v w c.args.meter.now c.pop.new.meter c.head.new.meter k None c.requires.can_step c.in-Some.ensures.cost (omega (arith, few, left))
+    (subst M (sym c.cut.ensures.octets) c.in-Ok.ensures.moved) (omega (arith, fits)) (omega (arith, few, left, before, most, late, same)) (omega (arith, few, left, before, most, room)) (omega (arith, n, k2, beside))
 
-pub cut-requires : goal.cut-requires
-cut-requires g c = grind (arith, common_steps) steps 400000
+pub returns-in-Err-clause-stepped : goal.returns-in-Err-clause-stepped
+returns-in-Err-clause-stepped g c =
+    let v = c.args.self.now in
+    let h = c.in-Some.innermost in
+    let before = c.requires.can_step.within.headers in
+    let short = c.requires.can_step.within.octets in
+    let few : length v.headers ≡ length (h ∷ c.pop.new.self) = ap (λ (hs : List HeaderPlace). length hs) c.in-Some.ensures.items in
+    let same : length c.head.new.self.all ≡ length v.octets.all = ap (λ (os : List ℕ). length os) c.in-Err.ensures.err in
+    let room = header-fits c.args.limits v h c.pop.new.self c.requires.open c.in-Some.ensures.items in
+    let most = c.most_late-most.ensures in
+    let late = c.in-Err.ensures.late in
+    let n = c.len-in-Err.ensures in
+    let k2 = c.late-in-Err.ensures in
+    let beside = c.room_of-self-in-Err.ensures in
+    popped-stepped c.args.limits v (record { octets = c.head.new.self; headers = c.pop.new.self; counts = v.counts; room = c.room_of-self-in-Err.result }) c.args.meter.now c.pop.new.meter c.head.new.meter _ (Some c.in-Err.fault) c.requires.can_step
+    c.in-Some.ensures.cost (omega (arith, few)) c.in-Err.ensures.moved (omega (arith, same, short)) (omega (arith, few, before, most, late)) (omega (arith, few, before, most, room)) (omega (arith, n, k2, beside))
 
-pub returns-clause-octets : goal.returns-clause-octets
-returns-clause-octets g c = grind (arith, common_steps) steps 400000
-
-pub insert_slice-requires-clause-within : goal.insert_slice-requires-clause-within
-insert_slice-requires-clause-within g c = grind (arith, common_steps) steps 400000
-
-pub returns-in_default-clause-open : goal.returns-in_default-clause-open
-returns-in_default-clause-open g c = grind (arith, common_steps) steps 400000
-
-pub returns-clause-headers : goal.returns-clause-headers
-returns-clause-headers g c = grind (arith, common_steps) steps 400000
-
-pub header-octets-requires-clause-code : goal.header-octets-requires-clause-code
-header-octets-requires-clause-code g c = grind (arith, common_steps) steps 400000
-
-pub overflow_sub-as_slice : goal.overflow_sub-as_slice
-overflow_sub-as_slice g c = grind (arith, common_steps) steps 400000
+pub cut-requires-clause-descend : goal.cut-requires-clause-descend
+cut-requires-clause-descend g c = c.requires.open.reached.descend

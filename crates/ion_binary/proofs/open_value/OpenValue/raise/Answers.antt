@@ -18,6 +18,7 @@ raising-preserved g c =
     record {
       headers = c.raising.invariant.headers;
       octets = c.raising.invariant.octets;
+      room = c.raising.invariant.room;
       counted = record {
         reached = raise-reached ns c.args.n hs c.args.level r c.requires.level strict below long;
         settled = raise-settled ns c.args.n hs c.args.level r c.requires.level strict c.raising.invariant.counted.settled;

@@ -6,6 +6,7 @@ abbrev pub invariant-raising : goal.invariant-raising
 invariant-raising g l = record {
   headers : l.self.headers ≡ l.fn.self.headers;
   octets : l.self.octets ≡ l.fn.self.octets;
+  room : l.self.room ≡ l.fn.self.room;
   counted : IsCountedTo l.level l.self.counts l.n l.self.headers;
   most : l.most ≡ most_at l.self.counts (length l.self.headers) l.level;
 }

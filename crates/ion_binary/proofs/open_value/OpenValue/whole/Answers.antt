@@ -1,9 +1,14 @@
-use Rattle.std.proofs.Common.{◌≡◌, ◌+◌, ◌-◌, ◌++◌, ℕ, List, length, take, drop, map, ap, subst, ◌∙◌, rules, append_assoc, arith}
+use Rattle.std.proofs.Common.{◌≡◌, ◌+◌, ◌-◌, ◌*◌, ◌≤◌, ◌++◌, ℕ, List, Option, Some, None, length, map, refl, ap, sym, subst, ◌∙◌, rules, append_assoc, arith, length-append}
 use Rattle.std.proofs.lemmas.Grind.{common_steps}
+use Rattle.ion_meter.specs.declared.fault.Fault.{Fault}
+use Rattle.ion_value.specs.Shares.{fault_of}
 use Rattle.ion_binary.specs.declared.headers.HeaderPlace.{HeaderPlace}
 use Rattle.ion_binary.specs.Counting.{IsCounted, counted_length, place_of_header}
-use Rattle.ion_binary.specs.Held.{whole_at}
-use Rattle.ion_binary.specs.Opening.{both_octets, wrapper_octets}
+use Rattle.ion_binary.specs.Held.{put_at, whole_at}
+use Rattle.ion_binary.specs.Late.{Content, Moved, appended}
+use Rattle.ion_binary.proofs.LateHeaders.{put-length}
+use Rattle.ion_binary.proofs.MovedSteps.{fault-of, grows-raises, put-stepped, raised-stepped, refused-stepped}
+use Rattle.ion_binary.specs.Opening.{Stepped, both_octets, wrapper_octets}
 use Rattle.ion_binary.specs.Places.{closed_length}
 use Rattle.ion_binary.proofs.CountedHeaders.{reached-more}
 use Rattle.ion_binary.proofs.OpenSteps.{opened, placed-more, size-counted, whole-length, whole-octets}
@@ -11,17 +16,17 @@ use Rattle.ion_binary.proofs.open_value.OpenValue.whole.Goals as goal
 
 pub closed_size-requires-clause-reached : goal.closed_size-requires-clause-reached
 closed_size-requires-clause-reached g c =
-    let e : length c.as_slice-octets.result.now ≡ length c.args.self.now.octets = ap (λ (os : List ℕ). length os) c.as_slice-octets.ensures in
+    let e : c.len-octets.result ≡ length c.args.self.now.octets.all = c.len-octets.ensures in
     let within = c.requires.open.within in
-    reached-more c.args.self.now.counts c.args.place (length c.as_slice-octets.result.now + c.len.result + c.len-length.result) c.args.self.now.headers (omega (arith, e, within)) c.requires.open.reached
+    reached-more c.args.self.now.counts c.args.place (c.len-octets.result + c.len.result + c.len-length.result) c.args.self.now.headers (omega (arith, e, within)) c.requires.open.reached
 
 pub returns-then-closed_size-limits-clause-over : goal.returns-then-closed_size-limits-clause-over
 returns-then-closed_size-limits-clause-over g c is =
     let hs : List HeaderPlace = c.args.self.now.headers in
     let x : List ℕ = both_octets c.args.scalar.now in
-    let e : length c.as_slice-octets.result.now ≡ length c.args.self.now.octets = ap (λ (os : List ℕ). length os) c.as_slice-octets.ensures in
+    let e : c.len-octets.result ≡ length c.args.self.now.octets.all = c.len-octets.ensures in
     let within = c.requires.open.within in
-    let n : ℕ = length c.as_slice-octets.result.now + c.len.result + c.len-length.result in
+    let n : ℕ = c.len-octets.result + c.len.result + c.len-length.result in
     let P : List HeaderPlace → Type 0 = λ gs. IsCounted c.closed_size.new.self.counts n gs in
     let i : IsCounted c.closed_size.new.self.counts n hs = subst P c.closed_size.ensures.headers c.closed_size.ensures.counted in
     let few = c.requires.can_step.within.headers in
@@ -33,81 +38,64 @@ returns-then-closed_size-limits-clause-over g c is =
     let len = c.len.ensures.value in
     let s = size-counted c.closed_size.new.self.counts n hs i (placed-more c.args.place n hs (omega (arith, e, within)) c.requires.open.placed) (omega (arith, few, depth))
     (omega (arith, e, octets, value, short, front, len)) in
-    let l = whole-length c.args.place c.args.self.now.octets x within in
-    let w : length c.wrapper-front.result.items ≡ length (wrapper_octets (length c.as_slice-octets.result.now - c.args.place) c.len-length.result) = ap (λ (os : List ℕ). length os) c.wrapper-front.ensures.octets in
-    let v : length (wrapper_octets (length c.as_slice-octets.result.now - c.args.place) c.len-length.result) ≡ length (wrapper_octets (length c.args.self.now.octets - c.args.place) (length x)) =
-    ap (λ m. length (wrapper_octets (m - c.args.place) c.len-length.result)) e ∙ ap (λ m. length (wrapper_octets (length c.args.self.now.octets - c.args.place) m)) c.len-length.ensures in
-    let long : length (whole_at c.args.place c.args.self.now.octets x) ≡ n = let k = c.len-length.ensures in omega (arith, l, w, v, len, e, k) in
+    let l = whole-length c.args.place c.args.self.now.octets.all x within in
+    let w : length c.wrapper-front.result.items ≡ length (wrapper_octets (c.len-octets.result - c.args.place) c.len-length.result) = ap (λ (os : List ℕ). length os) c.wrapper-front.ensures.octets in
+    let v : length (wrapper_octets (c.len-octets.result - c.args.place) c.len-length.result) ≡ length (wrapper_octets (length c.args.self.now.octets.all - c.args.place) (length x)) =
+    ap (λ m. length (wrapper_octets (m - c.args.place) c.len-length.result)) e ∙ ap (λ m. length (wrapper_octets (length c.args.self.now.octets.all - c.args.place) m)) c.len-length.ensures in
+    let long : length (whole_at c.args.place c.args.self.now.octets.all x) ≡ n = let k = c.len-length.ensures in omega (arith, l, w, v, len, e, k) in
     let t = c.if-closed_size-limits.true in
     let size = c.closed_size.ensures.size in
-    let same : closed_length (length (whole_at c.args.place c.args.self.now.octets x)) (map place_of_header hs) ≡ closed_length n (map place_of_header hs) = ap (λ m. closed_length m (map place_of_header hs)) long in
+    let same : closed_length (length (whole_at c.args.place c.args.self.now.octets.all x)) (map place_of_header hs) ≡ closed_length n (map place_of_header hs) = ap (λ m. closed_length m (map place_of_header hs)) long in
     let sized : counted_length c.closed_size.new.self.counts n c.closed_size.new.self.headers ≡ counted_length c.closed_size.new.self.counts n hs = ap (counted_length c.closed_size.new.self.counts n) c.closed_size.ensures.headers in
     omega (arith, t, size, same, sized, s)
 
 pub returns-clause-octets : goal.returns-clause-octets
 returns-clause-octets g c is =
-    let o : List ℕ = c.args.self.now.octets in
+    let o : List ℕ = c.args.self.now.octets.all in
     let x : List ℕ = both_octets c.args.scalar.now in
-    let put : c.extend_some.new.octets ≡ ((take c.args.place o ++ (wrapper_octets (length o - c.args.place) (length x) ++ drop c.args.place o)) ++ c.args.scalar.now.front.now) ++ c.args.scalar.now.rest.now =
-    let e : length c.as_slice-octets.result.now ≡ length o = ap (λ (os : List ℕ). length os) c.as_slice-octets.ensures in
+    let front : List ℕ = c.args.scalar.now.front.now in
+    let rest : List ℕ = c.args.scalar.now.rest.now in
+    let e : c.len-octets.result ≡ length o = c.len-octets.ensures in
     let w : c.wrapper-front.result.items ≡ wrapper_octets (length o - c.args.place) (length x) =
     c.wrapper-front.ensures.octets
     ∙ (ap (λ m. wrapper_octets (m - c.args.place) c.len-length.result) e ∙ ap (λ m. wrapper_octets (length o - c.args.place) m) c.len-length.ensures) in
-    let third : c.extend_some.new.octets ≡ c.extend.new.self ++ c.args.scalar.now.rest.now = search rules in
-    let second : c.extend.new.self ≡ c.insert_some.new.octets ++ c.args.scalar.now.front.now = search rules in
-    let first : c.insert_some.new.octets ≡ take c.args.place o ++ (c.wrapper-front.result.items ++ drop c.args.place o) = search rules in
-    third
-    ∙ ap (λ (y : List ℕ). y ++ c.args.scalar.now.rest.now)
-    (second ∙ ap (λ (y : List ℕ). y ++ c.args.scalar.now.front.now) (first ∙ ap (λ (y : List ℕ). take c.args.place o ++ (y ++ drop c.args.place o)) w)) in
-    put ∙ (append_assoc (take c.args.place o ++ (wrapper_octets (length o - c.args.place) (length x) ++ drop c.args.place o)) c.args.scalar.now.front.now c.args.scalar.now.rest.now
-    ∙ whole-octets c.args.place o x c.requires.open.within)
+    let third : c.extend_some.new.octets ≡ appended c.extend.new.self rest = search rules in
+    let second : c.extend.new.self ≡ appended c.insert_some.new.octets front = search rules in
+    let first : c.insert_some.new.octets.all ≡ put_at c.args.place c.wrapper-front.result.items o = search rules in
+    ap (λ (y : Content). y.all) third
+    ∙ (ap (λ (y : Content). y.all ++ rest) second
+    ∙ (ap (λ (y : List ℕ). (y ++ front) ++ rest) (first ∙ ap (λ (y : List ℕ). put_at c.args.place y o) w)
+    ∙ (append_assoc (put_at c.args.place (wrapper_octets (length o - c.args.place) (length x)) o) front rest
+    ∙ whole-octets c.args.place o x c.requires.open.within)))
 
 pub returns-clause-open : goal.returns-clause-open
 returns-clause-open g c is =
-    let n : ℕ = length c.as_slice-octets.result.now + c.len.result + c.len-length.result in
-    let e : length c.as_slice-octets.result.now ≡ length c.args.self.now.octets = ap (λ (os : List ℕ). length os) c.as_slice-octets.ensures in
+    let n : ℕ = c.len-octets.result + c.len.result + c.len-length.result in
+    let e : c.len-octets.result ≡ length c.args.self.now.octets.all = c.len-octets.ensures in
     let within = c.requires.open.within in
     let x : List ℕ = both_octets c.args.scalar.now in
-    let l = whole-length c.args.place c.args.self.now.octets x within in
-    let w : length c.wrapper-front.result.items ≡ length (wrapper_octets (length c.as_slice-octets.result.now - c.args.place) c.len-length.result) = ap (λ (os : List ℕ). length os) c.wrapper-front.ensures.octets in
-    let v : length (wrapper_octets (length c.as_slice-octets.result.now - c.args.place) c.len-length.result) ≡ length (wrapper_octets (length c.args.self.now.octets - c.args.place) (length x)) =
-    ap (λ m. length (wrapper_octets (m - c.args.place) c.len-length.result)) e ∙ ap (λ m. length (wrapper_octets (length c.args.self.now.octets - c.args.place) m)) c.len-length.ensures in
+    let l = whole-length c.args.place c.args.self.now.octets.all x within in
+    let w : length c.wrapper-front.result.items ≡ length (wrapper_octets (c.len-octets.result - c.args.place) c.len-length.result) = ap (λ (os : List ℕ). length os) c.wrapper-front.ensures.octets in
+    let v : length (wrapper_octets (c.len-octets.result - c.args.place) c.len-length.result) ≡ length (wrapper_octets (length c.args.self.now.octets.all - c.args.place) (length x)) =
+    ap (λ m. length (wrapper_octets (m - c.args.place) c.len-length.result)) e ∙ ap (λ m. length (wrapper_octets (length c.args.self.now.octets.all - c.args.place) m)) c.len-length.ensures in
     let len = c.len.ensures.value in
-    let o : length c.extend_some.new.octets ≡ length (whole_at c.args.place c.args.self.now.octets x) = ap (λ (os : List ℕ). length os) (returns-clause-octets g c is) in
-    let long : length c.extend_some.new.octets ≡ n = let k = c.len-length.ensures in omega (arith, o, l, w, v, len, e, k) in
+    let o : length c.extend_some.new.octets.all ≡ length (whole_at c.args.place c.args.self.now.octets.all x) = ap (λ (os : List ℕ). length os) (returns-clause-octets g c is) in
+    let long : length c.extend_some.new.octets.all ≡ n = let k = c.len-length.ensures in omega (arith, o, l, w, v, len, e, k) in
     let t = c.if-closed_size-limits.false in
     let size = c.closed_size.ensures.size in
     let few = c.requires.can_step.within.headers in
     let same : length c.closed_size.new.self.headers ≡ length c.args.self.now.headers = ap (λ (gs : List HeaderPlace). length gs) c.closed_size.ensures.headers in
-    opened c.args.limits c.args.self.now (record { octets = c.extend_some.new.octets; headers = c.closed_size.new.self.headers; counts = c.closed_size.new.self.counts }) c.args.place n c.requires.can_step.checked (omega (arith, few, same)) c.requires.open
+    opened c.args.limits c.args.self.now (record c.closed_size.new.self { octets = c.extend_some.new.octets }) c.args.place n c.requires.can_step.checked (omega (arith, few, same)) c.requires.open
     (omega (arith, e, within)) long c.closed_size.ensures.headers c.closed_size.ensures.counted (omega (arith, t, size))
 
 pub returns-then-length-limits-clause-over : goal.returns-then-length-limits-clause-over
 returns-then-length-limits-clause-over g c = grind (arith, common_steps)
-
-pub extend-requires-clause-room : goal.extend-requires-clause-room
-extend-requires-clause-room g c = grind (arith, common_steps)
-
-pub returns-in_err-extend-clause-stepped : goal.returns-in_err-extend-clause-stepped
-returns-in_err-extend-clause-stepped g c = grind (arith, common_steps)
-
-pub extend_some-requires-clause-room : goal.extend_some-requires-clause-room
-extend_some-requires-clause-room g c = grind (arith, common_steps)
-
-pub returns-in_err-extend_some-clause-stepped : goal.returns-in_err-extend_some-clause-stepped
-returns-in_err-extend_some-clause-stepped g c = grind (arith, common_steps)
-
-pub returns-clause-stepped : goal.returns-clause-stepped
-returns-clause-stepped g c = grind (arith, common_steps)
 
 pub returns-clause-over : goal.returns-clause-over
 returns-clause-over c = grind (arith, common_steps) steps 400000
 
 pub insert_some-requires-clause-within : goal.insert_some-requires-clause-within
 insert_some-requires-clause-within c = grind (arith, common_steps) steps 400000
-
-pub extend-requires-clause-countable : goal.extend-requires-clause-countable
-extend-requires-clause-countable c = grind (arith, common_steps) steps 400000
 
 pub returns-then-closed_size-limits-clause-open : goal.returns-then-closed_size-limits-clause-open
 returns-then-closed_size-limits-clause-open c = grind (arith, common_steps) steps 400000
@@ -123,3 +111,196 @@ closed_size-requires-clause-short c = grind (arith, common_steps) steps 400000
 
 pub wrapper-front-requires-clause-ids : goal.wrapper-front-requires-clause-ids
 wrapper-front-requires-clause-ids c = grind (arith, common_steps) steps 400000
+
+pub returns-in_err-insert_some-clause-stepped : goal.returns-in_err-insert_some-clause-stepped
+returns-in_err-insert_some-clause-stepped g c =
+    let v = c.args.self.now in
+    let front : List ℕ = c.args.scalar.now.front.now in
+    let rest : List ℕ = c.args.scalar.now.rest.now in
+    let k : ℕ = length c.as_slice.result.now in
+    let e : c.len-octets.result ≡ length v.octets.all = c.len-octets.ensures in
+    let l : c.len.result ≡ k = c.len.ensures.value ∙ sym (ap (λ (os : List ℕ). length os) c.as_slice.ensures.value) in
+    let sum = length-append front rest in
+    let j = c.len-length.ensures in
+    let t = c.if-closed_size-limits.false in
+    let size = c.closed_size.ensures.size in
+    let octets = c.closed_size.ensures.octets in
+    let headers = c.closed_size.ensures.headers in
+    let w = record c.closed_size.new.self { octets = c.insert_some.new.octets } in
+    let M : Content → Type 0 = λ x. Moved x c.insert_some.new.octets c.args.meter.now c.insert_some.new.meter (length x.all + k + 16 * x.late) (Some c.in_err-insert_some.field-0.0) in
+    let moved = subst M octets c.in_err-insert_some.ensures.moved in
+    let late : c.insert_some.new.octets.late ≤ v.octets.late = subst (λ (x : Content). c.insert_some.new.octets.late ≤ x.late) octets c.in_err-insert_some.ensures.late in
+    let same : length c.insert_some.new.octets.all ≡ length v.octets.all = ap (λ (os : List ℕ). length os) (c.in_err-insert_some.ensures.err ∙ ap (λ (x : Content). x.all) octets) in
+    let short = c.requires.can_step.within.octets in
+    subst (λ (f : Option Fault). Stepped c.args.limits v w c.args.meter.now c.insert_some.new.meter f) (fault-of c.from_residual.result c.in_err-insert_some.field-0.0 c.from_residual.ensures)
+    (put-stepped c.args.limits v w c.args.meter.now c.insert_some.new.meter k (Some c.in_err-insert_some.field-0.0) c.requires.can_step headers moved late (omega (arith, same, short)) (omega (arith, e, l, t, size)) c.closed_size.ensures.room)
+
+pub extend-requires-clause-room : goal.extend-requires-clause-room
+extend-requires-clause-room g c =
+    let v = c.args.self.now in
+    let front : List ℕ = c.args.scalar.now.front.now in
+    let rest : List ℕ = c.args.scalar.now.rest.now in
+    let k : ℕ = length c.as_slice.result.now in
+    let e : c.len-octets.result ≡ length v.octets.all = c.len-octets.ensures in
+    let l : c.len.result ≡ k = c.len.ensures.value ∙ sym (ap (λ (os : List ℕ). length os) c.as_slice.ensures.value) in
+    let sum = length-append front rest in
+    let j = c.len-length.ensures in
+    let t = c.if-closed_size-limits.false in
+    let size = c.closed_size.ensures.size in
+    let octets = c.closed_size.ensures.octets in
+    let headers = c.closed_size.ensures.headers in
+    let w = record c.closed_size.new.self { octets = c.insert_some.new.octets } in
+    let M : Content → Type 0 = λ x. Moved x c.insert_some.new.octets c.args.meter.now c.insert_some.new.meter (length x.all + k + 16 * x.late) None in
+    let moved = subst M octets c.in_ok-insert_some.ensures.moved in
+    let late : c.insert_some.new.octets.late ≤ v.octets.late = subst (λ (x : Content). c.insert_some.new.octets.late ≤ x.late) octets c.in_ok-insert_some.ensures.late in
+    let first : c.insert_some.new.octets.all ≡ put_at c.args.place c.as_slice.result.now v.octets.all = c.in_ok-insert_some.ensures.ok ∙ ap (λ (x : Content). put_at c.args.place c.as_slice.result.now x.all) octets in
+    let long : length c.insert_some.new.octets.all ≡ length (put_at c.args.place c.as_slice.result.now v.octets.all) = ap (λ (os : List ℕ). length os) first in
+    let put = put-length c.args.place c.as_slice.result.now v.octets.all c.requires.open.within in
+    let s = put-stepped c.args.limits v w c.args.meter.now c.insert_some.new.meter k None c.requires.can_step headers moved late (omega (arith, e, l, t, size, long, put)) (omega (arith, e, l, t, size)) c.closed_size.ensures.room in
+    let h = s.charges.held in
+    let most = s.charges.share in
+    let own = c.requires.can_step.held in
+    let room = c.requires.can_step.room in
+    let value = c.requires.can_step.checked.value in
+    let depth = c.requires.can_step.checked.depth in
+    omega (arith, h, most, own, room, value, depth, e, l, t, size, sum, j)
+
+pub extend-requires-clause-countable : goal.extend-requires-clause-countable
+extend-requires-clause-countable g c =
+    let counted = c.in_ok-insert_some.ensures.moved.memory.counted (λ e. absurd (Prim.cc e)) in
+    let countable = c.requires.can_step.countable in
+    omega (arith, counted, countable)
+
+pub returns-in_err-extend-clause-stepped : goal.returns-in_err-extend-clause-stepped
+returns-in_err-extend-clause-stepped g c =
+    let v = c.args.self.now in
+    let front : List ℕ = c.args.scalar.now.front.now in
+    let rest : List ℕ = c.args.scalar.now.rest.now in
+    let k : ℕ = length c.as_slice.result.now in
+    let e : c.len-octets.result ≡ length v.octets.all = c.len-octets.ensures in
+    let l : c.len.result ≡ k = c.len.ensures.value ∙ sym (ap (λ (os : List ℕ). length os) c.as_slice.ensures.value) in
+    let sum = length-append front rest in
+    let j = c.len-length.ensures in
+    let t = c.if-closed_size-limits.false in
+    let size = c.closed_size.ensures.size in
+    let octets = c.closed_size.ensures.octets in
+    let headers = c.closed_size.ensures.headers in
+    let w = record c.closed_size.new.self { octets = c.insert_some.new.octets } in
+    let M : Content → Type 0 = λ x. Moved x c.insert_some.new.octets c.args.meter.now c.insert_some.new.meter (length x.all + k + 16 * x.late) None in
+    let moved = subst M octets c.in_ok-insert_some.ensures.moved in
+    let late : c.insert_some.new.octets.late ≤ v.octets.late = subst (λ (x : Content). c.insert_some.new.octets.late ≤ x.late) octets c.in_ok-insert_some.ensures.late in
+    let first : c.insert_some.new.octets.all ≡ put_at c.args.place c.as_slice.result.now v.octets.all = c.in_ok-insert_some.ensures.ok ∙ ap (λ (x : Content). put_at c.args.place c.as_slice.result.now x.all) octets in
+    let long : length c.insert_some.new.octets.all ≡ length (put_at c.args.place c.as_slice.result.now v.octets.all) = ap (λ (os : List ℕ). length os) first in
+    let put = put-length c.args.place c.as_slice.result.now v.octets.all c.requires.open.within in
+    let s = put-stepped c.args.limits v w c.args.meter.now c.insert_some.new.meter k None c.requires.can_step headers moved late (omega (arith, e, l, t, size, long, put)) (omega (arith, e, l, t, size)) c.closed_size.ensures.room in
+    let U : Content → Type 0 = λ x. Stepped c.args.limits v (record w { octets = x }) c.args.meter.now c.extend.new.meter (fault_of c.from_residual-in_err-extend.result) in
+    subst U (sym c.in_err-extend.ensures.err)
+    (subst (λ (f : Option Fault). Stepped c.args.limits v w c.args.meter.now c.extend.new.meter f) (fault-of c.from_residual-in_err-extend.result c.in_err-extend.field-0.0 c.from_residual-in_err-extend.ensures)
+    (refused-stepped c.args.limits v w c.args.meter.now c.insert_some.new.meter c.extend.new.meter c.in_err-extend.field-0.0 s c.in_err-extend.ensures.memory c.in_err-extend.ensures.refused))
+
+pub extend_some-requires-clause-room : goal.extend_some-requires-clause-room
+extend_some-requires-clause-room g c =
+    let v = c.args.self.now in
+    let front : List ℕ = c.args.scalar.now.front.now in
+    let rest : List ℕ = c.args.scalar.now.rest.now in
+    let k : ℕ = length c.as_slice.result.now in
+    let e : c.len-octets.result ≡ length v.octets.all = c.len-octets.ensures in
+    let l : c.len.result ≡ k = c.len.ensures.value ∙ sym (ap (λ (os : List ℕ). length os) c.as_slice.ensures.value) in
+    let sum = length-append front rest in
+    let j = c.len-length.ensures in
+    let t = c.if-closed_size-limits.false in
+    let size = c.closed_size.ensures.size in
+    let octets = c.closed_size.ensures.octets in
+    let headers = c.closed_size.ensures.headers in
+    let w = record c.closed_size.new.self { octets = c.insert_some.new.octets } in
+    let M : Content → Type 0 = λ x. Moved x c.insert_some.new.octets c.args.meter.now c.insert_some.new.meter (length x.all + k + 16 * x.late) None in
+    let moved = subst M octets c.in_ok-insert_some.ensures.moved in
+    let late : c.insert_some.new.octets.late ≤ v.octets.late = subst (λ (x : Content). c.insert_some.new.octets.late ≤ x.late) octets c.in_ok-insert_some.ensures.late in
+    let first : c.insert_some.new.octets.all ≡ put_at c.args.place c.as_slice.result.now v.octets.all = c.in_ok-insert_some.ensures.ok ∙ ap (λ (x : Content). put_at c.args.place c.as_slice.result.now x.all) octets in
+    let long : length c.insert_some.new.octets.all ≡ length (put_at c.args.place c.as_slice.result.now v.octets.all) = ap (λ (os : List ℕ). length os) first in
+    let put = put-length c.args.place c.as_slice.result.now v.octets.all c.requires.open.within in
+    let s = put-stepped c.args.limits v w c.args.meter.now c.insert_some.new.meter k None c.requires.can_step headers moved late (omega (arith, e, l, t, size, long, put)) (omega (arith, e, l, t, size)) c.closed_size.ensures.room in
+    let u = record c.closed_size.new.self { octets = c.extend.new.self } in
+    let more : length c.extend.new.self.all ≡ length (c.insert_some.new.octets.all ++ front) = ap (λ (x : Content). length x.all) c.in_ok-extend.ensures.ok in
+    let a = length-append c.insert_some.new.octets.all front in
+    let r = raised-stepped c.args.limits v w u c.args.meter.now c.insert_some.new.meter c.extend.new.meter front c.requires.can_step s c.in_ok-extend.ensures.ok refl
+    (grows-raises c.insert_some.new.meter c.extend.new.meter (length front) c.in_ok-extend.ensures.cost) (omega (arith, e, l, t, size, long, put, more, a, sum, j)) refl in
+    let h = r.charges.held in
+    let most = r.charges.share in
+    let own = c.requires.can_step.held in
+    let room = c.requires.can_step.room in
+    let value = c.requires.can_step.checked.value in
+    let depth = c.requires.can_step.checked.depth in
+    omega (arith, h, most, own, room, value, depth, e, l, t, size, sum, j)
+
+pub extend_some-requires-clause-countable : goal.extend_some-requires-clause-countable
+extend_some-requires-clause-countable g c =
+    let counted = c.in_ok-insert_some.ensures.moved.memory.counted (λ e. absurd (Prim.cc e)) in
+    let grown = c.in_ok-extend.ensures.cost.refused in
+    let countable = c.requires.can_step.countable in
+    omega (arith, counted, grown, countable)
+
+pub returns-in_err-extend_some-clause-stepped : goal.returns-in_err-extend_some-clause-stepped
+returns-in_err-extend_some-clause-stepped g c =
+    let v = c.args.self.now in
+    let front : List ℕ = c.args.scalar.now.front.now in
+    let rest : List ℕ = c.args.scalar.now.rest.now in
+    let k : ℕ = length c.as_slice.result.now in
+    let e : c.len-octets.result ≡ length v.octets.all = c.len-octets.ensures in
+    let l : c.len.result ≡ k = c.len.ensures.value ∙ sym (ap (λ (os : List ℕ). length os) c.as_slice.ensures.value) in
+    let sum = length-append front rest in
+    let j = c.len-length.ensures in
+    let t = c.if-closed_size-limits.false in
+    let size = c.closed_size.ensures.size in
+    let octets = c.closed_size.ensures.octets in
+    let headers = c.closed_size.ensures.headers in
+    let w = record c.closed_size.new.self { octets = c.insert_some.new.octets } in
+    let M : Content → Type 0 = λ x. Moved x c.insert_some.new.octets c.args.meter.now c.insert_some.new.meter (length x.all + k + 16 * x.late) None in
+    let moved = subst M octets c.in_ok-insert_some.ensures.moved in
+    let late : c.insert_some.new.octets.late ≤ v.octets.late = subst (λ (x : Content). c.insert_some.new.octets.late ≤ x.late) octets c.in_ok-insert_some.ensures.late in
+    let first : c.insert_some.new.octets.all ≡ put_at c.args.place c.as_slice.result.now v.octets.all = c.in_ok-insert_some.ensures.ok ∙ ap (λ (x : Content). put_at c.args.place c.as_slice.result.now x.all) octets in
+    let long : length c.insert_some.new.octets.all ≡ length (put_at c.args.place c.as_slice.result.now v.octets.all) = ap (λ (os : List ℕ). length os) first in
+    let put = put-length c.args.place c.as_slice.result.now v.octets.all c.requires.open.within in
+    let s = put-stepped c.args.limits v w c.args.meter.now c.insert_some.new.meter k None c.requires.can_step headers moved late (omega (arith, e, l, t, size, long, put)) (omega (arith, e, l, t, size)) c.closed_size.ensures.room in
+    let u = record c.closed_size.new.self { octets = c.extend.new.self } in
+    let more : length c.extend.new.self.all ≡ length (c.insert_some.new.octets.all ++ front) = ap (λ (x : Content). length x.all) c.in_ok-extend.ensures.ok in
+    let a = length-append c.insert_some.new.octets.all front in
+    let r = raised-stepped c.args.limits v w u c.args.meter.now c.insert_some.new.meter c.extend.new.meter front c.requires.can_step s c.in_ok-extend.ensures.ok refl
+    (grows-raises c.insert_some.new.meter c.extend.new.meter (length front) c.in_ok-extend.ensures.cost) (omega (arith, e, l, t, size, long, put, more, a, sum, j)) refl in
+    let U : Content → Type 0 = λ x. Stepped c.args.limits v (record u { octets = x }) c.args.meter.now c.extend_some.new.meter (fault_of c.from_residual-in_err-extend_some.result) in
+    subst U (sym c.in_err-extend_some.ensures.err)
+    (subst (λ (f : Option Fault). Stepped c.args.limits v u c.args.meter.now c.extend_some.new.meter f) (fault-of c.from_residual-in_err-extend_some.result c.in_err-extend_some.field-0.0 c.from_residual-in_err-extend_some.ensures)
+    (refused-stepped c.args.limits v u c.args.meter.now c.extend.new.meter c.extend_some.new.meter c.in_err-extend_some.field-0.0 r c.in_err-extend_some.ensures.memory c.in_err-extend_some.ensures.refused))
+
+pub returns-clause-stepped : goal.returns-clause-stepped
+returns-clause-stepped g c =
+    let v = c.args.self.now in
+    let front : List ℕ = c.args.scalar.now.front.now in
+    let rest : List ℕ = c.args.scalar.now.rest.now in
+    let k : ℕ = length c.as_slice.result.now in
+    let e : c.len-octets.result ≡ length v.octets.all = c.len-octets.ensures in
+    let l : c.len.result ≡ k = c.len.ensures.value ∙ sym (ap (λ (os : List ℕ). length os) c.as_slice.ensures.value) in
+    let sum = length-append front rest in
+    let j = c.len-length.ensures in
+    let t = c.if-closed_size-limits.false in
+    let size = c.closed_size.ensures.size in
+    let octets = c.closed_size.ensures.octets in
+    let headers = c.closed_size.ensures.headers in
+    let w = record c.closed_size.new.self { octets = c.insert_some.new.octets } in
+    let M : Content → Type 0 = λ x. Moved x c.insert_some.new.octets c.args.meter.now c.insert_some.new.meter (length x.all + k + 16 * x.late) None in
+    let moved = subst M octets c.in_ok-insert_some.ensures.moved in
+    let late : c.insert_some.new.octets.late ≤ v.octets.late = subst (λ (x : Content). c.insert_some.new.octets.late ≤ x.late) octets c.in_ok-insert_some.ensures.late in
+    let first : c.insert_some.new.octets.all ≡ put_at c.args.place c.as_slice.result.now v.octets.all = c.in_ok-insert_some.ensures.ok ∙ ap (λ (x : Content). put_at c.args.place c.as_slice.result.now x.all) octets in
+    let long : length c.insert_some.new.octets.all ≡ length (put_at c.args.place c.as_slice.result.now v.octets.all) = ap (λ (os : List ℕ). length os) first in
+    let put = put-length c.args.place c.as_slice.result.now v.octets.all c.requires.open.within in
+    let s = put-stepped c.args.limits v w c.args.meter.now c.insert_some.new.meter k None c.requires.can_step headers moved late (omega (arith, e, l, t, size, long, put)) (omega (arith, e, l, t, size)) c.closed_size.ensures.room in
+    let u = record c.closed_size.new.self { octets = c.extend.new.self } in
+    let more : length c.extend.new.self.all ≡ length (c.insert_some.new.octets.all ++ front) = ap (λ (x : Content). length x.all) c.in_ok-extend.ensures.ok in
+    let a = length-append c.insert_some.new.octets.all front in
+    let r = raised-stepped c.args.limits v w u c.args.meter.now c.insert_some.new.meter c.extend.new.meter front c.requires.can_step s c.in_ok-extend.ensures.ok refl
+    (grows-raises c.insert_some.new.meter c.extend.new.meter (length front) c.in_ok-extend.ensures.cost) (omega (arith, e, l, t, size, long, put, more, a, sum, j)) refl in
+    let z = record c.closed_size.new.self { octets = c.extend_some.new.octets } in
+    let last : length c.extend_some.new.octets.all ≡ length (c.extend.new.self.all ++ rest) = ap (λ (x : Content). length x.all) c.in_ok-extend_some.ensures.ok in
+    let b = length-append c.extend.new.self.all rest in
+    raised-stepped c.args.limits v u z c.args.meter.now c.extend.new.meter c.extend_some.new.meter rest c.requires.can_step r c.in_ok-extend_some.ensures.ok refl
+    c.in_ok-extend_some.ensures.cost (omega (arith, e, l, t, size, long, put, more, a, last, b, sum, j)) refl

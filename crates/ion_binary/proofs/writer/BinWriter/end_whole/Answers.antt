@@ -1,6 +1,7 @@
 use Rattle.std.proofs.Common.{◌≡◌, List, ℕ, length, ap, ◌∙◌, arith}
 use Rattle.std.proofs.lemmas.Grind.{common_steps}
 use Rattle.ion_binary.specs.Canonical.{header}
+use Rattle.ion_binary.specs.Late.{Content}
 use Rattle.ion_binary.specs.Plain.{as_item}
 use Rattle.ion_binary.proofs.PlainAdded.{both-put, plain-ended}
 use Rattle.ion_binary.proofs.writer.BinWriter.end_whole.Goals as goal
@@ -12,12 +13,12 @@ returns g c =
     let x : List ℕ = c.header-before.result.items in
     let texts : length c.new_since.result ≡ length w.symbols.texts = ap (λ (ts : List (List ℕ)). length ts) c.new_since.ensures in
     let all : w.declared ≡ length w.symbols.texts = let n = c.len.ensures in let f : c.len.result ≡ w.declared = c.if-len-self.false in omega (arith, n, f, texts) in
-    let is : x ≡ header o.code (length w.open_value.octets) = c.header-before.ensures ∙ ap (λ (os : List ℕ). header o.code (length os)) c.as_slice-octets.ensures in
-    let put = both-put c.args.sink.now c.put_within.new.self c.put_within-2.new.self x w.open_value.octets c.as_slice.result.now c.as_slice-octets.result.now
-    c.put_within.ensures c.as_slice.ensures.value c.put_within-2.ensures c.as_slice-octets.ensures in
+    let is : x ≡ header o.code (length w.open_value.octets.all) = c.header-before.ensures ∙ ap (λ (os : List ℕ). header o.code (length os)) c.in-Some-all.ensures in
+    let put = both-put c.args.sink.now c.put_within.new.self c.put_within-2.new.self x w.open_value.octets.all c.as_slice.result.now c.in-Some-all.octets.now
+    c.put_within.ensures c.as_slice.ensures.value c.put_within-2.ensures c.in-Some-all.ensures in
     plain-ended w c.clear.new.self o c.args.meter.now c.clear.new.meter (as_item c.args.item.now) c.args.sink.now c.put_within-2.new.self x
     c.requires.can_take c.requires.comes.counted c.requires.comes.follows c.requires.head c.in-Some.ensures c.if-outermost-ne0.false c.if-self.false all is put
-    c.clear.ensures.nothing.0 c.clear.ensures.nothing.1 c.clear.ensures.open c.clear.ensures.stepped
+    (ap (λ (x : Content). x.all) c.clear.ensures.nothing.0) c.clear.ensures.nothing.1 c.clear.ensures.open c.clear.ensures.stepped
 
 pub returns-then-room-len : goal.returns-then-room-len
 returns-then-room-len g c = grind (arith, common_steps) steps 400000
@@ -29,7 +30,7 @@ pub returns-then-self : goal.returns-then-self
 returns-then-self g c = grind (arith, common_steps) steps 400000
 
 pub put_within-requires-2 : goal.put_within-requires-2
-put_within-requires-2 g c = grind (arith, common_steps) steps 400000
+put_within-requires-2 g c = grind (arith, common_steps)
 
 pub header-before-requires-clause-code : goal.header-before-requires-clause-code
 header-before-requires-clause-code g c = grind (arith, common_steps) steps 400000

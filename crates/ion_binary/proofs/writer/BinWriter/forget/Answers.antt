@@ -12,7 +12,7 @@ returns-then-cost-self-clause-held g c =
     let none : length w.open_value.headers ≡ 0 = let n = c.len-begins.ensures in let t = c.if-begins.true in omega (arith, n, t) in
     let e = c.cost.ensures in
     let t = c.if-cost-self.true in
-    same-held w.open_value.octets w.open_value.octets w.open_value.headers w.open_value.headers c.clear.new.self.texts [] 0 0 true true refl refl (ap (λ (o : Output). o.texts) c.clear.ensures.cleared) refl refl
+    same-held w.open_value.octets.all w.open_value.octets.all w.open_value.headers w.open_value.headers c.clear.new.self.texts [] 0 0 true true refl refl (ap (λ (o : Output). o.texts) c.clear.ensures.cleared) refl refl
     ∙ sym (forgotten w.limits.symbols (held_in w) w.open_value.headers none (omega (arith, e, t)))
 
 pub returns-else-begins-clause-held : goal.returns-else-begins-clause-held

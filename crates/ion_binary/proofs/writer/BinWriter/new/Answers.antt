@@ -1,10 +1,12 @@
-use Rattle.std.proofs.Common.{[], false, refl, ap, arith}
+use Rattle.std.proofs.Common.{[], false, refl, ap}
 use Rattle.ion_symbols.specs.Output.{Output}
+use Rattle.ion_binary.specs.Late.{Content}
 use Rattle.ion_binary.proofs.WriterSteps.{same-held}
 use Rattle.ion_binary.proofs.writer.BinWriter.new.Goals as goal
 
 pub returns-clause-fresh : goal.returns-clause-fresh
 returns-clause-fresh g c =
     let held =
-    same-held c.new-2.result.octets [] c.new-2.result.headers [] c.new.result.texts [] 0 0 false false c.new-2.ensures.nothing.0 c.new-2.ensures.nothing.1 (ap (λ (o : Output). o.texts) c.new.ensures) refl refl in
-    record { well = refl; held = held; holds = record { held = held; is_open = c.new-2.ensures.open c.args.limits; ended = omega arith; codes = tt } }
+    same-held c.new-2.result.octets.all [] c.new-2.result.headers [] c.new.result.texts [] 0 0 false false (ap (λ (o : Content). o.all) c.new-2.ensures.nothing.0) c.new-2.ensures.nothing.1
+    (ap (λ (o : Output). o.texts) c.new.ensures) refl refl in
+    record { well = refl; held = held; holds = record { held = held; is_open = c.new-2.ensures.open; codes = tt } }

@@ -5,6 +5,7 @@ use Rattle.ion_binary.specs.declared.headers.HeaderPlace.{HeaderPlace}
 use Rattle.ion_binary.specs.Held.{value_put}
 use Rattle.ion_binary.specs.Writer.{PutsOctets, held_in}
 use Rattle.ion_binary.proofs.DeclarationOctets.{few-texts}
+use Rattle.ion_binary.specs.Late.{Content}
 use Rattle.ion_binary.proofs.WriterSteps.{none-open, puts-nothing}
 use Rattle.ion_binary.proofs.writer.BinWriter.put_out.Goals as goal
 
@@ -12,7 +13,7 @@ pub returns-then-is_open-clause-puts : goal.returns-then-is_open-clause-puts
 returns-then-is_open-clause-puts g c =
     let e = c.len-is_open.ensures in
     let t : 0 < c.len-is_open.result = c.if-is_open.true in
-    puts-nothing g.O.Output c.args.sink.now tt (held_in c.args.self.now) c.args.self.now.open_value.headers c.args.self.now.open_value.octets (omega (arith, e, t))
+    puts-nothing g.O.Output c.args.sink.now tt (held_in c.args.self.now) c.args.self.now.open_value.headers c.args.self.now.open_value.octets.all (omega (arith, e, t))
 
 pub put_value-requires-clause-whole : goal.put_value-requires-clause-whole
 put_value-requires-clause-whole g c =
@@ -38,15 +39,18 @@ returns-clause-taken g c =
     let sound = c.requires.can_put.sound in
     let share = sound.share in
     let symbols = sound.checked.symbols in
-    let b : length c.clear.new.self ≡ 0 = ap (λ (os : List ℕ). length os) c.clear.ensures.bytes in
+    let b : length c.clear.new.self.all ≡ 0 = ap (λ (x : Content). length x.all) c.clear.ensures.nothing in
+    let late : c.clear.new.self.late ≡ 0 = ap (λ (x : Content). x.late) c.clear.ensures.nothing in
+    let cost : c.clear.new.self.cost ≡ 0 = ap (λ (x : Content). x.cost) c.clear.ensures.nothing in
     let held = c.requires.can_put.held in
     let ch = c.clear.ensures.cost.held in
     let cp = c.clear.ensures.cost.peak in
     let headers = sound.within.headers in
+    let beside = sound.within.room in
     record {
       sound = record {
         checked = sound.checked;
-        within = record { octets = omega (arith, b); headers = headers };
+        within = record { octets = omega (arith, b); headers = omega (arith, late, headers); costed = record { least = omega (arith, b); most = omega (arith, cost) }; room = omega (arith, late, beside) };
         limit = sound.limit;
         share = share;
         few = omega (arith, e, t, few, share, symbols);
@@ -55,8 +59,8 @@ returns-clause-taken g c =
       failed = refl;
       memory = record { memory = λ x. absurd (none-some _ x); counted = λ x. c.clear.ensures.cost.refused };
       charges = record {
-        held = omega (arith, ch, b, held);
-        share = omega (arith, b, share, headers);
+        held = omega (arith, ch, cost, held);
+        share = omega (arith, cost, share, headers);
         peak = omega (arith, cp);
         rises = omega (arith, cp);
       };
@@ -80,13 +84,10 @@ returns-in-Err-clause-puts g c =
     let e = c.len-is_open.ensures in
     let t : c.len-is_open.result ≤ 0 = c.if-is_open.false in
     let none = none-open v.open_value.headers (omega (arith, e, t)) in
-    subst (λ (hs : List HeaderPlace). PutsOctets g.O.Output c.args.sink.now c.put_value.new.sink (Err c.in-Err.fault) (value_put (held_in v) hs v.open_value.octets)) (sym none) c.in-Err.ensures.puts
+    subst (λ (hs : List HeaderPlace). PutsOctets g.O.Output c.args.sink.now c.put_value.new.sink (Err c.in-Err.fault) (value_put (held_in v) hs v.open_value.octets.all)) (sym none) c.in-Err.ensures.puts
 
 pub returns-in-Err-clause-taken : goal.returns-in-Err-clause-taken
 returns-in-Err-clause-taken g c = grind (arith, common_steps) steps 400000
-
-pub returns-clause-ended : goal.returns-clause-ended
-returns-clause-ended g c = grind (arith, common_steps) steps 400000
 
 pub returns-in-Err-clause-causes : goal.returns-in-Err-clause-causes
 returns-in-Err-clause-causes g c = grind (arith, common_steps) steps 400000

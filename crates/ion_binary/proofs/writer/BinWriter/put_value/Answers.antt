@@ -32,9 +32,7 @@ returns-clause-puts g c =
     let texts : c.new_since-texts.result ≡ drop c.args.self.now.declared c.args.self.now.symbols.texts = since-declared c.args.self.now.symbols.texts c.new_since-texts.result c.args.self.now.declared c.new_since-texts.ensures in
     let P : List (List ℕ) → Type 0 = λ ts. IsPut g.O.Output c.put_marker.new.sink c.put_declaration.new.sink c.put_declaration.result (declaration ts) in
     let put = subst P texts c.put_declaration.ensures in
-    let Q : List ℕ → Type 0 = λ os. IsPut g.O.Output c.put_declaration.new.sink c.put.new.sink c.put.result os in
-    let last = subst Q c.as_slice.ensures c.put.ensures in
-    puts-octets g.O.Output c.args.sink.now c.put.new.sink c.put.result _ (λ e. put_then c.in_default.is (c.put_marker.ensures.put e) (put_then c.in_default-put_declaration.is put last)) (on-ok-const c.put.result well)
+    puts-octets g.O.Output c.args.sink.now c.put.new.sink c.put.result _ (λ e. put_then c.in_default.is (c.put_marker.ensures.put e) (put_then c.in_default-put_declaration.is put c.put.ensures)) (on-ok-const c.put.result well)
     (λ f e. absurd (none-not-some well e))
 
 pub returns-clause-causes : goal.returns-clause-causes

@@ -1,62 +1,67 @@
-use Rattle.std.proofs.Common.{◌≡◌, Ok, refl, sym, subst, ◌∙◌, arith}
+use Rattle.std.proofs.Common.{rules, ◌≡◌, ℕ, List, None, Some, Err, Result, subst, ◌∙◌, arith}
 use Rattle.std.proofs.lemmas.Grind.{common_steps}
+use Rattle.ion_meter.specs.declared.fault.Fault.{Fault}
+use Rattle.ion_meter.specs.declared.fault.Fault.TheVariants.{Refused}
+use Rattle.ion_meter.specs.declared.fault.Reason.{Reason}
+use Rattle.ion_meter.specs.declared.limits.Limits.{Limits}
 use Rattle.ion_value.specs.Items.{item_of}
-use Rattle.ion_value.specs.Value as value
-use Rattle.ion_value.specs.Value.{PlacedItem}
-use Rattle.ion_binary.specs.declared.writer.BinWriter.{BinWriter}
-use Rattle.ion_binary.specs.Held.{closed_in, headers_around}
-use Rattle.ion_binary.specs.Writer.{Follows, held_closed}
-use Rattle.ion_binary.proofs.EndsLater.{later-follows, later-puts}
+use Rattle.ion_value.specs.Value.{PlacedItem, user_item}
+use Rattle.ion_binary.specs.Held.{held_forgotten, held_of}
+use Rattle.ion_binary.specs.Writer.{PutsOctets, held_in, item_refusal}
+use Rattle.ion_binary.proofs.WriterFollows.{adds-are, follows-err, follows-out, forgotten-is, may-add-behind}
 use Rattle.ion_binary.proofs.WriterSteps.{puts-none}
 use Rattle.ion_binary.proofs.writer.BinWriter.step.Goals as goal
 
-pub returns-then-end_later-clause-follows : goal.returns-then-end_later-clause-follows
-returns-then-end_later-clause-follows g c s comes =
-    let w = c.args.self.now in
-    let item : PlacedItem = item_of g.N.Names.text c.args.item.now in
-    let head : item.head ≡ value.end = sym c.head-head.ensures ∙ c.if-may_wait.ensures refl in
-    let e = c.if-end_later.ensures in
-    let O : BinWriter g.row.A.Denot → Type 0 = λ x. (held_closed x).octets ≡ closed_in (held_closed w).octets (held_closed w).headers in
-    let H : BinWriter g.row.A.Denot → Type 0 = λ x. (held_closed x).headers ≡ headers_around (held_closed w).headers in
-    let F : BinWriter g.row.A.Denot → Type 0 = λ x. Follows w x s item (Ok tt) in
-    subst F (sym e.rest) (later-follows w c.end_later.new.self.ended s item comes c.requires.can_take.sound.share head (subst O e.rest (e.octets refl)) (subst H e.rest (e.headers refl)) (e.inside refl))
+pub add-requires-clause-comes : goal.add-requires-clause-comes
+add-requires-clause-comes g c = record {
+  counted = search rules;
+  follows = may-add-behind c.args.self.now c.forget.new.self c.requires.comes.0 (item_of g.N.Names.text c.args.item.now) c.requires.comes.1 c.forget.ensures.open_value c.forget.ensures.taken.limits;
+}
 
-pub returns-then-end_later-clause-puts : goal.returns-then-end_later-clause-puts
-returns-then-end_later-clause-puts g c s comes =
+pub returns-in-Err-clause-follows : goal.returns-in-Err-clause-follows
+returns-in-Err-clause-follows g c s comes =
     let w = c.args.self.now in
     let item : PlacedItem = item_of g.N.Names.text c.args.item.now in
-    let head : item.head ≡ value.end = sym c.head-head.ensures ∙ c.if-may_wait.ensures refl in
-    let e = c.if-end_later.ensures in
-    let O : BinWriter g.row.A.Denot → Type 0 = λ x. (held_closed x).octets ≡ closed_in (held_closed w).octets (held_closed w).headers in
-    let H : BinWriter g.row.A.Denot → Type 0 = λ x. (held_closed x).headers ≡ headers_around (held_closed w).headers in
-    later-puts w c.end_later.new.self.ended s item comes c.requires.can_take.sound.share head (subst O e.rest (e.octets refl)) (subst H e.rest (e.headers refl)) (e.inside refl) g.O.Output c.args.sink.now
+    let b : held_in c.forget.new.self ≡ held_forgotten w.limits.symbols (held_of s) (user_item item).head =
+    c.forget.ensures.held ∙ forgotten-is w.limits.symbols s (held_in w) (user_item item).head comes.0.held comes.1.value in
+    let L : Limits → Type 0 = λ l. (r : Reason) (p : ℕ) → ◌≡◌ {A = Result (Unit {0}) Fault} (Err c.in-Err.fault) (Err (Refused r p)) → item_refusal l (held_in c.forget.new.self) item ≡ Some (r, p) in
+    follows-err w c.add.new.self s item c.in-Err.fault (held_in c.forget.new.self) comes b (subst L c.forget.ensures.taken.limits c.in-Err.ensures.refuses)
 
 pub returns-in-Err-clause-puts : goal.returns-in-Err-clause-puts
 returns-in-Err-clause-puts g c s comes = puts-none g.O.Output c.args.sink.now c.in-Err.fault _
 
-pub returns-in-Err-clause-causes : goal.returns-in-Err-clause-causes
-returns-in-Err-clause-causes g c = grind (arith, common_steps) steps 400000
+pub returns-clause-follows : goal.returns-clause-follows
+returns-clause-follows g c s comes =
+    let w = c.args.self.now in
+    let item : PlacedItem = item_of g.N.Names.text c.args.item.now in
+    let b : held_in c.forget.new.self ≡ held_forgotten w.limits.symbols (held_of s) (user_item item).head =
+    c.forget.ensures.held ∙ forgotten-is w.limits.symbols s (held_in w) (user_item item).head comes.0.held comes.1.value in
+    let L : Limits → Type 0 = λ l. item_refusal l (held_in c.forget.new.self) item ≡ None in
+    let none : item_refusal w.limits (held_in c.forget.new.self) item ≡ None = subst L c.forget.ensures.taken.limits c.in_default.ensures.passes in
+    follows-out w c.add.new.self c.put_out.new.self s item c.put_out.result (held_in c.forget.new.self) comes b c.in_default.ensures.held none c.put_out.ensures.held c.put_out.ensures.open c.put_out.ensures.cause
 
-pub take-requires-clause-can_take : goal.take-requires-clause-can_take
-take-requires-clause-can_take g c = grind (arith, common_steps) steps 400000
+pub returns-clause-puts : goal.returns-clause-puts
+returns-clause-puts g c s comes =
+    let w = c.args.self.now in
+    let item : PlacedItem = item_of g.N.Names.text c.args.item.now in
+    let b : held_in c.forget.new.self ≡ held_forgotten w.limits.symbols (held_of s) (user_item item).head =
+    c.forget.ensures.held ∙ forgotten-is w.limits.symbols s (held_in w) (user_item item).head comes.0.held comes.1.value in
+    let L : Limits → Type 0 = λ l. item_refusal l (held_in c.forget.new.self) item ≡ None in
+    let none : item_refusal w.limits (held_in c.forget.new.self) item ≡ None = subst L c.forget.ensures.taken.limits c.in_default.ensures.passes in
+    let P : List ℕ → Type 0 = λ os. PutsOctets g.O.Output c.args.sink.now c.put_out.new.sink c.put_out.result os in
+    subst P (adds-are w c.add.new.self s item (held_in c.forget.new.self) comes b c.in_default.ensures.held none) c.put_out.ensures.puts
+
+pub put_out-requires-clause-can_put : goal.put_out-requires-clause-can_put
+put_out-requires-clause-can_put g c = grind (arith, common_steps) steps 400000
 
 pub returns-clause-causes : goal.returns-clause-causes
 returns-clause-causes g c = grind (arith, common_steps) steps 400000
 
-pub put_ended-requires-clause-open : goal.put_ended-requires-clause-open
-put_ended-requires-clause-open g c = grind (arith, common_steps) steps 400000
-
-pub returns-then-end_later-clause-causes : goal.returns-then-end_later-clause-causes
-returns-then-end_later-clause-causes g c = grind (arith, common_steps) steps 400000
-
-pub returns-in-Err-clause-taken : goal.returns-in-Err-clause-taken
-returns-in-Err-clause-taken g c = grind (arith, common_steps) steps 400000
-
-pub take-requires-clause-none : goal.take-requires-clause-none
-take-requires-clause-none g c = grind (arith, common_steps) steps 400000
-
-pub take-requires-clause-head : goal.take-requires-clause-head
-take-requires-clause-head g c = grind (arith, common_steps) steps 400000
+pub add-requires-clause-can_take : goal.add-requires-clause-can_take
+add-requires-clause-can_take g c = grind (arith, common_steps) steps 400000
 
 pub returns-in-Err-clause-still : goal.returns-in-Err-clause-still
 returns-in-Err-clause-still g c = grind (arith, common_steps) steps 400000
+
+pub put_out-requires-clause-open : goal.put_out-requires-clause-open
+put_out-requires-clause-open g c = grind (arith, common_steps) steps 400000

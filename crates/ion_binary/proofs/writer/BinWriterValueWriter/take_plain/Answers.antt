@@ -17,9 +17,8 @@ pub end_whole-requires-clause-comes : goal.end_whole-requires-clause-comes
 end_whole-requires-clause-comes g c =
     let w = c.args.self.now in
     let at = c.requires.path in
-    let none : w.ended ≡ 0 = let e = at.1.holds.ended in let l = c.len.ensures in let t = c.if-len-eq1.true in omega (arith, e, l, t) in
     let item : PlacedItem = placed_item c.args.item in
-    let comes = plain-comes w (written_behind w.limits at.0) item (at.1.holds, may-come w.limits at.0 item at.2) none in
+    let comes = plain-comes w (written_behind w.limits at.0) item (at.1.holds, may-come w.limits at.0 item at.2) in
     let head : raw_head c.args.item.head ≡ value.end = ap raw_head (sym (ap (λ (i : SingleItem). i.head) c.single_of-single.ensures) ∙ c.in-End.is) in
     subst (λ (i : PlacedItem). MayCome w.limits w.open_value i) (ended-single w c.args.item comes head ∙ ap as_item (sym c.single_of-single.ensures)) comes
 
@@ -27,59 +26,54 @@ pub add_plain-requires-clause-comes : goal.add_plain-requires-clause-comes
 add_plain-requires-clause-comes g c =
     let w = c.args.self.now in
     let at = c.requires.path in
-    let none : w.ended ≡ 0 = let t = c.if-waits.false in omega (arith, t) in
     let item : PlacedItem = placed_item c.args.item in
     let placed : item ≡ as_pair c.single_of-single.result c.args.item.second = ap (λ (i : SingleItem). as_pair i c.args.item.second) (sym c.single_of-single.ensures) in
     subst (λ (i : PlacedItem). MayCome w.limits w.open_value i) placed
-    (plain-comes w (written_behind w.limits at.0) item (at.1.holds, may-come w.limits at.0 item at.2) none)
+    (plain-comes w (written_behind w.limits at.0) item (at.1.holds, may-come w.limits at.0 item at.2))
 
 pub returns-clause-stands : goal.returns-clause-stands
 returns-clause-stands g c is path stands next =
     let w = c.args.self.now in
-    let none : w.ended ≡ 0 = let t = c.if-waits.false in omega (arith, t) in
     let item : PlacedItem = placed_item c.args.item in
     let placed : item ≡ as_pair c.single_of-single.result c.args.item.second = ap (λ (i : SingleItem). as_pair i c.args.item.second) (sym c.single_of-single.ensures) in
     let P : PlacedItem → Bool → Type 0 = λ i b. TakesPlain w c.add_plain.new.self c.args.meter.now c.add_plain.new.meter c.args.sink.now c.add_plain.new.sink i b in
     let p = subst (λ (i : PlacedItem). P i true) (sym placed) (subst (P (as_pair c.single_of-single.result c.args.item.second)) is c.add_plain.ensures) in
-    let f = taken-follows w c.add_plain.new.self c.args.meter.now c.add_plain.new.meter c.args.sink.now c.add_plain.new.sink (written_behind w.limits path) item p (stands.holds, may-come w.limits path item next) none in
+    let f = taken-follows w c.add_plain.new.self c.args.meter.now c.add_plain.new.meter c.args.sink.now c.add_plain.new.sink (written_behind w.limits path) item p (stands.holds, may-come w.limits path item next) in
     (stands-behind w.limits c.add_plain.new.self path item p.taken.limits (p.taken.failed ∙ stands.well) f.holds, f.passes)
 
 pub returns-clause-puts : goal.returns-clause-puts
 returns-clause-puts g c is path stands next =
     let w = c.args.self.now in
-    let none : w.ended ≡ 0 = let t = c.if-waits.false in omega (arith, t) in
     let item : PlacedItem = placed_item c.args.item in
     let placed : item ≡ as_pair c.single_of-single.result c.args.item.second = ap (λ (i : SingleItem). as_pair i c.args.item.second) (sym c.single_of-single.ensures) in
     let P : PlacedItem → Bool → Type 0 = λ i b. TakesPlain w c.add_plain.new.self c.args.meter.now c.add_plain.new.meter c.args.sink.now c.add_plain.new.sink i b in
     let p = subst (λ (i : PlacedItem). P i true) (sym placed) (subst (P (as_pair c.single_of-single.result c.args.item.second)) is c.add_plain.ensures) in
-    taken-puts w c.add_plain.new.self c.args.meter.now c.add_plain.new.meter c.args.sink.now c.add_plain.new.sink (written_behind w.limits path) item p (stands.holds, may-come w.limits path item next) none
+    taken-puts w c.add_plain.new.self c.args.meter.now c.add_plain.new.meter c.args.sink.now c.add_plain.new.sink (written_behind w.limits path) item p (stands.holds, may-come w.limits path item next)
 
 pub returns-then-len-eq1-clause-stands : goal.returns-then-len-eq1-clause-stands
 returns-then-len-eq1-clause-stands g c is path stands next =
     let w = c.args.self.now in
-    let none : w.ended ≡ 0 = let e = stands.holds.ended in let l = c.len.ensures in let t = c.if-len-eq1.true in omega (arith, e, l, t) in
     let item : PlacedItem = placed_item c.args.item in
     let comes : ComesAt w (written_behind w.limits path) item = (stands.holds, may-come w.limits path item next) in
     let head : raw_head c.args.item.head ≡ value.end = ap raw_head (sym (ap (λ (i : SingleItem). i.head) c.single_of-single.ensures) ∙ c.in-End.is) in
     let single : item ≡ as_item c.single_of-single.result =
-    ended-single w c.args.item (plain-comes w (written_behind w.limits path) item comes none) head ∙ ap as_item (sym c.single_of-single.ensures) in
+    ended-single w c.args.item (plain-comes w (written_behind w.limits path) item comes) head ∙ ap as_item (sym c.single_of-single.ensures) in
     let P : PlacedItem → Bool → Type 0 = λ i b. TakesPlain w c.end_whole.new.self c.args.meter.now c.end_whole.new.meter c.args.sink.now c.end_whole.new.sink i b in
     let p = subst (λ (i : PlacedItem). P i true) (sym single) (subst (P (as_item c.single_of-single.result)) is c.end_whole.ensures) in
-    let f = taken-follows w c.end_whole.new.self c.args.meter.now c.end_whole.new.meter c.args.sink.now c.end_whole.new.sink (written_behind w.limits path) item p comes none in
+    let f = taken-follows w c.end_whole.new.self c.args.meter.now c.end_whole.new.meter c.args.sink.now c.end_whole.new.sink (written_behind w.limits path) item p comes in
     (stands-behind w.limits c.end_whole.new.self path item p.taken.limits (p.taken.failed ∙ stands.well) f.holds, f.passes)
 
 pub returns-then-len-eq1-clause-puts : goal.returns-then-len-eq1-clause-puts
 returns-then-len-eq1-clause-puts g c is path stands next =
     let w = c.args.self.now in
-    let none : w.ended ≡ 0 = let e = stands.holds.ended in let l = c.len.ensures in let t = c.if-len-eq1.true in omega (arith, e, l, t) in
     let item : PlacedItem = placed_item c.args.item in
     let comes : ComesAt w (written_behind w.limits path) item = (stands.holds, may-come w.limits path item next) in
     let head : raw_head c.args.item.head ≡ value.end = ap raw_head (sym (ap (λ (i : SingleItem). i.head) c.single_of-single.ensures) ∙ c.in-End.is) in
     let single : item ≡ as_item c.single_of-single.result =
-    ended-single w c.args.item (plain-comes w (written_behind w.limits path) item comes none) head ∙ ap as_item (sym c.single_of-single.ensures) in
+    ended-single w c.args.item (plain-comes w (written_behind w.limits path) item comes) head ∙ ap as_item (sym c.single_of-single.ensures) in
     let P : PlacedItem → Bool → Type 0 = λ i b. TakesPlain w c.end_whole.new.self c.args.meter.now c.end_whole.new.meter c.args.sink.now c.end_whole.new.sink i b in
     let p = subst (λ (i : PlacedItem). P i true) (sym single) (subst (P (as_item c.single_of-single.result)) is c.end_whole.ensures) in
-    taken-puts w c.end_whole.new.self c.args.meter.now c.end_whole.new.meter c.args.sink.now c.end_whole.new.sink (written_behind w.limits path) item p comes none
+    taken-puts w c.end_whole.new.self c.args.meter.now c.end_whole.new.meter c.args.sink.now c.end_whole.new.sink (written_behind w.limits path) item p comes
 
 pub returns-then-len-eq1-clause-charges : goal.returns-then-len-eq1-clause-charges
 returns-then-len-eq1-clause-charges g c = grind (arith, common_steps) steps 400000
@@ -104,30 +98,6 @@ returns-then-len-eq1-clause-declines g c = grind (arith, common_steps) steps 400
 
 pub returns-then-len-eq1-clause-counted : goal.returns-then-len-eq1-clause-counted
 returns-then-len-eq1-clause-counted g c = grind (arith, common_steps) steps 400000
-
-pub returns-then-waits-clause-stands : goal.returns-then-waits-clause-stands
-returns-then-waits-clause-stands g c = grind (arith, common_steps) steps 400000
-
-pub returns-then-waits-clause-sound : goal.returns-then-waits-clause-sound
-returns-then-waits-clause-sound g c = grind (arith, common_steps) steps 400000
-
-pub returns-then-waits-clause-declines : goal.returns-then-waits-clause-declines
-returns-then-waits-clause-declines g c = grind (arith, common_steps) steps 400000
-
-pub returns-then-waits-clause-device : goal.returns-then-waits-clause-device
-returns-then-waits-clause-device g c = grind (arith, common_steps) steps 400000
-
-pub returns-then-waits-clause-charges : goal.returns-then-waits-clause-charges
-returns-then-waits-clause-charges g c = grind (arith, common_steps) steps 400000
-
-pub returns-then-waits-clause-counted : goal.returns-then-waits-clause-counted
-returns-then-waits-clause-counted g c = grind (arith, common_steps) steps 400000
-
-pub returns-then-waits-clause-puts : goal.returns-then-waits-clause-puts
-returns-then-waits-clause-puts g c = grind (arith, common_steps) steps 400000
-
-pub returns-then-waits-clause-same : goal.returns-then-waits-clause-same
-returns-then-waits-clause-same g c = grind (arith, common_steps) steps 400000
 
 pub returns-clause-same : goal.returns-clause-same
 returns-clause-same g c = grind (arith, common_steps) steps 400000

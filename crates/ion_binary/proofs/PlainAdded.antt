@@ -50,7 +50,7 @@ adds-taken old new before after sink item result p = record {
   puts = λ e.
       sym
       (ap (λ (x : List ℕ). sink.pending ++ x)
-      (ap (λ (h : Held). value_put h h.headers h.octets) (sym (p.held e)) ∙ put-inside (held_in new) new.open_value.headers new.open_value.octets (p.inside e))
+      (ap (λ (h : Held). value_put h h.headers h.octets) (sym (p.held e)) ∙ put-inside (held_in new) new.open_value.headers new.open_value.octets.all (p.inside e))
       ∙ append-nil sink.pending);
   is_open = p.is_open;
   passes = p.passes;

@@ -47,7 +47,7 @@ module _ {A : Type 0} (w : BinWriter A) (item : PlacedItem) (x : List ℕ) (sett
 
   value-held : held_in w ≡ value_held (added (held_in w) item) (added (held_in w) item).headers (added (held_in w) item).octets
   value-held =
-      same-held w.open_value.octets [] w.open_value.headers [] w.symbols.texts w.symbols.texts w.declared (length w.symbols.texts) w.due false settled.octets settled.headers refl settled.all settled.due
+      same-held w.open_value.octets.all [] w.open_value.headers [] w.symbols.texts w.symbols.texts w.declared (length w.symbols.texts) w.due false settled.octets settled.headers refl settled.all settled.due
       ∙ (ap (λ (hs : List HeaderPlace). value_held (record (held_in w) { octets = x }) hs x) (sym settled.headers)
       ∙ ap (λ (h : Held). value_held h h.headers h.octets) with-value)
 
@@ -108,6 +108,5 @@ whole-taken w meter sink put item result c now p = record {
   declines = λ t. (refl, p.declines t, refl);
   device = p.device;
   fault = p.fault;
-  ended = refl;
   taken = kept-taken w meter c;
 }

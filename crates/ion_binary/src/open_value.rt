@@ -570,7 +570,7 @@ impl<A: Allocator + Copy> OpenValue<A> {
         let _last = self.headers.pop(meter);
         self.octets.clear(meter);
         self.counts = [0; 5];
-        self.room = limits.value + HEADERS_MOST;
+        self.room += 6;
     }
 
     // Puts the length of annotations before their ids, where there are any, which begin at a place.

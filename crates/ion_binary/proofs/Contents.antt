@@ -70,6 +70,11 @@ pub late-if : (b : Bool) (hs : List LateHeader) (xs x ys : List ℕ) → (b ≡ 
 late-if true hs xs x ys more same l = late-longer hs xs x ys l (more refl)
 late-if false hs xs x ys more same l = subst (λ (os : List ℕ). AreLate (length os) hs) (sym (same refl)) l
 
+-- a list without headers is empty
+pub no-items : (hs : List LateHeader) → length hs ≡ 0 → hs ≡ []
+no-items [] e = refl
+no-items (h ∷ hs) e = absurd (omega (arith, e))
+
 -- none is late where nothing is missing
 pub none-late : (hs : List LateHeader) → missing_of hs ≡ 0 → hs ≡ []
 none-late [] e = refl

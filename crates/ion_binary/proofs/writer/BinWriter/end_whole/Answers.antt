@@ -13,11 +13,11 @@ returns-clause-ends g c =
     let x : List ℕ = c.header-before.result.items in
     let texts : length c.new_since.result ≡ length w.symbols.texts = ap (λ (ts : List (List ℕ)). length ts) c.new_since.ensures in
     let all : w.declared ≡ length w.symbols.texts = let n = c.len.ensures in let f : c.len.result ≡ w.declared = c.if-len-self.false in omega (arith, n, f, texts) in
-    let is : x ≡ header o.code (length w.open_value.octets.all) = c.header-before.ensures ∙ ap (λ (os : List ℕ). header o.code (length os)) c.in-Some-all.ensures in
+    let is : x ≡ header o.code (length w.open_value.octets.all) = c.header-before.ensures ∙ ap (λ (os : List ℕ). header o.code (length os)) c.in-Some-all.ensures.octets in
     let first : c.put_within.new.self.pending ≡ c.args.sink.now.pending ++ x = ap (λ s. s.pending) c.put_within.ensures ∙ ap (λ (y : List ℕ). c.args.sink.now.pending ++ y) c.as_slice.ensures.value in
     let put : c.put_within-2.new.self.pending ≡ (c.args.sink.now.pending ++ x) ++ w.open_value.octets.all =
     ap (λ s. s.pending) c.put_within-2.ensures
-    ∙ (ap (λ (y : List ℕ). y ++ c.in-Some-all.octets.now) first ∙ ap (λ (y : List ℕ). (c.args.sink.now.pending ++ x) ++ y) c.in-Some-all.ensures) in
+    ∙ (ap (λ (y : List ℕ). y ++ c.in-Some-all.octets.now) first ∙ ap (λ (y : List ℕ). (c.args.sink.now.pending ++ x) ++ y) c.in-Some-all.ensures.octets) in
     plain-ended w c.clear.new.self o c.args.meter.now c.clear.new.meter (as_item c.args.item.now) c.args.sink.now.pending c.put_within-2.new.self.pending x
     c.requires.can_take c.requires.comes.counted c.requires.comes.follows c.requires.head c.in-Some.ensures c.if-outermost-ne0.false c.if-self.false all is put
     (ap (λ (x : Content). x.all) c.clear.ensures.nothing.0) c.clear.ensures.nothing.1 c.clear.ensures.open c.clear.ensures.stepped

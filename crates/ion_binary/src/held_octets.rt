@@ -393,6 +393,9 @@ impl<A: Allocator + Copy> HeldOctets<A> {
         ensures cost { Shrinks meter.old meter.new self.old.cost }
     {
         self.there.clear(meter);
+        if self.missing == 0 {
+            return;
+        }
         self.late.clear(meter);
         self.missing = 0;
     }

@@ -11,7 +11,7 @@ use Rattle.ion_binary.proofs.LateHeaders.{late-more, six-each, spread-append, sp
 use Rattle.ion_binary.proofs.PlacedHeaders.{header-few}
 
 pub adds-appended : (c : Content) (x : List ℕ) → Adds c (appended c x)
-adds-appended c x = let l = length-append c.all x in record { late = refl; cost = omega (arith, l) }
+adds-appended c x = let l = length-append c.all x in record { late = refl; cost = omega (arith, l); longer = omega (arith, l) }
 
 pub adds-costed : (old new : Content) → IsCosted old → Adds old new → IsCosted new
 adds-costed old new c a =
@@ -19,7 +19,9 @@ adds-costed old new c a =
     let most = c.most in
     let late = a.late in
     let cost = a.cost in
-    record { least = omega (arith, least, cost); most = omega (arith, most, late, cost) }
+    let few = c.late in
+    let longer = a.longer in
+    record { least = omega (arith, least, cost); most = omega (arith, most, late, cost); late = omega (arith, few, late, longer) }
 
 pub adds-then : {a b c : Content} → Adds a b → Adds b c → Adds a c
 adds-then f s =
@@ -27,7 +29,9 @@ adds-then f s =
     let fc = f.cost in
     let sl = s.late in
     let sc = s.cost in
-    record { late = omega (arith, fl, sl); cost = omega (arith, fc, sc) }
+    let fm = f.longer in
+    let sm = s.longer in
+    record { late = omega (arith, fl, sl); cost = omega (arith, fc, sc); longer = omega (arith, fm, sm) }
 
 -- and of a content that is said to be one with more octets
 pub adds-by : (old new : Content) (x : List ℕ) → new ≡ appended old x → Adds old new
@@ -70,6 +74,11 @@ pub late-if : (b : Bool) (hs : List LateHeader) (xs x ys : List ℕ) → (b ≡ 
 late-if true hs xs x ys more same l = late-longer hs xs x ys l (more refl)
 late-if false hs xs x ys more same l = subst (λ (os : List ℕ). AreLate (length os) hs) (sym (same refl)) l
 
+-- a list without headers is empty
+pub no-items : (hs : List LateHeader) → length hs ≡ 0 → hs ≡ []
+no-items [] e = refl
+no-items (h ∷ hs) e = absurd (omega (arith, e))
+
 -- none is late where nothing is missing
 pub none-late : (hs : List LateHeader) → missing_of hs ≡ 0 → hs ≡ []
 none-late [] e = refl
@@ -81,11 +90,20 @@ content-none hs xs v e none = ap (λ (gs : List LateHeader). content gs xs) (sym
 pub late-six : (n : ℕ) (hs : List LateHeader) → AreLate n hs → missing_of hs ≤ 6 * length hs
 late-six n hs l = six-each n hs (λ h small. header-few h.inside (omega (arith, small))) l
 
+-- each has one or more
+pub one-each : (hs : List LateHeader) → length hs ≤ missing_of hs
+one-each [] = omega arith
+one-each (h ∷ hs) =
+    let x : length (late_octets h) ≡ suc (length (length_octets h.inside)) = refl in
+    let r = one-each hs in
+    omega (arith, x, r)
+
 pub content-costed : (hs : List LateHeader) (xs : List ℕ) → AreLate (length xs) hs → IsCosted (content hs xs)
 content-costed hs xs l =
     let long = spread-length hs xs l in
     let few = late-six (length xs) hs l in
-    record { least = omega (arith, long, few); most = omega (arith, long) }
+    let some = one-each hs in
+    record { least = omega (arith, long, few); most = omega (arith, long); late = omega (arith, long, some) }
 
 pub costed-is : (hs : List LateHeader) (xs : List ℕ) (v : Content) → content hs xs ≡ v → AreLate (length xs) hs → IsCosted v
 costed-is hs xs v e l = subst (λ (c : Content). IsCosted c) e (content-costed hs xs l)

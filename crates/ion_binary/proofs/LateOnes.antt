@@ -146,7 +146,7 @@ gap-long xs ys gap e =
     omega (arith, long, sum, count)
 
 pub settled-costed : (os : List ℕ) → IsCosted (content [] os)
-settled-costed os = record { least = omega arith; most = omega arith }
+settled-costed os = record { least = omega arith; most = omega arith; late = omega arith }
 
 -- where no header is late
 pub none-content : (hs : List LateHeader) (xs : List ℕ) (v : Content) → content hs xs ≡ v → v.late ≡ 0 → hs ≡ []
@@ -187,7 +187,7 @@ settled-then (Ok t) v w u m n o b offset moved all late within held none ok grow
     let gp = grows.peak in
     let counted = moved.memory.counted (λ e. absurd (Prim.cc e)) in
     record {
-      costed = record { least = omega (arith, least, long, sum, cost); most = omega (arith, most, long, sum, cost, late) };
+      costed = record { least = omega (arith, least, long, sum, cost); most = omega (arith, most, long, sum, cost, late); late = omega (arith, none) };
       memory = record { memory = λ e. absurd (Prim.cc e); counted = λ e. grows.refused ∙ counted };
       alone = λ f e. absurd (Prim.cc e);
       charges = record {

@@ -22,15 +22,17 @@ nothing = record { all = []; late = 0; cost = 0 }
 abbrev pub appended : Content → List ℕ → Content
 appended c octets = record c { all = c.all ++ octets; cost = c.cost + length octets }
 
--- each octet costs 1, and a late header no more than 16 beside its octets
+-- each octet costs 1, a late header no more than 16 beside its octets, and it has one or more
 pub record IsCosted (c : Content) : Type 0 where
   pub least : length c.all ≤ c.cost
   pub most : c.cost ≤ length c.all + 16 * c.late
+  pub late : c.late ≤ length c.all
 
 -- octets were added, and no header went in or became late
 pub record Adds (old new : Content) : Type 0 where
   pub late : new.late ≡ old.late
   pub cost : new.cost + length old.all ≡ old.cost + length new.all
+  pub longer : length old.all ≤ length new.all
 
 -- what a call keeps and moves whatever it answers, where it holds no more than a cap; its one fault is Memory
 pub record Moved (old new : Content) (before after : Counts) (most : ℕ) (fault : Option Fault) : Type 0 where

@@ -118,7 +118,8 @@ impl<A: Allocator + Copy> HeldOctets<A> {
     /// All of them, where no header is late.
     #[inline(always)]
     pub fn all(&self) -> Option<&[u8]>
-        ensures { IfSome result (λ octets. octets.now ≡ self.now.all) }
+        ensures octets { IfSome result (λ octets. octets.now ≡ self.now.all) }
+        ensures none { IfSome result (λ _. self.now.late ≡ 0) }
     {
         if self.missing > 0 {
             return None;
@@ -392,8 +393,22 @@ impl<A: Allocator + Copy> HeldOctets<A> {
         ensures cost { Shrinks meter.old meter.new self.old.cost }
     {
         self.there.clear(meter);
+        if self.missing == 0 {
+            return;
+        }
         self.late.clear(meter);
         self.missing = 0;
+    }
+
+    /// Keeps none, where no header is late.
+    #[inline(always)]
+    pub fn clear_settled(&mut self, meter: &mut Meter<A>)
+        requires none { self.old.late ≡ 0 }
+        requires held { self.old.cost ≤ meter.old.held }
+        ensures nothing { self.new ≡ nothing }
+        ensures cost { Shrinks meter.old meter.new self.old.cost }
+    {
+        self.there.clear(meter);
     }
 
     /// Gives all back.

@@ -563,14 +563,15 @@ impl<A: Allocator + Copy> OpenValue<A> {
     pub fn clear(&mut self, meter: &mut Meter<A>, limits: Limits)
         requires can_step { CanStep limits self.old meter.old }
         requires one { length self.old.headers ≡ 1 }
+        requires none { self.old.octets.late ≡ 0 }
         ensures nothing { (self.new.octets ≡ nothing) × (self.new.headers ≡ []) }
         ensures open { IsOpen limits self.new }
         ensures stepped { Stepped limits self.old self.new meter.old meter.new None }
     {
         let _last = self.headers.pop(meter);
-        self.octets.clear(meter);
+        self.octets.clear_settled(meter);
         self.counts = [0; 5];
-        self.room = limits.value + HEADERS_MOST;
+        self.room += 6;
     }
 
     // Puts the length of annotations before their ids, where there are any, which begin at a place.

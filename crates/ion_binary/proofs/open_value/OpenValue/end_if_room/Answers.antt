@@ -52,11 +52,12 @@ returns-clause-stepped g c =
     let kept = c.cut.ensures.room in
     let least = c.requires.can_step.within.costed.least in
     let most = c.requires.can_step.within.costed.most in
+    let some = c.requires.can_step.within.costed.late in
     record {
       within = record {
         octets = omega (arith, fits);
         headers = omega (arith, few, before, now, late);
-        costed = record { least = omega (arith, least, long, put, cost); most = omega (arith, most, long, put, cost, late) };
+        costed = record { least = omega (arith, least, long, put, cost); most = omega (arith, most, long, put, cost, late); late = omega (arith, some, late, long, put) };
         room = omega (arith, few, now, late, beside, kept);
       };
       memory = record { memory = λ e. absurd (none-some _ e); counted = λ e. shrinks.refused ∙ grows.refused };

@@ -50,7 +50,7 @@ returns-clause-taken g c =
     record {
       sound = record {
         checked = sound.checked;
-        within = record { octets = omega (arith, b); headers = omega (arith, late, headers); costed = record { least = omega (arith, b); most = omega (arith, cost) }; room = omega (arith, late, beside) };
+        within = record { octets = omega (arith, b); headers = omega (arith, late, headers); costed = record { least = omega (arith, b); most = omega (arith, cost); late = omega (arith, late) }; room = omega (arith, late, beside) };
         limit = sound.limit;
         share = share;
         few = omega (arith, e, t, few, share, symbols);

@@ -195,8 +195,8 @@ const FRONT: &[u8] = b"[\"0123456789abcdef0123456789abcdef0123456789abcdef012345
 
 // Texts, and how many of their items are put one at a time as text and as binary; a `~` ends a line.
 // Where all items of a row are handed on it is one as text, the first of all, and two as binary, with
-// the string for which room is made. As binary each scalar at top level, and each end of a value with a
-// new text, is one more.
+// the string for which room is made. As binary each end of a value with a new text is one more, and each
+// scalar at top level with an annotation or a new text.
 const TEXTS: &str = r#"
 # Ints: small, of 19 and 20 digits, of 38 and 39, and in other spellings.
 [0,1,-7,255]|1|2|
@@ -226,7 +226,7 @@ const TEXTS: &str = r#"
 # Symbols.
 [name,version]|1|2|
 [a,b,a]|1|4|
-['name','null','$4','a b','+','é']|1|6|
+['name','null','$4','a b','+','é']|1|5|
 ['']|2|4|
 ['it\'s']|2|4|
 [$4]|1|2|
@@ -268,9 +268,9 @@ name::version::[1]|1|4|
 [1] /*x*/ [2] //x~[3]|1|2|
 [/*x*/1/*x*/,/*x*/2] {/*x*/name/*x*/:/*x*/1}|1|2|
 # At top level.
-0 1.5 2007T true null "a" 0|1|9|
-name name 0|1|5|
-name::1 name::version::1 'a b' 0|1|6|
+0 1.5 2007T true null "a" 0|1|2|
+name name 0|1|2|
+name::1 name::version::1 'a b' 0|1|5|
 # Declarations and version markers.
 $3::{symbols:["a","b c"]} [$10,$10] {$10:1}|2|5|
 $3::{symbols:["a","b c"]} [$11] {$11:1}|4|6|

@@ -33,7 +33,7 @@ pub(super) struct Fresh<'n> {
 
 impl<A: Allocator + Copy> BinWriter<A> {
     // Adds a scalar where the text of its field, or its own, has no id yet and gets the next one, and
-    // all is there that it needs. Else it answers false.
+    // all is there that it needs. Puts one at top level. Else it answers false.
     #[inline(never)]
     pub(super) fn add_fresh<O: Output>(
         &mut self,

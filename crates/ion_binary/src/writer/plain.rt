@@ -1,4 +1,4 @@
-//! Plain items, added at once to a value that is open.
+//! Plain items, added at once to a value that is open, or put where they are whole.
 ghost use Rattle.std.specs.Prelude.{◌≡◌, ◌<◌, ◌∷◌, [], true, false, IfSome};
 ghost use Rattle.ion_value.specs.Items.{raw_head, symbol_at};
 ghost use Rattle.ion_value.specs.Number.{uint_octets, var_int_octets};
@@ -26,8 +26,9 @@ use ion_value::plain_item::TextAt;
 use std::alloc::Allocator;
 
 impl<A: Allocator + Copy> BinWriter<A> {
-    // Adds an item behind which a value is open, where all is there that it needs: ids of its texts, or
-    // of a scalar with one annotation at most of all but one, and room. Else it answers false.
+    // Takes an item, where all is there that it needs: ids of its texts, or in a container of a scalar with
+    // one annotation at most of all but one, and room. Else it answers false. The sink is for a scalar at
+    // top level, which `add_fresh` puts, so that no item in a container is asked where it stands.
     #[inline(always)]
     pub(super) fn add_plain<O: Output>(
         &mut self,

@@ -154,7 +154,7 @@ pub head-id : {texts : ℕ → Option (List ℕ)} {limits : Limits} {place n : �
     → first_is (λ b. b == 36) bytes ≡ true → IsHeadAs (value.whole (value.symbol (positions.at (value.Id is.id) place))) limits place bytes (value.whole (value.symbol (positions.at (value.Text text) place))) rest
 head-id {text} next is behind told_next told dollar = head-word false (value.Id is.id) (value.Text text) next (token-id is behind dollar) tt (id-marker is.id) told_next told
 
--- `$0`, behind which one is
+-- `$0`, after which such a token is told
 pub head-zero : {limits : Limits} {place : ℕ} {bytes rest : List ℕ} (next : Next) → IsZeroId limits.scalar bytes → rest ≡ drop 2 bytes → IsNext rest next → (next.told ≡ 0 → ⊥)
     → IsHead limits place bytes (value.whole (value.symbol (positions.at (value.Id 0) place))) rest
 head-zero {bytes} next is behind told_next told =

@@ -290,7 +290,7 @@ fn feed_frequent<'a, W: ValueWriter<O, A>, O: Output, A: Allocator + Copy>(
 }
 
 // Hands on a member whose name stands between quotes, or else members that have ids, and says whether it
-// did.
+// did. Where a word stands here, it looks for no name between quotes.
 #[inline(always)]
 fn other_turns<'a, N: Names, W: ValueWriter<O, A>, O: Output, A: Allocator + Copy>(
     at: &mut Spot<'a>,

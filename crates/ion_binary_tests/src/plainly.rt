@@ -2,7 +2,7 @@
 ghost use Rattle.std.specs.Prelude.{◌≡◌, ◌==◌, ◌+◌, List, [], true, false, None, IfSome};
 ghost use Rattle.ion_value.specs.Digits.{first_is};
 ghost use Rattle.ion_value.specs.Items.{raw_head};
-ghost use Rattle.ion_value.specs.PlainItems.{HasNoDollar, IsKnownHead, IsPlainItem, IsRightlyQuoted, IsSpelled, SaysRightly, placed_item};
+ghost use Rattle.ion_value.specs.PlainItems.{HasNoDollar, IsPlainHead, IsPlainItem, IsRightlyQuoted, IsSpelled, SaysRightly, placed_item};
 ghost use Rattle.ion_value.specs.Standing.{Fits, HeadInRange, is_marker, open_behind};
 ghost use Rattle.ion_value.specs.Value.{PlacedItem, Text};
 
@@ -68,7 +68,7 @@ fn field_of(field: Option<&[u8]>, place: u64) -> Option<TextAt<'_>>
 
 // Whether a head is no version marker and no symbol without a text.
 fn is_known(head: Head<'_>) -> bool
-    ensures { result ≡ true → IsKnownHead (raw_head head.entry) }
+    ensures { result ≡ true → IsPlainHead (raw_head head.entry) }
 {
     match head {
         Head::Marker => false,

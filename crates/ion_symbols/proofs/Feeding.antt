@@ -9,7 +9,7 @@ use Rattle.ion_value.specs.Digits.{first_is}
 use Rattle.ion_value.specs.Value as value
 use Rattle.ion_value.specs.Value.{Symbol, SymbolAt, Scalar, Head, PlacedItem, map_head, map_scalar}
 use Rattle.ion_value.specs.Items.{named, named_at, named_item, text_or_id}
-use Rattle.ion_value.specs.PlainItems.{HasKnownName, HasNoDollar, HaveNoDollar, IsKnown, IsKnownHead, IsPlainItem}
+use Rattle.ion_value.specs.PlainItems.{HasKnownName, HasNoDollar, HaveNoDollar, IsKnown, IsKnownOrZero, IsPlainHead, IsPlainItem}
 use Rattle.ion_value.specs.Feeding.{Joint, Hands, Feeds, nothing, more}
 use Rattle.ion_value.specs.Reading.{More}
 use Rattle.ion_value.specs.Shares.{Charges}
@@ -34,6 +34,20 @@ known_fine : (t : Table) (place : ℕ) (s : Symbol) → IsKnown (named (text_at 
 known_fine t place (value.Text bytes) text = refl
 known_fine t place (value.Id id) text = slot_fine id place (slot_of t id) text
 
+-- so is that of `$0`, whose slot no table gives a text
+zero_fine : (t : Table) (place : ℕ) (s : Symbol) → IsKnownOrZero (named (text_at t) s) → symbol_checked t true place s ≡ fine
+zero_fine t place (value.Text bytes) fits = refl
+zero_fine t place (value.Id id) fits = by_slot (slot_of t id) refl fits
+  where
+    by_zero : (s : Slot) → slot_of t id ≡ s → id ≡ 0 → slot_checked true place s ≡ fine
+    by_zero s is zero = subst (λ (x : Slot). slot_checked true place x ≡ fine) (sym (ap (slot_of t) zero) ∙ is) refl
+
+    by_slot : (s : Slot) → slot_of t id ≡ s → IsKnownOrZero (text_or_id id (text_of_slot s)) → slot_checked true place s ≡ fine
+    by_slot (known text) is h = refl
+    by_slot unknown is h = by_zero unknown is h
+    by_slot gap is h = by_zero gap is h
+    by_slot above is h = by_zero above is h
+
 field_fine : (t : Table) (field : Option SymbolAt) → HasKnownName (option_map (named_at (text_at t)) field) → field_checked t true field ≡ fine
 field_fine t None text = refl
 field_fine t (Some s) text = known_fine t s.place s.symbol text
@@ -42,13 +56,13 @@ all_fine : (t : Table) (ss : List SymbolAt) → HaveNoDollar (map (named_at (tex
 all_fine t [] free = refl
 all_fine t (s ∷ ss) free = rw (known_fine t s.place s.symbol (no_dollar-known (named (text_at t) s.symbol) free.0)) (all_fine t ss free.1)
 
-head_fine : (t : Table) (head : Head SymbolAt) → IsKnownHead (map_head (named_at (text_at t)) head) → head_checked t true head ≡ fine
+head_fine : (t : Table) (head : Head SymbolAt) → IsPlainHead (map_head (named_at (text_at t)) head) → head_checked t true head ≡ fine
 head_fine t (value.whole (value.null type)) text = refl
 head_fine t (value.whole (value.bool truth)) text = refl
 head_fine t (value.whole (value.int number)) text = refl
 head_fine t (value.whole (value.decimal number)) text = refl
 head_fine t (value.whole (value.timestamp moment)) text = refl
-head_fine t (value.whole (value.symbol s)) text = known_fine t s.place s.symbol text
+head_fine t (value.whole (value.symbol s)) text = zero_fine t s.place s.symbol text
 head_fine t (value.whole (value.string bytes)) text = refl
 head_fine t (value.whole (value.clob bytes)) text = refl
 head_fine t (value.whole (value.blob bytes)) text = refl
@@ -63,7 +77,7 @@ item_fine t i is_plain =
 
 -- ---- and it is no marker and begins no declaration
 
-no_marker : (f : SymbolAt → SymbolAt) (head : Head SymbolAt) → IsKnownHead (map_head f head) → is_marker head ≡ false
+no_marker : (f : SymbolAt → SymbolAt) (head : Head SymbolAt) → IsPlainHead (map_head f head) → is_marker head ≡ false
 no_marker f (value.whole body) text = refl
 no_marker f (value.begin kind) text = refl
 no_marker f value.end text = refl

@@ -291,9 +291,12 @@ impl<'c, A: Allocator + Copy> Symbols<'c, A> {
 }
 
 impl<'c, A: Allocator + Copy> Names for Symbols<'c, A> {
+    ghost use Rattle.std.proofs.Common.{refl};
     ghost use Rattle.ion_symbols.specs.Table.{text_at};
 
     ghost text = { λ s. text_at s.table };
+
+    ghost zero = { λ s. refl };
 
     #[inline(always)]
     fn text_of(&self, id: u32) -> Option<&[u8]> {

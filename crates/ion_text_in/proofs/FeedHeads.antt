@@ -10,7 +10,7 @@ use Rattle.ion_value.specs.Digits.{first_is}
 use Rattle.ion_value.specs.Name.{begins_with, is_plain, is_simple, is_version}
 use Rattle.ion_value.specs.Parts.{part, ◌>>=◌}
 use Rattle.ion_value.specs.declared.plain_item.TextAt.{TextAt}
-use Rattle.ion_value.specs.PlainItems.{placed_text, IsKnown, IsKnownScalar}
+use Rattle.ion_value.specs.PlainItems.{placed_text, IsKnownOrZero, IsPlainScalar}
 use Rattle.ion_value.specs.Reading.{More}
 use Rattle.ion_value.specs.Standing.{InRange}
 use Rattle.ion_value.specs.Value as value
@@ -44,7 +44,7 @@ use Rattle.ion_text_in.proofs.ShownFurther.{shown-some}
 -- ---- scalars that are no text and no symbol
 
 -- a null or a bool, as the code reads it of a word
-pub head-keyword : {limits : Limits} {place n : ℕ} {x known : Word} {body : Scalar SymbolAt} {bytes rest : List ℕ} → x ≡ known → word_token_of (take n bytes) known ≡ tokens.plain body → IsKnownScalar body → InRange body
+pub head-keyword : {limits : Limits} {place n : ℕ} {x known : Word} {body : Scalar SymbolAt} {bytes rest : List ℕ} → x ≡ known → word_token_of (take n bytes) known ≡ tokens.plain body → IsPlainScalar body → InRange body
     → rest ≡ drop n bytes → Shows (word_token_of (take n bytes)) bytes (Whole x n) (token_of (Some limits.scalar) tokens.a_word) → BeginsAs tokens.a_word bytes → IsHead limits place bytes (value.whole body) rest
 head-keyword {limits} {place} {n} {x} {body} {bytes} {rest} is says known range behind shows begins =
     let counts = shown-some (word_token_of (take n bytes)) bytes x n (Some limits.scalar) tokens.a_word shows begins.some in
@@ -164,7 +164,7 @@ told-none sexp q rest more next is told =
 
 -- a symbol, which is read as `symbol` and seen as `seen`, behind which such a token is told
 pub head-word : {limits : Limits} {place : ℕ} {first : First} {bytes rest : List ℕ} (quoted : Bool) (symbol seen : Symbol) (next : Next) → IsToken limits.scalar first (tokens.name quoted symbol) place bytes rest
-    → IsKnown seen → ((k : Option Kind) (annotations : List SymbolAt) → tells_version k annotations quoted symbol ≡ false) → IsNext rest next → (next.told ≡ 0 → ⊥)
+    → IsKnownOrZero seen → ((k : Option Kind) (annotations : List SymbolAt) → tells_version k annotations quoted symbol ≡ false) → IsNext rest next → (next.told ≡ 0 → ⊥)
     → IsHeadAs (value.whole (value.symbol (positions.at symbol place))) limits place bytes (value.whole (value.symbol (positions.at seen place))) rest
 head-word {limits} {place} {first} {bytes} {rest} quoted symbol seen next is known version behind told =
     let some : 0 < next.told = omega (arith, told) in

@@ -1,5 +1,5 @@
 -- Ids in a lane: as the name of a field, and as a value.
-use Rattle.std.proofs.Common.{◌≡◌, ℕ, ◌+◌, ◌<◌, ◌≤◌, Bool, true, false, ◌==◌, List, [], ◌∷◌, ◌++◌, length, take, drop, Option, Some, None, IfSome, Ok, refl, sym, ap, subst, ◌∙◌, arith}
+use Rattle.std.proofs.Common.{◌≡◌, ℕ, ◌+◌, ◌<◌, ◌≤◌, Bool, true, false, ◌==◌, get_or, List, [], ◌∷◌, ◌++◌, length, take, drop, Option, Some, None, IfSome, Ok, refl, sym, ap, subst, ◌∙◌, arith}
 use Rattle.std.specs.Prelude.{option_map}
 use Rattle.ion_meter.specs.Sources.{Cursor}
 use Rattle.ion_meter.specs.declared.limits.Limits.{Limits}
@@ -8,7 +8,7 @@ use Rattle.ion_value.specs.declared.plain_item.TextAt.{TextAt}
 use Rattle.ion_value.specs.declared.writer.ValueWriter.{Ghosts as WriterOf}
 use Rattle.ion_value.specs.Digits.{first_is}
 use Rattle.ion_value.specs.Items.{named_at, raw_head, text_or_id}
-use Rattle.ion_value.specs.Name.{is_simple}
+use Rattle.ion_value.specs.Name.{is_identifier_byte, is_simple}
 use Rattle.ion_value.specs.PlainItems.{placed_text, IsRightlyQuoted}
 use Rattle.ion_value.specs.Value as value
 use Rattle.ion_value.specs.Value.{SymbolAt, map_head}
@@ -22,22 +22,26 @@ use Rattle.ion_text_in.specs.declared.feed.spot.Start.{Start}
 use Rattle.ion_text_in.specs.declared.scanned.Scanned.TheVariants.{Whole}
 use Rattle.ion_text_in.specs.declared.word.Word.{Word}
 use Rattle.ion_text_in.specs.declared.word.Word.TheVariants as word
-use Rattle.ion_text_in.specs.Feeding.{expected_of, place_in, BeginsAs, IsBehindName, IsFound, IsFoundBy, IsFoundRead, IsFurther, IsHeadAs, IsIdOf, IsNamedBy, IsNext, IsStartBy, IsStartRead, Lane, Turns, TurnsBy}
+use Rattle.ion_text_in.specs.Feeding.{expected_of, place_in, BeginsAs, IsBehindName, IsFound, IsFoundBy, IsFoundRead, IsFurther, IsHead, IsHeadAs, IsIdOf, IsNamedBy, IsNext, IsStartBy, IsStartRead, IsZeroId, Lane, Turns, TurnsBy}
 use Rattle.ion_text_in.specs.Meaning.{at}
+use Rattle.ion_text_in.specs.Places.{run_of}
 use Rattle.ion_text_in.specs.Positions as positions
 use Rattle.ion_text_in.specs.Positions.{a_field}
 use Rattle.ion_text_in.specs.Reading.{take as taken, field_step, tells_version}
 use Rattle.ion_text_in.specs.Scanners.{Shows}
 use Rattle.ion_text_in.specs.Steps.{comes}
 use Rattle.ion_text_in.specs.Token as tokens
-use Rattle.ion_text_in.specs.Token.{first_at, token_of}
+use Rattle.ion_text_in.specs.Token.{first_at, in_word, token_of}
 use Rattle.ion_text_in.specs.Views.{word_token_of}
 use Rattle.ion_text_in.proofs.BlankTurns.{no-slash}
 use Rattle.ion_text_in.proofs.FeedHeads.{head-word}
 use Rattle.ion_text_in.proofs.FeedItems.{head-seen, text-seen}
 use Rattle.ion_text_in.proofs.FeedNames.{named-as, name-token, may-word, start-as}
 use Rattle.ion_text_in.proofs.FeedReading.{token-front, IsToken}
+use Rattle.ion_text_in.proofs.Meaning.{run-none}
 use Rattle.ion_text_in.proofs.ShownFurther.{shown-some}
+use Rattle.ion_text_in.proofs.ShownTokens.{word-shown}
+use Rattle.ion_text_in.proofs.WordTokens.{word-untyped, dollar-word as dollar-means}
 
 -- ---- a dollar sign
 
@@ -57,6 +61,29 @@ dollar-begins (b ∷ bytes) e = record {
   some = omega arith;
   first = λ sexp more. ap (λ (x : ℕ). first_at sexp (x ∷ (bytes ++ more))) (dollar-is b e) ∙ dollar-word sexp (bytes ++ more);
 }
+
+-- ---- `$0`
+
+-- no more than the digit goes on with the word
+zero-ends : (next : ℕ) (rest : List ℕ) → is_identifier_byte next ≡ false → run_of in_word (48 ∷ next ∷ rest) ≡ (48 ∷ [], next ∷ rest)
+unfolding run_of
+zero-ends next rest other = ap (λ (z : List ℕ × List ℕ). (48 ∷ z.0, z.1)) (run-none in_word (next ∷ rest) other)
+
+zero-there : (limit next : ℕ) (bytes : List ℕ) → is_identifier_byte next ≡ false → 2 ≤ limit → IsZeroId limit (36 ∷ 48 ∷ next ∷ bytes)
+zero-there limit next bytes other fits =
+    let slice : List ℕ = 36 ∷ 48 ∷ next ∷ bytes in
+    let there = word-untyped slice 1 (omega arith) (omega arith) (λ more. zero-ends next (bytes ++ more) other) refl in
+    let shows = word-shown (word_token_of (36 ∷ 48 ∷ [])) (word.Id 0) limit 2 slice there fits (dollar-means (36 ∷ 48 ∷ []) refl) in
+    record { dollar = refl; within = omega arith; shown = λ place more. shows.1 place more }
+
+-- a word that is `$0`
+pub zero-id : (limit : ℕ) (bytes : List ℕ) → 3 ≤ length bytes → get_or bytes 0 0 ≡ 36 → get_or bytes 1 0 ≡ 48 → is_identifier_byte (get_or bytes 2 0) ≡ false → 2 ≤ limit → IsZeroId limit bytes
+zero-id limit [] some dollar zero other fits = absurd (omega (arith, some))
+zero-id limit (a ∷ []) some dollar zero other fits = absurd (omega (arith, some))
+zero-id limit (a ∷ b ∷ []) some dollar zero other fits = absurd (omega (arith, some))
+zero-id limit (a ∷ b ∷ next ∷ bytes) some dollar zero other fits =
+    subst (λ (x : ℕ). IsZeroId limit (x ∷ b ∷ next ∷ bytes)) (sym dollar)
+    (subst (λ (x : ℕ). IsZeroId limit (36 ∷ x ∷ next ∷ bytes)) (sym zero) (zero-there limit next bytes other fits))
 
 -- ---- an id by its text
 
@@ -127,13 +154,19 @@ pub head-id : {texts : ℕ → Option (List ℕ)} {limits : Limits} {place n : �
     → first_is (λ b. b == 36) bytes ≡ true → IsHeadAs (value.whole (value.symbol (positions.at (value.Id is.id) place))) limits place bytes (value.whole (value.symbol (positions.at (value.Text text) place))) rest
 head-id {text} next is behind told_next told dollar = head-word false (value.Id is.id) (value.Text text) next (token-id is behind dollar) tt (id-marker is.id) told_next told
 
+-- `$0`, after which such a token is told
+pub head-zero : {limits : Limits} {place : ℕ} {bytes rest : List ℕ} (next : Next) → IsZeroId limits.scalar bytes → rest ≡ drop 2 bytes → IsNext rest next → (next.told ≡ 0 → ⊥)
+    → IsHead limits place bytes (value.whole (value.symbol (positions.at (value.Id 0) place))) rest
+head-zero {bytes} next is behind told_next told =
+    head-word false (value.Id 0) (value.Id 0) next (token-front behind (omega arith) is.within is.shown (dollar-begins bytes is.dollar)) refl (id-marker 0) told_next told
+
 pub head-id-seen : (texts : ℕ → Option (List ℕ)) (id place : ℕ) (text : List ℕ) → texts id ≡ Some text
     → map_head (named_at texts) (value.whole (value.symbol (positions.at (value.Id id) place))) ≡ value.whole (value.symbol (positions.at (value.Text text) place))
 head-id-seen texts id place text has = ap (λ (a : SymbolAt). value.whole (value.symbol a)) (id-seen texts id place text has)
 
 -- a head that is no id
-pub found-text : (texts : ℕ → Option (List ℕ)) {limits : Limits} {place : ℕ} {bytes : List ℕ} {found : Found} → IsFound limits place bytes found → IsFoundBy texts limits place bytes found
-found-text texts {found} h = record { raw = raw_head found.head; seen = head-seen texts (raw_head found.head) h.head.known; head = h.head; spelled = h.spelled }
+pub found-text : (texts : ℕ → Option (List ℕ)) {limits : Limits} {place : ℕ} {bytes : List ℕ} {found : Found} → texts 0 ≡ None → IsFound limits place bytes found → IsFoundBy texts limits place bytes found
+found-text texts {found} none h = record { raw = raw_head found.head; seen = head-seen texts (raw_head found.head) none h.head.known; head = h.head; spelled = h.spelled }
 
 -- ---- by the texts that ids have
 
@@ -154,13 +187,13 @@ pub found-read : {limits : Limits} {place : ℕ} {bytes : List ℕ} {found : Fou
 found-read {found} h = record { raw = raw_head found.head; head = h.head; spelled = h.spelled }
 
 -- what a turn moves by any texts it moves whatever they are
-turns-any : {W O A : Type 0} {w : WriterOf W O A} {bounds : Bounds} {more : Bool} {l n : Lane W O} → ((texts : ℕ → Option (List ℕ)) → TurnsBy w bounds texts more l n) → Turns w bounds more l n
+turns-any : {W O A : Type 0} {w : WriterOf W O A} {bounds : Bounds} {more : Bool} {l n : Lane W O} → ((texts : ℕ → Option (List ℕ)) → texts 0 ≡ None → TurnsBy w bounds texts more l n) → Turns w bounds more l n
 turns-any by =
-    let turned = by (λ id. None) in
+    let turned = by (λ id. None) refl in
     let one = turned.moved in
     record {
       moved = record {
-        feeds = λ texts _ more. (by texts).moved.feeds texts refl more;
+        feeds = λ texts none more. (by texts none).moved.feeds texts refl more;
         falls = one.falls;
         opens = one.opens;
         part = one.part;
@@ -180,4 +213,4 @@ turns-any by =
 pub turns-text : {W O A : Type 0} {w : WriterOf W O A} {bounds : Bounds} {more : Bool} {l n : Lane W O} {second : Option TextAt} {spot : Spot} {start : Start} {place : ℕ} {bytes : List ℕ} {found : Found}
     → IsFurther second bounds spot start → IsFound bounds.limits place bytes found
     → ((texts : ℕ → Option (List ℕ)) → IsStartBy texts second bounds spot start → IsFoundBy texts bounds.limits place bytes found → TurnsBy w bounds texts more l n) → Turns w bounds more l n
-turns-text s f turns = turns-any (λ texts. turns texts (text-start texts s) (found-text texts f))
+turns-text s f turns = turns-any (λ texts none. turns texts (text-start texts s) (found-text texts none f))

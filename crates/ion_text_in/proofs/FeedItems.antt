@@ -14,7 +14,7 @@ use Rattle.ion_value.specs.Items.{named_at, named_item, raw_head}
 use Rattle.ion_value.specs.declared.plain_item.TextAt.{TextAt}
 use Rattle.ion_value.specs.Value as value
 use Rattle.ion_value.specs.Value.{SymbolAt, Head, PlacedItem, map_head}
-use Rattle.ion_value.specs.PlainItems.{placed_text, with_second, IsKnownHead, StandsBehind}
+use Rattle.ion_value.specs.PlainItems.{placed_text, with_second, IsPlainHead, StandsBehind}
 use Rattle.ion_value.proofs.Handing.{Stands, Took, item-kept}
 use Rattle.ion_text_in.specs.declared.expected.Expected.{Expected}
 use Rattle.ion_text_in.specs.declared.expected.Expected.TheVariants as codes
@@ -92,9 +92,9 @@ pub text-seen : (texts : ℕ → Option (List ℕ)) (field : Option TextAt) → 
 text-seen texts None = refl
 text-seen texts (Some t) = refl
 
--- so does a head that is no id
-pub head-seen : (texts : ℕ → Option (List ℕ)) (head : Head SymbolAt) → IsKnownHead head → map_head (named_at texts) head ≡ head
-head-seen texts head known = ap (λ (i : PlacedItem). i.head) (item-kept texts (item_of 0 None [] 0 head) (record { field = tt; annotations = tt; head = known }))
+-- so does a head that is no id but `$0`
+pub head-seen : (texts : ℕ → Option (List ℕ)) (head : Head SymbolAt) → texts 0 ≡ None → IsPlainHead head → map_head (named_at texts) head ≡ head
+head-seen texts head none known = ap (λ (i : PlacedItem). i.head) (item-kept texts (item_of 0 None [] 0 head) none (record { field = tt; annotations = tt; head = known }))
 
 -- and annotations that are texts
 notes-seen : (texts : ℕ → Option (List ℕ)) (note : Option TextAt) (second : Option TextAt) → map (named_at texts) (with_second (notes note) second) ≡ with_second (notes note) second

@@ -59,9 +59,9 @@ module _ {W O A : Type 0} {w : WriterOf W O A} {bounds : Bounds} where
   }
 
   -- what it does whatever texts ids have, it does by those that they have
-  pub moved-by : (texts : ℕ → Option (List ℕ)) {l n : Lane W O} → Moved w bounds l n → MovedBy w bounds texts l n
-  moved-by texts moved = record {
-    feeds = λ t is more. moved.feeds t tt more;
+  pub moved-by : (texts : ℕ → Option (List ℕ)) {l n : Lane W O} → texts 0 ≡ None → Moved w bounds l n → MovedBy w bounds texts l n
+  moved-by texts none moved = record {
+    feeds = λ t is more. moved.feeds t (ap (λ (x : ℕ → Option (List ℕ)). x 0) is ∙ none) more;
     falls = moved.falls;
     opens = moved.opens;
     part = moved.part;
@@ -131,8 +131,8 @@ module _ {W O A : Type 0} {w : WriterOf W O A} {bounds : Bounds} where
   pub turns-none : {sees : (ℕ → Option (List ℕ)) → Type 0} {l : Lane W O} → CanFeed w bounds l → TurnsFor w bounds sees false l l
   turns-none can = record { moved = moved-none can; less = λ goes_on. absurd (cc goes_on) }
 
-  pub turns-by : (texts : ℕ → Option (List ℕ)) {more goes_on : Bool} {l n : Lane W O} → more ≡ goes_on → Turns w bounds more l n → TurnsBy w bounds texts goes_on l n
-  turns-by texts is turns = record { moved = moved-by texts turns.moved; less = λ goes_on. turns.less (is ∙ goes_on) }
+  pub turns-by : (texts : ℕ → Option (List ℕ)) {more goes_on : Bool} {l n : Lane W O} → texts 0 ≡ None → more ≡ goes_on → Turns w bounds more l n → TurnsBy w bounds texts goes_on l n
+  turns-by texts none is turns = record { moved = moved-by texts none turns.moved; less = λ goes_on. turns.less (is ∙ goes_on) }
 
   -- a turn behind a move
   pub turns-then : {sees : (ℕ → Option (List ℕ)) → Type 0} {more : Bool} {l n r : Lane W O} → CanFeed w bounds l → MovedFor w bounds sees l n → TurnsFor w bounds sees more n r → TurnsFor w bounds sees more l r

@@ -27,7 +27,7 @@ use Rattle.ion_text_in.specs.Quick.{as_quick}
 use Rattle.ion_text_in.specs.Scanners.{Shows}
 use Rattle.ion_text_in.specs.Views.{as_number, number_token}
 use Rattle.ion_value.specs.Items.{raw_head}
-use Rattle.ion_value.specs.PlainItems.{IsKnownScalar, IsTextOf}
+use Rattle.ion_value.specs.PlainItems.{IsPlainScalar, IsTextOf}
 use Rattle.ion_value.specs.Standing.{InRange}
 use Rattle.ion_text_in.specs.Feeding.{expected_of, item_in, place_in, state, Begins, BeginsAs, IsBehind, IsFound, IsHead, IsHeadAs, IsNext, IsStart, Onward, PassesBlanks}
 use Rattle.ion_text_in.specs.Meaning.{at}
@@ -229,7 +229,7 @@ not_as_many : (n m : ℕ) → m < n → nat_le n m ≡ false
 not_as_many n m h = grind (arith, h)
 
 -- a scalar that is read as `raw`
-pub head-token : {limits : Limits} {place : ℕ} {first : First} {token : Token} {bytes rest : List ℕ} (raw head : Scalar SymbolAt) → IsKnownScalar head → InRange head → IsToken limits.scalar first token place bytes rest
+pub head-token : {limits : Limits} {place : ℕ} {first : First} {token : Token} {bytes rest : List ℕ} (raw head : Scalar SymbolAt) → IsPlainScalar head → InRange head → IsToken limits.scalar first token place bytes rest
     → ((kinds : List Kind) (top q : ℕ) (field : Option SymbolAt) (annotations : List SymbolAt) (more : List ℕ)
     → comes limits (taken limits kinds top (a_value field annotations) place token (at q (rest ++ more)))
     ≡ More (item_in kinds top field annotations place (value.whole raw)) (later limits (state kinds (top_of kinds top annotations place) (behind_member (innermost kinds)) q (rest ++ more))))
@@ -293,7 +293,7 @@ head-begin limits place k bytes rest behind begins =
           ∙ begin-taken limits kinds top place field annotations k (at q (drop 1 bytes ++ more)) (not_as_many limits.depth (length kinds) few);
     })
 
-pub number-simple : (x : Number) → IsKnownScalar (as_number x)
+pub number-simple : (x : Number) → IsPlainScalar (as_number x)
 number-simple (numbers.Int i) = tt
 number-simple (numbers.Decimal d) = tt
 number-simple (numbers.Timestamp t) = tt

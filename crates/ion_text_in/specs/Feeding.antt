@@ -8,11 +8,12 @@ use Rattle.ion_meter.specs.Windows.{Incoming, lent, Outgoing, IsPassed}
 use Rattle.ion_value.specs.declared.ion_type.Kind.{Kind}
 use Rattle.ion_value.specs.declared.plain_item.TextAt.{TextAt}
 use Rattle.ion_value.specs.declared.writer.ValueWriter.{Ghosts as WriterOf}
+use Rattle.ion_value.specs.Digits.{first_is}
 use Rattle.ion_value.specs.Feeding.{CanTake, Feeds, Joint, StaysWell}
 use Rattle.ion_value.specs.Items.{named_at, named_item, raw_head}
 use Rattle.ion_value.specs.Outcome.{one_if_closed}
 use Rattle.ion_value.specs.Parts.{Placed}
-use Rattle.ion_value.specs.PlainItems.{listed, placed_text, with_second, StandsBehind, HasKnownName, HasNoDollar, HaveNoDollar, IsKnownHead, IsRightlyQuoted, IsTextOf}
+use Rattle.ion_value.specs.PlainItems.{listed, placed_text, with_second, StandsBehind, HasKnownName, HasNoDollar, HaveNoDollar, IsPlainHead, IsRightlyQuoted, IsTextOf}
 use Rattle.ion_value.specs.Reading.{More}
 use Rattle.ion_value.specs.Shares.{Charges}
 use Rattle.ion_value.specs.Standing.{open_after, in_struct, has_field, is_marker, HasPlace, HeadInRange, WritesWithin}
@@ -114,6 +115,12 @@ pub record IsIdOf (texts : ℕ → Option (List ℕ)) (limit : ℕ) (bytes text 
   pub within : n ≤ length bytes
   pub shown : (place : ℕ) (more : List ℕ)
       → token_of (Some limit) a_word (at place (bytes ++ more)) ≡ Ok (name false (value.Id id), at (place + n) (drop n bytes ++ more))
+
+-- the first two bytes are the word `$0`, within a limit
+pub record IsZeroId (limit : ℕ) (bytes : List ℕ) : Type 0 where
+  pub dollar : first_is (λ b. b == 36) bytes ≡ true
+  pub within : 2 ≤ length bytes
+  pub shown : (place : ℕ) (more : List ℕ) → token_of (Some limit) a_word (at place (bytes ++ more)) ≡ Ok (name false (value.Id 0), at (place + 2) (drop 2 bytes ++ more))
 
 -- so many bytes in front are a word without a type behind it, within a limit, and begin as a symbol does, but with no dollar sign
 pub record IsBegun (limit : ℕ) (bytes : List ℕ) (n : ℕ) : Type 0 where
@@ -287,7 +294,7 @@ pub record IsStartBy (texts : ℕ → Option (List ℕ)) (second : Option TextAt
 pub record IsHeadAs (raw : Head SymbolAt) (limits : Limits) (place : ℕ) (bytes : List ℕ) (head : Head SymbolAt) (rest : List ℕ) : Type 0 where
   pub part : IsBehind bytes rest
   pub fewer : length rest < length bytes
-  pub known : IsKnownHead head
+  pub known : IsPlainHead head
   pub range : HeadInRange head
   pub member : (kinds : List Kind) → has_field kinds head ≡ in_struct kinds
   pub value : is_marker head ≡ false
@@ -394,9 +401,9 @@ pub record MovedFor {W O A : Type 0} (w : WriterOf W O A) (bounds : Bounds) (see
   pub stays : StaysWell w old.writer new.writer old.sink new.sink old.meter new.meter
   pub charges : Charges old.meter new.meter (lane_held w old) (lane_held w new) (lane_share w bounds.limits old)
 
--- whatever texts ids have
+-- whatever texts ids have, but that id 0 has none
 abbrev pub Moved : {W O A : Type 0} → WriterOf W O A → Bounds → Lane W O → Lane W O → Type 0
-Moved w bounds old new = MovedFor w bounds (λ _. Unit {0}) old new
+Moved w bounds old new = MovedFor w bounds (λ t. t 0 ≡ None) old new
 
 -- by the texts that ids have
 abbrev pub MovedBy : {W O A : Type 0} → WriterOf W O A → Bounds → (ℕ → Option (List ℕ)) → Lane W O → Lane W O → Type 0
@@ -408,7 +415,7 @@ pub record TurnsFor {W O A : Type 0} (w : WriterOf W O A) (bounds : Bounds) (see
   pub less : goes_on ≡ true → length new.rest < length old.rest
 
 abbrev pub Turns : {W O A : Type 0} → WriterOf W O A → Bounds → Bool → Lane W O → Lane W O → Type 0
-Turns w bounds goes_on old new = TurnsFor w bounds (λ _. Unit {0}) goes_on old new
+Turns w bounds goes_on old new = TurnsFor w bounds (λ t. t 0 ≡ None) goes_on old new
 
 abbrev pub TurnsBy : {W O A : Type 0} → WriterOf W O A → Bounds → (ℕ → Option (List ℕ)) → Bool → Lane W O → Lane W O → Type 0
 TurnsBy w bounds texts goes_on old new = TurnsFor w bounds (λ t. t ≡ texts) goes_on old new

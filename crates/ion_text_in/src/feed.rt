@@ -15,7 +15,7 @@ mod quotes;
 pub(crate) mod spot;
 mod texts;
 
-use crate::first::First;
+use crate::first::{First, told_first};
 use crate::quick::scan_quick;
 use crate::scanned::Scanned;
 use crate::slice::{behind, front};
@@ -39,7 +39,7 @@ use ion_value::writer::ValueWriter;
 use names::to_start;
 use noted::noted;
 use quotes::{quoted_turn, quoted_value};
-use spot::{Bounds, Found, Next, Spot, Start, ended_kind, to_member};
+use spot::{Bounds, Found, Next, Spot, Start, WORD, ended_kind, to_member};
 use std::alloc::Allocator;
 
 // Hands on a number: an int or a decimal is mostly read in one pass.
@@ -290,7 +290,7 @@ fn feed_frequent<'a, W: ValueWriter<O, A>, O: Output, A: Allocator + Copy>(
 }
 
 // Hands on a member whose name stands between quotes, or else members that have ids, and says whether it
-// did.
+// did. Where a word stands here, it looks for no name between quotes.
 #[inline(always)]
 fn other_turns<'a, N: Names, W: ValueWriter<O, A>, O: Output, A: Allocator + Copy>(
     at: &mut Spot<'a>,
@@ -307,9 +307,32 @@ fn other_turns<'a, N: Names, W: ValueWriter<O, A>, O: Output, A: Allocator + Cop
         (lane kinds.old at.old writer.old sink.old meter.old)
         (lane kinds.new at.new writer.new sink.new meter.new) }
 {
+    if told_first(at.rest) == WORD {
+        return near_ids(at, names, bounds, kinds, meter, writer, sink);
+    }
     if quoted_turn(at, bounds, kinds, meter, writer, sink) {
         return true;
     }
+    near_ids(at, names, bounds, kinds, meter, writer, sink)
+}
+
+// Forwards members that have ids, where a dollar sign is near, and says whether it did.
+#[inline(always)]
+fn near_ids<'a, N: Names, W: ValueWriter<O, A>, O: Output, A: Allocator + Copy>(
+    at: &mut Spot<'a>,
+    names: &'a N,
+    bounds: Bounds,
+    kinds: &mut Stack<Kind, A>,
+    meter: &mut Meter<A>,
+    writer: &mut W,
+    sink: &mut Sink<O, A>,
+) -> bool
+    requires { CanFeed W.ValueWriter bounds
+        (lane kinds.old at.old writer.old sink.old meter.old) }
+    ensures { TurnsBy W.ValueWriter bounds (N.text names.now) result
+        (lane kinds.old at.old writer.old sink.old meter.old)
+        (lane kinds.new at.new writer.new sink.new meter.new) }
+{
     if !is_dollar_near(at.rest) {
         return false;
     }

@@ -8,7 +8,7 @@ ghost use Rattle.ion_text_in.specs.Runs.{CanAppend};
 ghost use Rattle.ion_value.specs.Name.{type_named};
 ghost use Rattle.ion_text_in.specs.Scanners.{Shows};
 ghost use Rattle.ion_text_in.specs.Token.{a_word, token_of, word_of, word_token};
-ghost use Rattle.ion_text_in.specs.Feeding.{IfName, IsBegun, IsSimpleWord};
+ghost use Rattle.ion_text_in.specs.Feeding.{IfName, IsBegun, IsSimpleWord, IsZeroId};
 ghost use Rattle.ion_value.specs.Shares.{GrowsWithin};
 ghost use Rattle.ion_text_in.specs.Symbols.{prepaid_word};
 ghost use Rattle.ion_text_in.specs.Views.{AreShown, IsWithin, id_in, may_be_keyword, shown_text, spelled, with_name, word_token_of};
@@ -23,7 +23,7 @@ use ion_meter::limits::Limits;
 use ion_meter::meter::Meter;
 use ion_meter::source::Source;
 use ion_value::ion_type::IonType;
-use ion_value::name::{is_false, is_nan, is_null, is_true};
+use ion_value::name::{is_false, is_identifier_byte, is_nan, is_null, is_true};
 use std::alloc::Allocator;
 
 /// A word. The bytes of a symbol stand beside it.
@@ -96,6 +96,17 @@ pub(crate) fn scan_simple(limit: u64, bytes: &[u8]) -> Scanned<Word>
     match keyword_or_name(word) {
         Ok(word) => Scanned::Whole(word, count),
         Err(_) => Scanned::Cut,
+    }
+}
+
+/// Whether a slice shows the word `$0` at the front of it, which has no more bytes than the limit.
+#[inline(always)]
+pub(crate) fn is_zero_id(limit: u64, bytes: &[u8]) -> bool
+    ensures { result ≡ true → IsZeroId limit bytes.now }
+{
+    match bytes {
+        [b'$', b'0', next, ..] => limit >= 2 && !is_identifier_byte(*next),
+        _ => false,
     }
 }
 

@@ -206,10 +206,10 @@ impl<A: Allocator + Copy> TextWriter<A> {
         ensures { TakesScalar self.old self.new sink.old sink.new result
             name.now note.now (symbol_text (user_symbol (symbol_of symbol.entry))) }
     {
-        let Sym::Text(text) = symbol else {
-            return false;
-        };
-        self.take_known(sink, name, note, text)
+        match symbol {
+            Sym::Text(text) => self.take_known(sink, name, note, text),
+            Sym::Id(_) => self.take_text(sink, name, note, b"$0"),
+        }
     }
 
     // The symbol of a text.

@@ -7,9 +7,9 @@ use Rattle.ion_meter.specs.declared.limits.Limits.{Limits}
 use Rattle.ion_value.specs.declared.ion_type.Kind.{Kind}
 use Rattle.ion_value.specs.declared.writer.ValueWriter.{Ghosts as WriterOf}
 use Rattle.ion_value.specs.Feeding.{CanTake, Feeds, nothing, more, Hands, Joint, StaysWell}
-use Rattle.ion_value.specs.Items.{named, named_at, named_item}
+use Rattle.ion_value.specs.Items.{named, named_at, named_item, text_or_id}
 use Rattle.ion_value.specs.Outcome.{one_if_closed}
-use Rattle.ion_value.specs.PlainItems.{HasKnownName, HasNoDollar, HaveNoDollar, IsKnown, IsKnownHead, IsPlainItem}
+use Rattle.ion_value.specs.PlainItems.{HasKnownName, HasNoDollar, HaveNoDollar, IsKnown, IsKnownOrZero, IsPlainHead, IsPlainItem}
 use Rattle.ion_value.specs.Reading.{Finished, Reading, More}
 use Rattle.ion_value.specs.Standing.{open_after, open_behind, is_marker, Continues, Fits}
 use Rattle.ion_value.specs.Value as value
@@ -38,27 +38,33 @@ all-kept : (texts : ℕ → Option (List ℕ)) (ss : List SymbolAt) → HaveNoDo
 all-kept texts [] free = refl
 all-kept texts (s ∷ ss) free = ap (λ (x : SymbolAt). x ∷ map (named_at texts) ss) (at-kept texts s (no_dollar-known s.symbol free.0)) ∙ ap (λ (l : List SymbolAt). s ∷ l) (all-kept texts ss free.1)
 
-head-kept : (texts : ℕ → Option (List ℕ)) (head : Head SymbolAt) → IsKnownHead head → map_head (named_at texts) head ≡ head
-head-kept texts (value.whole (value.null type)) known = refl
-head-kept texts (value.whole (value.bool truth)) known = refl
-head-kept texts (value.whole (value.int number)) known = refl
-head-kept texts (value.whole (value.decimal number)) known = refl
-head-kept texts (value.whole (value.timestamp moment)) known = refl
-head-kept texts (value.whole (value.symbol s)) known = ap (λ (x : SymbolAt). value.whole (value.symbol x)) (at-kept texts s known)
-head-kept texts (value.whole (value.string bytes)) known = refl
-head-kept texts (value.whole (value.clob bytes)) known = refl
-head-kept texts (value.whole (value.blob bytes)) known = refl
-head-kept texts (value.begin kind) known = refl
-head-kept texts value.end known = refl
-head-kept texts value.marker known = absurd known
+-- nor has `$0` a text
+zero-kept : (texts : ℕ → Option (List ℕ)) (s : Symbol) → texts 0 ≡ None → IsKnownOrZero s → named texts s ≡ s
+zero-kept texts (value.Text bytes) none known = refl
+zero-kept texts (value.Id id) none zero =
+    ap (λ (o : Option (List ℕ)). text_or_id id o) (ap texts zero ∙ none)
 
-pub item-kept : (texts : ℕ → Option (List ℕ)) (item : PlacedItem) → IsPlainItem item → named_item texts item ≡ item
-item-kept texts item plain =
+head-kept : (texts : ℕ → Option (List ℕ)) (head : Head SymbolAt) → texts 0 ≡ None → IsPlainHead head → map_head (named_at texts) head ≡ head
+head-kept texts (value.whole (value.null type)) none known = refl
+head-kept texts (value.whole (value.bool truth)) none known = refl
+head-kept texts (value.whole (value.int number)) none known = refl
+head-kept texts (value.whole (value.decimal number)) none known = refl
+head-kept texts (value.whole (value.timestamp moment)) none known = refl
+head-kept texts (value.whole (value.symbol s)) none known = ap (λ (x : Symbol). value.whole (value.symbol (record { symbol = x; place = s.place }))) (zero-kept texts s.symbol none known)
+head-kept texts (value.whole (value.string bytes)) none known = refl
+head-kept texts (value.whole (value.clob bytes)) none known = refl
+head-kept texts (value.whole (value.blob bytes)) none known = refl
+head-kept texts (value.begin kind) none known = refl
+head-kept texts value.end none known = refl
+head-kept texts value.marker none known = absurd known
+
+pub item-kept : (texts : ℕ → Option (List ℕ)) (item : PlacedItem) → texts 0 ≡ None → IsPlainItem item → named_item texts item ≡ item
+item-kept texts item none plain =
     ap (λ (f : Option SymbolAt). record { field = f; annotations = map (named_at texts) item.annotations; head = map_head (named_at texts) item.head; place = item.place; top = item.top })
     (name-kept texts item.field plain.field)
     ∙ (ap (λ (l : List SymbolAt). record { field = item.field; annotations = l; head = map_head (named_at texts) item.head; place = item.place; top = item.top })
     (all-kept texts item.annotations plain.annotations)
-    ∙ ap (λ (h : Head SymbolAt). record { field = item.field; annotations = item.annotations; head = h; place = item.place; top = item.top }) (head-kept texts item.head plain.head))
+    ∙ ap (λ (h : Head SymbolAt). record { field = item.field; annotations = item.annotations; head = h; place = item.place; top = item.top }) (head-kept texts item.head none plain.head))
 
 -- ---- what a writer did that took an item
 
@@ -171,14 +177,6 @@ module _ {W O A : Type 0} (w : WriterOf W O A) where
         (q ∙ (took.puts path at (continues (w.limits old.writer) depth old.opened path seen can.depth_of s kinds)
         ∙ ap (λ (l : List ℕ). l ++ w.adds (w.limits old.writer) path seen) (sym p)));
   }
-
-  -- the same of an item whose symbols are texts
-  pub hands-took : (texts : ℕ → Option (List ℕ)) (reads : Type 0) (depth : ℕ) (old new : Joint W) (before behind : Outgoing O) (m k : Counts) (item : PlacedItem) → CanTake w depth old.opened old.writer before
-      → Stands depth old.opened item → Took w item old.writer new.writer before behind m k → old.pending ≡ before.pending → new.pending ≡ behind.pending
-      → (reads → old.coming ≡ More item new.coming) → new.opened ≡ open_after old.opened item.head → new.values ≡ old.values + one_if_closed new.opened
-      → Hands w (named_item texts) reads old new
-  hands-took texts reads depth old new before behind m k item can s took p q gives opens counts =
-      hands-seen (named_item texts) reads depth old new before behind m k item item (item-kept texts item s.plain) can s took p q gives opens counts
 
   -- one after the other
   pub feeds-then : {see : PlacedItem → PlacedItem} {reads : Type 0} {a b c : Joint W} → Feeds w see reads a b → Feeds w see reads b c → Feeds w see reads a c

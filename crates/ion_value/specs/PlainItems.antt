@@ -1,4 +1,4 @@
--- What is seen of plain items: those whose symbols are texts, with two annotations at most.
+-- What is seen of plain items: those whose names and annotations are texts, with two annotations at most.
 use Rattle.std.specs.Prelude.{◌≡◌, ◌==◌, ℕ, true, false, List, [], ◌∷◌, ◌++◌, Option, Some, None, option_map, IfSome, ⊤}
 use Rattle.ion_value.specs.declared.plain_item.TextAt.{TextAt}
 use Rattle.ion_value.specs.declared.quoting.Quoting.{Quoting}
@@ -46,7 +46,7 @@ placed_item item = record {
   top = item.top;
 }
 
--- ---- items whose symbols are texts
+-- ---- items whose symbols are texts, but for `$0`
 
 -- a symbol is a text
 abbrev pub IsKnown : Symbol → Type 0
@@ -68,30 +68,35 @@ abbrev pub HaveNoDollar : List SymbolAt → Type 0
 HaveNoDollar [] = ⊤
 HaveNoDollar (s ∷ ss) = HasNoDollar s.symbol × HaveNoDollar ss
 
--- a scalar that is a symbol is a text
-abbrev pub IsKnownScalar : Scalar SymbolAt → Type 0
-IsKnownScalar (null type) = ⊤
-IsKnownScalar (bool truth) = ⊤
-IsKnownScalar (int number) = ⊤
-IsKnownScalar (decimal number) = ⊤
-IsKnownScalar (timestamp moment) = ⊤
-IsKnownScalar (symbol s) = IsKnown s.symbol
-IsKnownScalar (string bytes) = ⊤
-IsKnownScalar (clob bytes) = ⊤
-IsKnownScalar (blob bytes) = ⊤
+-- a symbol is a text, or `$0`, whose text is unknown by each symbol table
+abbrev pub IsKnownOrZero : Symbol → Type 0
+IsKnownOrZero (Text bytes) = ⊤
+IsKnownOrZero (Id id) = id ≡ 0
+
+-- so is a scalar that is a symbol
+abbrev pub IsPlainScalar : Scalar SymbolAt → Type 0
+IsPlainScalar (null type) = ⊤
+IsPlainScalar (bool truth) = ⊤
+IsPlainScalar (int number) = ⊤
+IsPlainScalar (decimal number) = ⊤
+IsPlainScalar (timestamp moment) = ⊤
+IsPlainScalar (symbol s) = IsKnownOrZero s.symbol
+IsPlainScalar (string bytes) = ⊤
+IsPlainScalar (clob bytes) = ⊤
+IsPlainScalar (blob bytes) = ⊤
 
 -- the same of a head that is no version marker
-abbrev pub IsKnownHead : Head SymbolAt → Type 0
-IsKnownHead (whole body) = IsKnownScalar body
-IsKnownHead (begin kind) = ⊤
-IsKnownHead end = ⊤
-IsKnownHead marker = ⊥
+abbrev pub IsPlainHead : Head SymbolAt → Type 0
+IsPlainHead (whole body) = IsPlainScalar body
+IsPlainHead (begin kind) = ⊤
+IsPlainHead end = ⊤
+IsPlainHead marker = ⊥
 
--- an item's symbols are texts, its annotations without a dollar sign in front, and it is no version marker
+-- an item's symbols are texts, but for the value `$0`, its annotations without a dollar sign in front, and it is no version marker
 pub record IsPlainItem (item : PlacedItem) : Type 0 where
   pub field : HasKnownName item.field
   pub annotations : HaveNoDollar item.annotations
-  pub head : IsKnownHead item.head
+  pub head : IsPlainHead item.head
 
 -- ---- what is said of a name or an annotation
 

@@ -1,4 +1,5 @@
 //! The texts that ids stand for.
+ghost use Rattle.std.proofs.Common.{refl};
 ghost use Rattle.std.specs.Prelude.{◌≡◌, ℕ, List, Option, Some, None, MatchOption};
 ghost use Rattle.ion_value.specs.Name.{IsQuotedAs};
 
@@ -8,6 +9,9 @@ use crate::quoting::NameText;
 pub trait Names {
     /// The text of an id, where it has one.
     ghost text: { Self → ℕ → Option (List ℕ) };
+
+    /// Id 0 has none: `$0` is a symbol of unknown text by each symbol table.
+    ghost zero: { (s : Self) → text s 0 ≡ None };
 
     /// The text of an id, or none where it has none.
     fn text_of(&self, id: u32) -> Option<&[u8]>
@@ -26,6 +30,8 @@ pub struct NoNames;
 
 impl Names for NoNames {
     ghost text = { λ _ _. None };
+
+    ghost zero = { λ _. refl };
 
     fn text_of(&self, _id: u32) -> Option<&[u8]> {
         None

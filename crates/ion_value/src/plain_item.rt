@@ -1,5 +1,5 @@
-//! Items whose symbols are texts, with two annotations at most: what most items are, and what is copied
-//! with the fewest steps.
+//! Items whose names and annotations are texts, with two annotations at most: what most items are, and
+//! what is copied with the fewest steps.
 
 use crate::item::Head;
 use crate::quoting::NameText;
@@ -15,9 +15,9 @@ pub struct TextAt<'a> {
     pub place: u64,
 }
 
-/// An item of a user value that has two annotations at most. Its name, its annotations and its head,
-/// where that is a symbol, are texts, and no ids. No annotation begins with a dollar sign, so that no
-/// such item begins a declaration. Names have a lifetime of their own, since they may stand in a symbol
+/// An item of a user value that has two annotations at most. Its name and its annotations are texts,
+/// and no ids; so is its head where that is a symbol, but for `$0`, which no symbol table gives a text.
+/// No annotation begins with a dollar sign, so that no such item begins a declaration. Names have a lifetime of their own, since they may stand in a symbol
 /// table.
 #[derive(Clone, Copy)]
 pub struct PlainItem<'n, 'h> {

@@ -1,7 +1,7 @@
 //! Items that lie whole in the window, handed to a writer.
 ghost use Rattle.std.specs.Prelude.{◌≡◌, ◌+◌, ◌*◌, ◌-◌, ◌^◌, ◌<◌, ◌≤◌, get_or, length, drop, false, true, Option, Some, None, IfSome};
 ghost use Rattle.ion_value.specs.Items.{named_at, named_item, raw_head};
-ghost use Rattle.ion_value.specs.PlainItems.{IsKnownHead, IsWrittenAs};
+ghost use Rattle.ion_value.specs.PlainItems.{IsPlainHead, IsWrittenAs};
 ghost use Rattle.ion_binary.specs.Reader.{kinds_of};
 ghost use Rattle.ion_binary.specs.Lane.{CanHand, CanHandFront, CanHandMember, CanHandOn, CanHandShape, HandsAt, EndsHere, HandsOn, IsAround, FillsTo, frame_in, inner_region};
 ghost use Rattle.ion_value.specs.Outcome.{one_if_closed};
@@ -15,7 +15,7 @@ ghost use Rattle.ion_meter.specs.Counts.{Shrinks};
 ghost use Rattle.ion_meter.specs.Sources.{Stands};
 ghost use Rattle.ion_meter.specs.Windows.{CanPass, IsPassed, lent};
 ghost use Rattle.ion_binary.specs.Wrappers.{as_frames, innermost};
-ghost use Rattle.ion_value.specs.Value.{Text, map_head, symbol, whole};
+ghost use Rattle.ion_value.specs.Value.{Id, Text, map_head, symbol, whole};
 
 use super::front::{
     Around, Front, Level, around_in, bare_front, ends_here, fills, inner_end, inside, is_bare,
@@ -63,7 +63,7 @@ fn shown_head<'h, N: Names>(
     ensures head { IfSome result (λ h. raw_head h.head
         ≡ map_head (named_at (N.text names.entry.now))
         (whole (placed_scalar place (shown_scalar scalar.entry)))) }
-    ensures known { IfSome result (λ h. IsKnownHead (raw_head h.head)) }
+    ensures known { IfSome result (λ h. IsPlainHead (raw_head h.head)) }
     ensures spelled { IfSome result
         (λ h. IfSome h.spelled (λ t. IsWrittenAs t.quoting t.text.now (raw_head h.head))) }
 {
@@ -84,12 +84,12 @@ fn shown_symbol<'h, N: Names>(id: u32, place: u64, names: &'h N) -> Option<Spell
     ensures head { IfSome result (λ h. raw_head h.head
         ≡ map_head (named_at (N.text names.entry.now))
         (whole (placed_scalar place (shown_scalar (ShownScalar.Symbol id))))) }
-    ensures known { IfSome result (λ h. IsKnownHead (raw_head h.head)) }
+    ensures known { IfSome result (λ h. IsPlainHead (raw_head h.head)) }
     ensures spelled { IfSome result
         (λ h. IfSome h.spelled (λ t. IsWrittenAs t.quoting t.text.now (raw_head h.head))) }
 {
     let Some(found) = names.name_text(id) else {
-        return None;
+        return zero_symbol(id, place);
     };
     let head = symbol_head(found.text, place);
     match found.quoting {
@@ -103,6 +103,23 @@ fn shown_symbol<'h, N: Names>(id: u32, place: u64, names: &'h N) -> Option<Spell
         }),
         Quoting::Any => Some(unspelled(head)),
     }
+}
+
+// The symbol `$0` as a head, where this is its id.
+#[inline(always)]
+fn zero_symbol<'h>(id: u32, place: u64) -> Option<SpelledHead<'h>>
+    ensures zero { IfSome result (λ _. id ≡ 0) }
+    ensures is { IfSome result (λ h. raw_head h.head
+        ≡ whole (symbol (record { symbol = Id 0; place = place }))) }
+    ensures spelled { IfSome result (λ h. h.spelled ≡ None) }
+{
+    if id != 0 {
+        return None;
+    }
+    Some(unspelled(Head::Symbol(SymAt {
+        sym: Sym::Id(0),
+        place,
+    })))
 }
 
 // The symbol of a text.

@@ -11,9 +11,12 @@ struct OneName;
 
 impl Names for OneName {
     ghost use Rattle.std.specs.Prelude.{Some, None, ◌∷◌, [], nat_eq, if◌then◌else◌};
+    ghost use Rattle.std.proofs.Common.{refl};
 
     // the letters n, a, m and e
     ghost text = { λ _ id. if nat_eq id 10 then Some (110 ∷ 97 ∷ 109 ∷ 101 ∷ []) else None };
+
+    ghost zero = { λ _. refl };
 
     fn text_of(&self, id: u32) -> Option<&[u8]> {
         if id == 10 { Some(b"name") } else { None }

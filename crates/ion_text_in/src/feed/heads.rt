@@ -19,7 +19,7 @@ use crate::quick::{Quick, scaled, scan_quick, signed_int};
 use crate::quoted::Quote;
 use crate::scanned::Scanned;
 use crate::slice::{behind, front};
-use crate::word::{Word, scan_simple};
+use crate::word::{Word, is_zero_id, scan_simple};
 use ion_meter::limits::Limits;
 use ion_value::ion_type::Kind;
 use ion_value::item::{Head, Sym, SymAt};
@@ -160,7 +160,7 @@ fn word_head<'a>(limits: Limits, place: u64, bytes: &'a [u8]) -> Option<Found<'a
     match scan_simple(limits.scalar, bytes) {
         Scanned::Whole(Word::Name, count) => symbol_head(limits, place, count, bytes),
         Scanned::Whole(word, count) => keyword_head(limits, place, word, count, bytes),
-        _ => None,
+        _ => zero_head(limits, place, bytes),
     }
 }
 
@@ -231,6 +231,25 @@ pub(super) fn quoted_head<'a>(limits: Limits, place: u64, bytes: &'a [u8]) -> Op
         place,
     };
     Some(found_as(Head::Symbol(name), symbol.rest))
+}
+
+/// The symbol `$0`, where a token is told after it that is no two colons.
+#[inline(always)]
+pub(super) fn zero_head<'a>(limits: Limits, place: u64, bytes: &'a [u8]) -> Option<Found<'a>>
+    ensures { IfSome result (IsFound limits place bytes.now) }
+{
+    if !is_zero_id(limits.scalar, bytes) {
+        return None;
+    }
+    let rest = behind(2, bytes);
+    if next_told(rest).told == 0 {
+        return None;
+    }
+    let zero = SymAt {
+        sym: Sym::Id(0),
+        place,
+    };
+    Some(found_as(Head::Symbol(zero), rest))
 }
 
 /// The kind of token that begins so, where it begins an item that may be handed on.

@@ -5,7 +5,7 @@ ghost use Rattle.ion_value.specs.Digits.{first_is};
 ghost use Rattle.ion_text_in.specs.Feeding.{lane, place_in, Begins, CanFeed, IsFoundBy, IsIdOf, IsNamedBy, IsNext, IsStartBy, MovedBy, TurnsBy};
 
 use super::forward::forward_any;
-use super::heads::scan_head;
+use super::heads::{scan_head, zero_head};
 use super::names::{behind_name, to_start};
 use super::noted::begins_dollar;
 use super::spot::{Bounds, Found, Further, Next, Spot, Start, next_told, place_behind, to_member};
@@ -193,6 +193,9 @@ fn id_found<'a, N: Names>(
         (place_in bounds next.entry.rest.now) next.entry.rest.now) }
 {
     let place = bounds.end - next.rest.len() as u64;
+    if let Some(found) = zero_head(bounds.limits, place, next.rest) {
+        return Some(found);
+    }
     if begins_dollar(next.rest) {
         return id_head(next.rest, names, bounds.limits, place);
     }

@@ -12,8 +12,8 @@ other_turns-requires g c = can-moved (can-moved c.requires c.runs.invariant) c.f
 
 pub returns-then-not-other_turns : goal.returns-then-not-other_turns
 returns-then-not-other_turns g c =
-    moved-then c.requires (moved-then c.requires c.runs.invariant (moved-by (g.N.Names.text c.args.names.now) c.feed_frequent-at.ensures)) c.other_turns.ensures.moved
+    moved-then c.requires (moved-then c.requires c.runs.invariant (moved-by (g.N.Names.text c.args.names.now) (g.N.Names.zero c.args.names.now) c.feed_frequent-at.ensures)) c.other_turns.ensures.moved
 
 pub runs-preserved : goal.runs-preserved
 runs-preserved g c =
-    moved-then c.requires (moved-then c.requires c.runs.invariant (moved-by (g.N.Names.text c.args.names.now) c.feed_frequent-at.ensures)) c.other_turns.ensures.moved
+    moved-then c.requires (moved-then c.requires c.runs.invariant (moved-by (g.N.Names.text c.args.names.now) (g.N.Names.zero c.args.names.now) c.feed_frequent-at.ensures)) c.other_turns.ensures.moved

@@ -22,7 +22,7 @@ nothing = record { all = []; late = 0; cost = 0 }
 abbrev pub appended : Content → List ℕ → Content
 appended c octets = record c { all = c.all ++ octets; cost = c.cost + length octets }
 
--- each octet costs 1, and a late header, which has octets, no more than 16 beside them
+-- each octet costs 1, a late header no more than 16 beside its octets, and it has one or more
 pub record IsCosted (c : Content) : Type 0 where
   pub least : length c.all ≤ c.cost
   pub most : c.cost ≤ length c.all + 16 * c.late

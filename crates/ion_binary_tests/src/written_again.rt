@@ -400,7 +400,7 @@ fn late_headers(rt: &impl Abort, alloc: Global) -> Vec<u8> {
 #[test]
 fn each_growth_refused(rt: HostRuntime) {
     let plain = octets(&rt, rt.alloc(), MARKER, PLAIN);
-    same(&rt, first_unmet(&rt, rt.alloc(), plain.as_slice()), 19);
+    same(&rt, first_unmet(&rt, rt.alloc(), plain.as_slice()), 18);
     // Headers that are late take a growth too.
     let late = late_headers(&rt, rt.alloc());
     holds(&rt, first_unmet(&rt, rt.alloc(), late.as_slice()) > 4);

@@ -252,21 +252,20 @@ pub fn grow_two_tables<A: Allocator + Copy>(rt: &impl Abort, alloc: Global, inne
     meter.refused()
 }
 
-/// Four of the pushes are refused, then the extension, then an insertion.
-const REFUSALS: u64 = 6;
-
-const GROWING: &[(&str, Script)] = &[
-    ("bytes", Script::Bytes),
-    ("spliced bytes", Script::SplicedBytes),
-    ("stack", Script::Stack),
-    ("table", Script::Table),
+/// What grows, and how often: four of the pushes are refused, then the extension, then an insertion. Of
+/// the pushes of bytes one is, since room is made for 64 at least.
+const GROWING: &[(&str, Script, u64)] = &[
+    ("bytes", Script::Bytes, 3),
+    ("spliced bytes", Script::SplicedBytes, 3),
+    ("stack", Script::Stack, 6),
+    ("table", Script::Table, 6),
 ];
 
 #[test]
 fn each_grows_past_each_refusal(rt: HostRuntime) {
-    for (name, script) in GROWING {
+    for (name, script, refusals) in GROWING {
         let runs = refuse_each(&rt, rt.alloc(), *script);
-        same(&rt, (*name, runs), (*name, REFUSALS));
+        same(&rt, (*name, runs), (*name, *refusals));
     }
     // Of each of two tables four growths.
     same(&rt, refuse_each(&rt, rt.alloc(), Script::TwoTables), 8);

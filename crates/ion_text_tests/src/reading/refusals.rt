@@ -14,17 +14,23 @@ type Row = (usize, &'static [u8], &'static str, usize);
 const RUNS: &[Row] = &[
     (
         1,
+        b"abcdefghijabcdefghijabcdefghijabcdefghijabcdefghijabcdefghijabcdefghijabcdefghijabcdefghijabcdefghijabcdefghijabcdefghijabcdefghij ",
+        "0/0 symbol 'abcdefghijabcdefghijabcdefghijabcdefghijabcdefghijabcdefghijabcdefghijabcdefghijabcdefghijabcdefghijabcdefghijabcdefghijabcdefghij'@0; over",
+        3,
+    ),
+    (
+        1,
         b"123456789012345678 ",
         "0/0 int 123456789012345678; over",
-        3,
+        1,
     ),
     (
         1,
         b"abcdefghijklmnopqr ",
         "0/0 symbol 'abcdefghijklmnopqr'@0; over",
-        3,
+        1,
     ),
-    (1, b"null.timestamp ", "0/0 null.timestamp; over", 2),
+    (1, b"null.timestamp ", "0/0 null.timestamp; over", 1),
     (
         32,
         b"abcdefghijklmnopqr ",
@@ -35,22 +41,28 @@ const RUNS: &[Row] = &[
         1,
         b"(+-*/<=>!#%&^|~@;. ",
         "0/0 begin sexp; 1/0 symbol '+-*/<=>!#%&^|~@;.'@1; Truncated at 19",
-        4,
+        2,
     ),
 ];
 
 const TEXTS: &[Row] = &[
     (
         1,
+        b"'abcdefgh\\nabcdefghijabcdefghijabcdefghijabcdefghijabcdefghijabcdefghijabcdefghijabcdefghijabcdefghijabcdefghijabcdefghijabcdefghijabcdefghij' ",
+        "0/0 symbol 'abcdefgh\nabcdefghijabcdefghijabcdefghijabcdefghijabcdefghijabcdefghijabcdefghijabcdefghijabcdefghijabcdefghijabcdefghijabcdefghijabcdefghij'@0; over",
+        3,
+    ),
+    (
+        1,
         b"'abcdefgh\\njklmnopqr' ",
         "0/0 symbol 'abcdefgh\njklmnopqr'@0; over",
-        3,
+        1,
     ),
     (
         1,
         b"\"abcdefgh\\njklmnopqr\" ",
         "0/0 string 61626364656667680a6a6b6c6d6e6f707172; over",
-        3,
+        1,
     ),
     (
         32,
@@ -62,25 +74,25 @@ const TEXTS: &[Row] = &[
         1,
         b"'''abcdefgh''' '''ijklmnopqr''' ",
         "0/0 string 6162636465666768696a6b6c6d6e6f707172; over",
-        3,
+        1,
     ),
     (
         1,
         b"{{\"abcdefgh\\njklmnopqr\"}}",
         "0/0 clob 61626364656667680a6a6b6c6d6e6f707172; over",
-        3,
+        1,
     ),
     (
         1,
         b"{{'''abcdefgh''' '''ijklmnopqr'''}}",
         "0/0 clob 6162636465666768696a6b6c6d6e6f707172; over",
-        3,
+        1,
     ),
     (
         1,
         b"{{YWJjZGVmZ2hpamtsbW5vcHFy}}",
         "0/0 blob 6162636465666768696a6b6c6d6e6f707172; over",
-        3,
+        1,
     ),
 ];
 

@@ -16,6 +16,7 @@ ghost use Rattle.ion_binary.specs.Opening.{AddsOctets, Begins, CanAdd, CanStep, 
 mod ended;
 mod plain;
 
+use crate::few::Few;
 use crate::front::Front;
 use crate::header::header;
 use crate::headers::{HeaderPlace, Headers};
@@ -363,6 +364,69 @@ impl<A: Allocator + Copy> OpenValue<A> {
         }
         let front = var_uint_write(u64::from(name));
         self.begin_if_room(meter, *limits, front.as_slice(), kind)
+    }
+
+    #[inline(never)]
+    pub fn begin_noted(
+        &mut self,
+        meter: &mut Meter<A>,
+        limits: &Limits,
+        name: u32,
+        note: u32,
+        kind: Kind,
+    ) -> bool {
+        if note >= 128 || name >= 16_384 || !self.surely_fits(*limits, 4, 2) {
+            return false;
+        }
+        let ids = Few::one(128 + note as u8).behind(129);
+        let front = if name == 0 {
+            ids.same()
+        } else if name < 128 {
+            ids.behind(128 + name as u8)
+        } else {
+            let last = ids.behind(128 + (name % 128) as u8);
+            last.behind((name / 128) as u8)
+        };
+        let place = self.octets.as_slice().len() + front.len();
+        let around = HeaderPlace {
+            place: (place - 2) as u32,
+            code: WRAPPER,
+        };
+        let block = front.block();
+        if !self.headers.push_with(&mut self.octets, meter, around, &block[..front.len()]) {
+            return false;
+        }
+        let own = HeaderPlace {
+            place: place as u32,
+            code: type_code(kind),
+        };
+        self.headers.push(meter, own).is_ok()
+    }
+
+    #[inline(never)]
+    pub fn end_wrapped(&mut self, meter: &mut Meter<A>) -> bool {
+        let Some((innermost, around)) = self.headers.two() else {
+            return false;
+        };
+        let place = innermost.place as usize;
+        let first = around.place as usize;
+        let inside = self.octets.as_slice().len() - place;
+        if inside >= LONG {
+            return false;
+        }
+        let before = self.octets.as_slice().len();
+        if !insert_header(&mut self.octets, meter, innermost.code, place, inside) {
+            return false;
+        }
+        let inside = self.octets.as_slice().len() - first;
+        if !insert_header(&mut self.octets, meter, 14, first, inside) {
+            let _before = before;
+            return false;
+        }
+        let _one = self.headers.pop(meter);
+        let _other = self.headers.pop(meter);
+        self.cut();
+        true
     }
 
     /// Begins a container behind octets that come first of its item, where there is room for all and

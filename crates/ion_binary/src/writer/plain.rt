@@ -50,7 +50,7 @@ impl<A: Allocator + Copy> BinWriter<A> {
         }
         match item.head {
             Head::Begin(kind) => self.begin_plain(meter, &item, kind),
-            Head::End => self.end_plain(meter, &item),
+            Head::End => self.end_plain(meter, sink, &item),
             Head::Marker => false,
             Head::Null(of) => self.add_octet(meter, sink, &item, 16 * type_code(of) + 15),
             Head::Bool(truth) => self.add_octet(meter, sink, &item, if truth { 17 } else { 16 }),
@@ -74,26 +74,65 @@ impl<A: Allocator + Copy> BinWriter<A> {
         if begins && self.symbols.cost() > self.limits.symbols / 2 {
             return false;
         }
-        if item.annotation.is_some() {
-            return false;
-        }
         let Some(name) = self.field_id(item.field) else {
             return false;
         };
+        let Some(note) = self.annotation_id(item.annotation) else {
+            return false;
+        };
+        if note != 0 {
+            return self.open_value.begin_noted(meter, &self.limits, name, note, kind);
+        }
         self.open_value
             .begin_member(meter, &self.limits, name, kind)
     }
 
     // Ends a container that stands in another.
     #[inline(always)]
-    fn end_plain(&mut self, meter: &mut Meter<A>, item: &SingleItem<'_, '_>) -> bool
+    fn end_plain<O: Output>(&mut self, meter: &mut Meter<A>, sink: &mut Sink<O, A>, item: &SingleItem<'_, '_>) -> bool
         requires can_take { CanTake self.old meter.old }
         requires comes { MayCome self.old.limits self.old.open_value (as_item item.now) }
         requires head { raw_head item.now.head ≡ end }
         ensures { AddsPlain self.old self.new meter.old meter.new (as_item item.now) result }
     {
         let _item = item;
-        self.open_value.end_if_room(meter, self.limits)
+        if self.open_value.end_if_room(meter, self.limits) {
+            return true;
+        }
+        self.end_noted(meter, sink)
+    }
+
+    #[inline(never)]
+    fn end_noted<O: Output>(&mut self, meter: &mut Meter<A>, sink: &mut Sink<O, A>) -> bool {
+        let Some((innermost, around)) = self.open_value.headers.two() else {
+            return false;
+        };
+        if around.code != 14 {
+            return false;
+        }
+        if self.open_value.headers.len() > 2 {
+            return self.open_value.end_wrapped(meter);
+        }
+        if around.place != 0 || self.due {
+            return false;
+        }
+        if self.symbols.new_since(FIRST_ID).len() != self.declared as usize {
+            return false;
+        }
+        let octets = self.open_value.octets.as_slice();
+        let place = innermost.place as usize;
+        let inner = header(innermost.code, (octets.len() - place) as u64);
+        let outer = header(14, (octets.len() + inner.len()) as u64);
+        if sink.room() < outer.len() + inner.len() + octets.len() {
+            return false;
+        }
+        sink.put_within(outer.as_slice());
+        sink.put_within(&octets[..place]);
+        sink.put_within(inner.as_slice());
+        sink.put_within(&octets[place..]);
+        let _last = self.open_value.headers.pop(meter);
+        self.open_value.clear(meter, self.limits);
+        true
     }
 
     // Ends the value at top level and puts it, where all is there that it needs: it has no wrapper, its

@@ -29,6 +29,14 @@ def counted(words):
     return int(found.group(1)) / 1e6 if found and ran.returncode == 0 else None
 
 
+def lacking():
+    """What this wants and is not there, or nothing."""
+    for name, there in (('valgrind', shutil.which('valgrind')), ('yard', os.access(YARD, os.X_OK))):
+        if not there:
+            return name
+    return None
+
+
 def tell(ratios):
     """The ratios' median and the greatest of them."""
     few = {work: ratio for work, ratio in ratios.items() if work[0] not in ('strings', 'blobs')}
@@ -44,10 +52,9 @@ def main(words):
     if len(words) < 2:
         print(__doc__)
         return 2
-    for name, there in (('valgrind', shutil.which('valgrind')), ('yard', os.access(YARD, os.X_OK))):
-        if not there:
-            print(f'skipped: {name}')
-            return 0
+    if lacking():
+        print(f'skipped: {lacking()}')
+        return 0
     ion, folder, kinds = words[0], words[1], words[2:] or KINDS
     empty = os.path.join(folder, 'empty.ion')
     open(empty, 'w').close()

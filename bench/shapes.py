@@ -10,15 +10,13 @@ run at a time. bench/beside.py says how yard is built. Streams of one kind of re
 declined for ever, or a token that leaves the fast path.
 """
 import os
-import re
-import shutil
 import subprocess
 import sys
 import tempfile
 from concurrent.futures import ThreadPoolExecutor
 
-HERE = os.path.dirname(os.path.abspath(__file__))
-YARD = os.environ.get('YARD') or os.path.join(HERE, 'yard', 'target', 'release', 'yard')
+from instructions import YARD, counted, lacking
+
 LINES = 4000
 SHAPES = r"""
 1
@@ -74,34 +72,25 @@ a::b::{c:1}
 """.strip().split('\n')
 
 
-def counted(program, command, path):
-    """The instructions of a run, or nothing where it fails."""
-    ran = subprocess.run(['valgrind', '--tool=callgrind', '--callgrind-out-file=/dev/null', program, command, path],
-                         stdout=subprocess.DEVNULL, stderr=subprocess.PIPE, text=True)
-    found = re.search(r'Collected : (\d+)', ran.stderr)
-    return int(found.group(1)) if found and ran.returncode == 0 else None
-
-
 def main(words):
     if not words:
         print(__doc__)
         return 2
-    for name, there in (('valgrind', shutil.which('valgrind')), ('yard', os.access(YARD, os.X_OK))):
-        if not there:
-            print(f'skipped: {name}')
-            return 0
+    if lacking():
+        print(f'skipped: {lacking()}')
+        return 0
     ion = words[0]
     shapes = [shape for shape in SHAPES if not words[1:] or any(word in shape for word in words[1:])]
     with tempfile.TemporaryDirectory() as folder:
         empty = f'{folder}/empty.ion'
         open(empty, 'w').close()
-        base, other_base = counted(ion, 'show', empty), counted(YARD, 'show', empty)
+        base, other_base = counted([ion, 'show', empty]), counted([YARD, 'show', empty])
 
         def cell(command, path):
-            own, other = counted(ion, command, path), counted(YARD, command, path)
+            own, other = counted([ion, command, path]), counted([YARD, command, path])
             if own is None or other is None:
                 return 'refused'
-            return f'{(own - base) / max(1, other - other_base):.2f} ({(own - base) // LINES})'
+            return f'{(own - base) / (other - other_base):.2f} ({(own - base) * 1e6 / LINES:.0f})'
 
         def row(numbered):
             number, shape = numbered

@@ -17,8 +17,8 @@ pub struct TextAt<'a> {
 
 /// An item of a user value that has two annotations at most. Its name and its annotations are texts,
 /// and no ids; so is its head where that is a symbol, but for `$0`, which no symbol table gives a text.
-/// No annotation begins with a dollar sign, so that no such item begins a declaration. Names have a lifetime of their own, since they may stand in a symbol
-/// table.
+/// No annotation begins with a dollar sign, so that no such item begins a declaration. Names have a
+/// lifetime of their own, since they may stand in a symbol table.
 #[derive(Clone, Copy)]
 pub struct PlainItem<'n, 'h> {
     /// The field's name, inside a struct.

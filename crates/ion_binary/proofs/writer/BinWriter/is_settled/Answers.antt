@@ -6,7 +6,7 @@ use Rattle.ion_binary.proofs.writer.BinWriter.is_settled.Goals as goal
 pub returns : goal.returns
 returns g c = λ is. record {
   due = search rules;
-  headers = let n = c.len.ensures in let f = c.if-len-gt0.false in nil_from_length c.args.self.now.open_value.headers (omega (arith, n, f));
+  headers = nil_from_length c.args.self.now.open_value.headers (grind (arith, common_steps, c.len.ensures));
   octets = sym c.in-Some.ensures.octets ∙ nil_from_length c.in-Some.octets.now (grind (arith, common_steps, c.is_empty.ensures, c.if-not-is_empty.false));
   all = search rules;
   few = search rules;

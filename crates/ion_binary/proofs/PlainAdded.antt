@@ -211,15 +211,19 @@ pub member-plain : {A : Type 0} (w : BinWriter A) (v : OpenValue A) (before afte
     → AddsPlain w (record w { open_value = v }) before after item result
 member-plain w v before after item result name note = member-noted w v before after item result name (name_octets note)
 
--- the id of a symbol value
-pub name-kept : (texts : List (List ℕ)) (t : List ℕ) (place : ℕ) (o : Option ℕ) → o ≡ known_id texts t
-    → IfSome o (λ n. HaveIds texts (record { symbol = value.Text t; place = place } ∷ []))
-name-kept texts t place None e = tt
-name-kept texts t place (Some id) e = (known-kept texts t id e, tt)
+-- the id of a text, where it has one
+pub name-kept : (texts : List (List ℕ)) (t : List ℕ) (o : Option ℕ) → o ≡ known_id texts t → IfSome o (λ n. with_symbol texts (Known t) ≡ texts)
+name-kept texts t None e = tt
+name-kept texts t (Some id) e = known-kept texts t id e
 
 pub name-is : (texts : List (List ℕ)) (t : List ℕ) (o : Option ℕ) → o ≡ known_id texts t → IfSome o (λ n. n ≡ id_in texts (Known t))
 name-is texts t None e = tt
 name-is texts t (Some id) e = known-is texts t id e
+
+-- a symbol that has its id is one of a list of one
+pub kept-alone : (texts : List (List ℕ)) (s : SymbolAt) (o : Option ℕ) → IfSome o (λ n. with_symbol texts (user_symbol_at s) ≡ texts) → IfSome o (λ n. HaveIds texts (s ∷ []))
+kept-alone texts s None e = tt
+kept-alone texts s (Some id) e = (e, tt)
 
 -- its octets, as those of a field and of an annotation
 pub name-octets-are : (texts : List (List ℕ)) (t : List ℕ) (o : Option ℕ) → o ≡ known_id texts t → IfSome o (λ n. name_octets n ≡ var_uint_octets (id_in texts (Known t)))

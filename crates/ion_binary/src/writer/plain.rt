@@ -21,7 +21,7 @@ use ion_meter::sink::Sink;
 use ion_value::decimal::Decimal;
 use ion_value::int::Int;
 use ion_value::ion_type::Kind;
-use ion_value::item::{Head, Sym, SymAt};
+use ion_value::item::{Head, SymAt};
 use ion_value::plain_item::TextAt;
 use std::alloc::Allocator;
 
@@ -214,10 +214,7 @@ impl<A: Allocator + Copy> BinWriter<A> {
         ensures { TakesPlain self.old self.new meter.old meter.new
             sink.old sink.new (as_item item.now) result }
     {
-        let Sym::Text(text) = at.sym else {
-            return false;
-        };
-        match self.symbols.known(text) {
+        match self.symbol_id(at.sym) {
             Some(id) => self.add_number(meter, sink, item, 7, u64::from(id)),
             None => self.add_fresh(meter, sink, *item),
         }

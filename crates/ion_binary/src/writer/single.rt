@@ -1,10 +1,10 @@
 //! Plain items with one annotation at most, and the ids of their texts.
 ghost use Rattle.std.specs.Prelude.{◌≡◌, ◌<◌, length, true, map, option_map, IfSome};
-ghost use Rattle.ion_value.specs.Items.{raw_head};
+ghost use Rattle.ion_value.specs.Items.{raw_head, symbol_of};
 ghost use Rattle.ion_value.specs.PlainItems.{listed, placed_text};
 ghost use Rattle.ion_value.specs.Writable.{field_symbols};
-ghost use Rattle.ion_value.specs.Value.{symbol, user_symbol_at};
-ghost use Rattle.ion_binary.specs.Canonical.{annotation_octets, field_octets, id_in};
+ghost use Rattle.ion_value.specs.Value.{symbol, user_symbol, user_symbol_at};
+ghost use Rattle.ion_binary.specs.Canonical.{annotation_octets, field_octets, id_in, with_symbol};
 ghost use Rattle.ion_binary.specs.Held.{counted_ids};
 ghost use Rattle.ion_binary.specs.ItemOctets.{head_name, user_head};
 ghost use Rattle.ion_binary.specs.Opening.{name_octets};
@@ -128,12 +128,23 @@ impl<A: Allocator + Copy> BinWriter<A> {
         ensures name { IfSome result (λ name. name
             ≡ head_name (id_in self.now.symbols.texts) (user_head head.entry)) }
     {
-        let Head::Symbol(at) = head else {
-            return Some(0);
-        };
-        let Sym::Text(text) = at.sym else {
-            return None;
-        };
-        self.symbols.known(text)
+        match head {
+            Head::Symbol(at) => self.symbol_id(at.sym),
+            _ => Some(0),
+        }
+    }
+
+    // The id of a symbol, where its text has one, and 0 of one without a text.
+    #[inline(always)]
+    pub(super) fn symbol_id(&self, sym: Sym<'_>) -> Option<u32>
+        ensures known { IfSome result (λ _. with_symbol self.now.symbols.texts
+            (user_symbol (symbol_of sym.entry)) ≡ self.now.symbols.texts) }
+        ensures id { IfSome result (λ id. id
+            ≡ id_in self.now.symbols.texts (user_symbol (symbol_of sym.entry))) }
+    {
+        match sym {
+            Sym::Text(text) => self.symbols.known(text),
+            Sym::Id(_) => Some(0),
+        }
     }
 }

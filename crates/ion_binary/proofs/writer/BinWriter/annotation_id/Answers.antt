@@ -7,7 +7,7 @@ use Rattle.ion_binary.specs.Canonical.{annotation_octets, id_in}
 use Rattle.ion_binary.specs.Held.{counted_ids}
 use Rattle.ion_binary.specs.Opening.{name_octets}
 use Rattle.ion_binary.specs.Plain.{HaveIds}
-use Rattle.ion_binary.proofs.PlainAdded.{name-kept, note-octets-are}
+use Rattle.ion_binary.proofs.PlainAdded.{kept-alone, name-kept, note-octets-are}
 use Rattle.ion_binary.proofs.writer.BinWriter.annotation_id.Goals as goal
 
 pub returns-in-Some-clause-known : goal.returns-in-Some-clause-known
@@ -15,7 +15,7 @@ returns-in-Some-clause-known g c =
     let texts : List (List ℕ) = c.args.self.now.symbols.texts in
     let at = c.in-Some.at in
     let P : Option TextAt → Type 0 = λ a. IfSome c.known.result (λ n. HaveIds texts (listed (option_map placed_text a))) in
-    subst P (sym c.in-Some.is) (name-kept texts at.text.now at.place c.known.result c.known.ensures)
+    subst P (sym c.in-Some.is) (kept-alone texts (placed_text at) c.known.result (name-kept texts at.text.now c.known.result c.known.ensures))
 
 pub returns-in-Some-clause-octets : goal.returns-in-Some-clause-octets
 returns-in-Some-clause-octets g c =

@@ -53,8 +53,8 @@ pub(crate) fn put_front<A: Allocator + Copy, N: Names>(
     ensures texts { OnOk result (symbols.new.texts
         ≡ with_symbols symbols.old.texts (item_symbols (user_item (item_of N.text item.now)))) }
     ensures adds { Adds buffer.old buffer.new }
-    ensures front { IfOk result (IsFront most (id_in symbols.new.texts) buffer.old.all buffer.new.all
-        (user_item (item_of N.text item.now))) }
+    ensures front { IfOk result (IsFront most (id_in symbols.new.texts)
+        buffer.old.all buffer.new.all (user_item (item_of N.text item.now))) }
 {
     let there = match put_field(symbols, buffer, meter, item.field(), most) {
         Ok(there) => there,
@@ -167,7 +167,8 @@ fn put_id<A: Allocator + Copy>(
     ensures puts { IfOk result (λ fits. PutsWithin most there fits buffer.old.all buffer.new.all
         (var_uint_octets id)) }
     ensures memory { IfErr result (λ fault. fault ≡ Memory) }
-    ensures charges { Charges meter.old meter.new (length buffer.old.all) (length buffer.new.all) most }
+    ensures charges { Charges meter.old meter.new
+        (length buffer.old.all) (length buffer.new.all) most }
     ensures causes { MemoryCauses (fault_of result) meter.old meter.new }
 {
     let octets = var_uint_write(id as u64);

@@ -66,7 +66,7 @@ impl Few {
         }
     }
 
-    /// An octet, and these behind it.
+    /// An octet, and these after it.
     #[inline(always)]
     pub fn behind(&self, octet: u8) -> Few
         requires { length self.now < 8 }

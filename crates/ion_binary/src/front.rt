@@ -34,7 +34,7 @@ pub(crate) struct Front {
 }
 
 /// Gives the symbols of an item with such a head their ids, and puts the field's and the
-/// annotations' behind the octets that are held, as long as these are at most so many.
+/// annotations' after the octets that are held, as long as these are at most so many.
 ///
 /// It answers `SymbolLimit` at the symbol with which the texts cost too much.
 pub(crate) fn put_front<A: Allocator + Copy, N: Names>(

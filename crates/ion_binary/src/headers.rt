@@ -13,7 +13,7 @@ use std::marker::Model;
 /// The cost of a header, in counted bytes: a container has two of them at most.
 const ENTRY_COST: u64 = 8;
 
-/// Where a header goes in, which is one of all that stands behind the place, and its type code.
+/// Where a header goes in, which is one of all that stands after the place, and its type code.
 #[derive(Clone, Copy, Drop)]
 pub(crate) struct HeaderPlace {
     pub place: u32,

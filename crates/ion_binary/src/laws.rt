@@ -81,7 +81,7 @@ pub fn no_stream_begins()
     ensures { NoStreamBegins }
 {}
 
-/// A reading stops at a limit only where the limit is passed, at the next value behind what it has
+/// A reading stops at a limit only where the limit is passed, at the next value after what it has
 /// read: at the header of a container where so many are open, at a scalar that announces a longer
 /// body, or at the annotation that passes it.
 pub fn limits_are_exact()
@@ -127,13 +127,13 @@ pub fn ids_are_given()
 {}
 
 /// The closed size of a path with an item is the length of its last value, all containers that are
-/// open behind the item being closed there, where the item may stand there and is no version
+/// open after the item being closed there, where the item may stand there and is no version
 /// marker.
 pub fn closed_size_is_that_of_the_closing()
     ensures { ClosedSizeIsThatOfTheClosing }
 {}
 
-/// An item is refused, behind the items of a path with which it makes another, as it is said over
+/// An item is refused, after the items of a path with which it makes another, as it is said over
 /// trees: at its first symbol with which the texts that have ids cost more than their limit, or else
 /// where its value at top level, closed there, is longer than the limit on values.
 pub fn items_are_refused_as_in_trees()
@@ -165,7 +165,7 @@ pub fn headers_are_shortest()
 {}
 
 /// The octets of the open value without the headers of its open containers, with the places where
-/// these go in and the texts that have ids, say what each item puts, what is held behind it, and
+/// these go in and the texts that have ids, say what each item puts, what is held after it, and
 /// the closed size.
 pub fn what_is_held_moves()
     ensures { WhatIsHeldMoves }
@@ -179,7 +179,7 @@ pub fn values_are_spelled()
 {}
 
 /// What is written of a declaration of one text or more, in UTF-8 and of fewer than 2^62 octets, is
-/// spelled as one, which leaves the table before it with the declared texts behind.
+/// spelled as one, which leaves the table before it with the declared texts after.
 pub fn written_declarations_are_read()
     ensures { WrittenDeclarationsAreRead }
 {}

@@ -41,7 +41,7 @@ const HEADERS_MOST: u64 = 1 << 20;
 /// The value at top level that is open: its octets without the headers of its open containers, and
 /// these headers.
 ///
-/// A header is of all that stands behind its place, so the outermost are the longest: it is enough
+/// A header is of all that stands after its place, so the outermost are the longest: it is enough
 /// to count how many of them have two octets or more, three or more, and so on.
 #[derive(Drop)]
 pub(crate) struct OpenValue<A: Allocator + Copy> {
@@ -228,7 +228,7 @@ impl<A: Allocator + Copy> OpenValue<A> {
         }
     }
 
-    /// Puts a scalar behind what comes first of its item, the ids of whose annotations begin at a
+    /// Puts a scalar after what comes first of its item, the ids of whose annotations begin at a
     /// place. It answers false where the value would be too long.
     pub fn whole(
         &mut self,
@@ -263,7 +263,7 @@ impl<A: Allocator + Copy> OpenValue<A> {
         Ok(true)
     }
 
-    /// Begins a container behind what comes first of its item, the ids of whose annotations begin at
+    /// Begins a container after what comes first of its item, the ids of whose annotations begin at
     /// a place. It answers false where the value would be too long.
     pub fn begin(
         &mut self,
@@ -358,7 +358,7 @@ impl<A: Allocator + Copy> OpenValue<A> {
         Ok(true)
     }
 
-    /// Puts what is left of an item behind what comes first of it. It answers false where the value
+    /// Puts what is left of an item after what comes first of it. It answers false where the value
     /// would be too long.
     pub fn take(
         &mut self,
@@ -432,7 +432,7 @@ impl<A: Allocator + Copy> OpenValue<A> {
         there + octets as u64 + (HEADERS_MOST + 6 * headers as u64) <= self.room
     }
 
-    /// Adds octets behind the others, where there is room for them and the value surely keeps within
+    /// Adds octets after the others, where there is room for them and the value surely keeps within
     /// its limit. Else it answers false, and nothing is changed.
     #[inline(always)]
     pub fn extend_if_room(
@@ -451,7 +451,7 @@ impl<A: Allocator + Copy> OpenValue<A> {
         self.octets.extend_if_room(meter, octets.front, octets.rest)
     }
 
-    /// Begins a container behind the id of its field, if any, as `begin_if_room` does.
+    /// Begins a container after the id of its field, if any, as `begin_if_room` does.
     #[inline(never)]
     pub fn begin_member(
         &mut self,
@@ -493,7 +493,7 @@ impl<A: Allocator + Copy> OpenValue<A> {
         self.begin_if_room(meter, *limits, front.as_slice(), kind)
     }
 
-    /// Begins a container behind octets that come first of its item, where there is room for all and
+    /// Begins a container after octets that come first of its item, where there is room for all and
     /// the value surely keeps within its limit. Else it answers false, and nothing is changed.
     #[inline(always)]
     pub fn begin_if_room(
@@ -649,7 +649,7 @@ fn insert_some<A: Allocator + Copy>(
     octets.insert(meter, place, more)
 }
 
-// Puts octets behind others, if there are any.
+// Puts octets after others, if there are any.
 #[inline(always)]
 fn extend_some<A: Allocator + Copy>(
     octets: &mut HeldOctets<A>,

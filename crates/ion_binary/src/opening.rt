@@ -7,7 +7,7 @@ use crate::header::header;
 use arrayvec::ArrayVec;
 use ion_value::var::var_uint_write;
 
-/// The most octets of a header and of what may stand behind it.
+/// The most octets of a header and of what may stand after it.
 pub(crate) const LONGEST: usize = 36;
 
 /// The type code of annotations.
@@ -25,7 +25,7 @@ pub(crate) fn opening(code: u8, inside: &[u8], more: u64) -> ArrayVec<u8, LONGES
     joined(header(code, inside.len() as u64 + more).as_slice(), inside)
 }
 
-/// Octets, and others behind them.
+/// Octets, and others after them.
 #[inline]
 pub(crate) fn joined(first: &[u8], second: &[u8]) -> ArrayVec<u8, LONGEST>
     requires { length first.now + length second.now ≤ LONGEST }

@@ -63,7 +63,7 @@ pub(crate) struct ShownNote {
 }
 
 /// The number that a VarUInt of one octet or two spells from a place of these octets on, and the place
-/// behind it.
+/// after it.
 #[inline(always)]
 pub(crate) fn shown_var(octets: &[u8], at: usize) -> Option<(u64, usize)>
     requires { at ≤ length octets.now }
@@ -84,7 +84,7 @@ pub(crate) fn shown_var(octets: &[u8], at: usize) -> Option<(u64, usize)>
     None
 }
 
-// The length that a length code says, and the place behind it.
+// The length that a length code says, and the place after it.
 #[inline(always)]
 fn shown_length(octets: &[u8], at: usize, length_code: u8) -> Option<(u64, usize)>
     requires within { at ≤ length octets.now }
@@ -144,7 +144,7 @@ fn shown_int(negative: bool, octets: &[u8]) -> Option<ShownScalar<'_>>
 }
 
 /// The value whose descriptor stands at a place of these octets, of which the first stands at `here` in the
-/// stream, and has this shape, and the place behind the value, or behind the header of a container.
+/// stream, and has this shape, and the place after the value, or after the header of a container.
 #[inline(always)]
 pub(crate) fn shown_value<'a>(
     shape: Shape,

@@ -66,7 +66,7 @@ impl Around {
         Ok(())
     }
 
-    // Whether a wrapper is around that ends behind this place.
+    // Whether a wrapper is around that ends after this place.
     #[inline]
     fn is_longer(self, here: u64) -> bool
         ensures { result ≡ (as_around self).wrapped && falls_short (as_around self).region here 0 }
@@ -110,7 +110,7 @@ fn next_marker<I: Input, A: Allocator + Copy>(
     Ok(())
 }
 
-// A NOP pad behind its descriptor octet.
+// A NOP pad after its descriptor octet.
 #[tactic(auto, unfolding(crate::specs::Reading::nop_pad_at))]
 fn next_nop_pad<I: Input, A: Allocator + Copy>(
     source: &mut Source<I, A>,
@@ -178,7 +178,7 @@ fn bare<I: Input, A: Allocator + Copy>(
     Ok(TypedValue::Scalar)
 }
 
-// The rest of a container's header behind its descriptor octet: the place of its end.
+// The rest of a container's header after its descriptor octet: the place of its end.
 #[inline]
 fn next_container<I: Input, A: Allocator + Copy>(
     source: &mut Source<I, A>,
@@ -336,7 +336,7 @@ fn read_by_descriptor<I: Input, A: Allocator + Copy>(
     }
 }
 
-/// What a descriptor octet begins, in a part that begins at a place, behind that octet.
+/// What a descriptor octet begins, in a part that begins at a place, after that octet.
 ///
 /// A scalar is put into `body`, and the bytes of a string or lob into `text`. Refuses, in this
 /// order, what a wrapper may not hold, lengths that do not end, a length above the region, a wrapped

@@ -1,4 +1,4 @@
-//! A value behind its field, with its annotations.
+//! A value after its field, with its annotations.
 ghost use Rattle.std.specs.Prelude.{◌≡◌, ◌≢◌, ◌+◌, ◌*◌, ◌-◌, ◌<◌, ◌≤◌, ℕ, List, [], length, Option, Some, None, Ok, Err, OnOk, IfSome};
 ghost use Rattle.ion_value.specs.Value.{SymbolAt};
 ghost use Rattle.ion_value.specs.Standing.{InRange};
@@ -83,7 +83,7 @@ fn next_inner<I: Input, A: Allocator + Copy>(
     }
 }
 
-// An annotation wrapper and its value, behind its descriptor octet.
+// An annotation wrapper and its value, after its descriptor octet.
 fn next_annotated<I: Input, A: Allocator + Copy>(
     source: &mut Source<I, A>,
     annotations: &mut Stack<Annotation, A>,
@@ -125,7 +125,7 @@ fn next_annotated<I: Input, A: Allocator + Copy>(
     next_inner(source, text, body, wrapper.end, depth, limits, meter)
 }
 
-/// A value behind its field: what it is, and the place of its first octet behind its annotations.
+/// A value after its field: what it is, and the place of its first octet after its annotations.
 ///
 /// Its annotations are put into `annotations`, a scalar into `body`, and the bytes of a string or
 /// lob into `text`.

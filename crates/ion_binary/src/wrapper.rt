@@ -89,7 +89,7 @@ fn passes_end(region: Option<u64>, here: u64, count: u64) -> bool
 }
 
 // Whether a wrapper of these lengths may not be: it has fewer than three octets, no annotation, or
-// no octet for a value. `behind` is the place behind the length of its annotations.
+// no octet for a value. `behind` is the place after the length of its annotations.
 #[inline]
 fn is_no_wrapper(count: u64, ids: u64, behind: u64, end: u64) -> bool
     requires { behind + ids < 2 ^ 64 }
@@ -98,7 +98,7 @@ fn is_no_wrapper(count: u64, ids: u64, behind: u64, end: u64) -> bool
     count < 3 || ids == 0 || end <= behind + ids
 }
 
-/// The lengths of an annotation wrapper behind its descriptor octet.
+/// The lengths of an annotation wrapper after its descriptor octet.
 ///
 /// All their octets come first, those of the annotations' length within what the wrapper's own length
 /// says. Then `Overrun` where that passes the region, and `BadAnnotation` where the wrapper has fewer

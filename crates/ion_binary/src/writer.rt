@@ -41,11 +41,11 @@ use std::alloc::Allocator;
 /// The version marker of Ion 1.0.
 const MARKER: [u8; 4] = [0xE0, 0x01, 0x00, 0xEA];
 
-/// Writes values in the canonical binary form: a version marker, and each value behind a declaration
+/// Writes values in the canonical binary form: a version marker, and each value after a declaration
 /// of those of its texts that are new.
 ///
 /// A value is put when it is whole. Where the texts cost more than half of the limit on symbol tables,
-/// the next value begins without them, behind another version marker.
+/// the next value begins without them, after another version marker.
 ///
 /// It holds the open value, 16 counted bytes for each open container, and the texts, each within
 /// its limit.
@@ -156,7 +156,7 @@ impl<A: Allocator + Copy> BinWriter<A> {
         }
     }
 
-    // Puts the value, behind what it needs.
+    // Puts the value, after what it needs.
     fn put_value<O: Output>(&self, sink: &mut Sink<O, A>) -> Result<(), Fault>
         requires sound { IsSound self.now }
         requires whole { self.now.open_value.headers ≡ [] }

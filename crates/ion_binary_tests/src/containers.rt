@@ -1,4 +1,4 @@
-//! Containers and NOP pads, each row behind a version marker.
+//! Containers and NOP pads, each row after a version marker.
 
 pub const LISTS: &str = "
 B0 C0 D0|4/4 begin list; 5/4 end; 5/5 begin sexp; 6/5 end; 6/6 begin struct; 7/6 end; end|

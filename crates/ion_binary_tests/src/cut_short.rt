@@ -42,7 +42,7 @@ pub fn expect_prefixes(rt: &impl Abort, alloc: Global, limits: Limits, octets: &
     }
 }
 
-// Asserts what each prefix of the rows of a table gives, behind some octets.
+// Asserts what each prefix of the rows of a table gives, after some octets.
 fn expect_prefixes_of(rt: &impl Abort, alloc: Global, front: &[u8], table: &str) {
     for row in table.split('\n') {
         if is_row(row) {

@@ -1,4 +1,4 @@
-//! Declarations of local symbols, each row behind a version marker.
+//! Declarations of local symbols, each row after a version marker.
 
 /// Two declarations, the second of which keeps the table of the first, and a symbol of each.
 pub const APPENDED: &str =

@@ -1,4 +1,4 @@
-//! Containers that end one behind the other round long bodies, and what comes behind them.
+//! Containers that end one after the other round long bodies, and what comes after them.
 
 use crate::hex::{MARKER, add, add_digits, octets};
 use crate::limits::LIMITS;
@@ -49,12 +49,12 @@ const TRUE: Step<'static> = (None, &[], Part::Bool(true));
 
 const NAMED_TRUE: Step<'static> = (None, NAME, Part::Bool(true));
 
-// The length of the first value, items, and the octets behind a version marker, among which the two
+// The length of the first value, items, and the octets after a version marker, among which the two
 // bodies stand by their names.
 type Row = (u64, &'static [Step<'static>], &'static str);
 
 const ROWS: &[Row] = &[
-    // The end of the value comes behind them.
+    // The end of the value comes after them.
     (
         5_012,
         &[LIST, LIST, LIST, TEXT, END, END, END],
@@ -93,7 +93,7 @@ const ROWS: &[Row] = &[
         &[NAMED, NAMED, TEXT, END, END, NAMED_TRUE, LIST, END],
         "EE 27 98 81 84 BE 27 93 EE 27 90 81 84 BE 27 8B 8E 27 88 LONG E3 81 84 11 B0",
     ),
-    // A member with a wrapper comes behind two that have one.
+    // A member with a wrapper comes after two that have one.
     (
         5_026,
         &[LIST, NAMED, NAMED, TEXT, END, END, NAMED_TRUE, END],
@@ -105,7 +105,7 @@ const ROWS: &[Row] = &[
         &[LIST, LIST, LIST, FEW, END, FEW, END, END, TRUE],
         "BE 2E FC BE 2E F9 BE 17 BB 8E 17 B8 SHORT 8E 17 B8 SHORT 11",
     ),
-    // Others come behind them.
+    // Others come after them.
     (
         13_030,
         &[
@@ -124,7 +124,7 @@ const ROWS: &[Row] = &[
         "BE 7D 9C BE 27 8B 8E 27 88 LONG B1 11 BE 27 8B 8E 27 88 LONG B0 BE 2E F9 BE 17 BB 8E 17 B8 SHORT \
          8E 17 B8 SHORT 11",
     ),
-    // Those with wrappers do, and a member comes behind each.
+    // Those with wrappers do, and a member comes after each.
     (
         15_054,
         &[

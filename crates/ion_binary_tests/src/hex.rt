@@ -8,7 +8,7 @@ use std::process::Abort;
 /// A version marker.
 pub const MARKER: &[u8] = b"\xE0\x01\x00\xEA";
 
-/// The octets of a text behind some others: two hexadecimal digits each, with spaces between them.
+/// The octets of a text after some others: two hexadecimal digits each, with spaces between them.
 pub fn octets(rt: &impl Abort, alloc: Global, front: &[u8], text: &str) -> Vec<u8> {
     let mut octets = Vec::new(alloc);
     add(rt, &mut octets, front);
@@ -16,7 +16,7 @@ pub fn octets(rt: &impl Abort, alloc: Global, front: &[u8], text: &str) -> Vec<u
     octets
 }
 
-/// The octets of a row's first field behind some others.
+/// The octets of a row's first field after some others.
 pub fn row_octets(rt: &impl Abort, alloc: Global, front: &[u8], row: &str) -> Vec<u8> {
     let mut fields = Fields::of(row);
     let text = fields.text();

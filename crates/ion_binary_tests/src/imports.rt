@@ -1,4 +1,4 @@
-//! Imports of shared tables, each row behind a version marker.
+//! Imports of shared tables, each row after a version marker.
 
 /// Imports, where there are no shared tables.
 pub const NOT_FOUND: &str = "

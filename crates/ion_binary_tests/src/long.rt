@@ -14,7 +14,7 @@ use std::process::Abort;
 
 const SIZES: [usize; 6] = [1, 1_000, 4_095, 4_096, 4_097, 100_000];
 
-// Octets, octets that are repeated behind them so many times, those at the end, and what is read.
+// Octets, octets that are repeated after them so many times, those at the end, and what is read.
 type Long = (&'static str, &'static [u8], u32, &'static str, &'static str);
 
 // Bodies of 10,001 octets, most of which are zeros at the front of a number.
@@ -68,7 +68,7 @@ const IGNORED: Long = (
     "200023/200023 symbol 'a'@200023; end",
 );
 
-// The octets behind a version marker.
+// The octets after a version marker.
 fn long_octets(rt: &impl Abort, alloc: Global, long: Long) -> Vec<u8> {
     let (front, again, times, behind, _) = long;
     let mut stream = octets(rt, alloc, MARKER, front);
@@ -141,7 +141,7 @@ fn blob_octets(rt: &impl Abort, alloc: Global) -> Vec<u8> {
     stream
 }
 
-// The octet behind this one of a blob: they go from 0 to 250 and begin anew.
+// The octet after this one of a blob: they go from 0 to 250 and begin anew.
 fn after(octet: u8) -> u8 {
     if octet < 250 { octet + 1 } else { 0 }
 }
@@ -232,7 +232,7 @@ const DENSE: [&str; 7] = [
 
 const ZEROS: [u8; 4_089] = [0; 4_089];
 
-// Asserts that a stream is read to these words behind a version marker and a NOP pad of these octets
+// Asserts that a stream is read to these words after a version marker and a NOP pad of these octets
 // that lie before it.
 fn expect_late(rt: &impl Abort, alloc: Global, zeros: &[u8], stream: &[u8], words: &str) {
     let mut late = octets(rt, alloc, MARKER, "0E");

@@ -16,7 +16,7 @@ const THREE: [Step<'static>; 5] = [
 
 /// A new text is that of a field or of a symbol value.
 pub const NEW_TEXTS: &[Row] = &[
-    // Each kind of scalar behind a new field.
+    // Each kind of scalar after a new field.
     (
         VALUE,
         SYMBOLS,
@@ -42,7 +42,7 @@ pub const NEW_TEXTS: &[Row] = &[
          00 00 00 00 8E 50 8F 52 C1 0F 90 63 C0 0F D7 91 71 04 92 83 61 62 63 93 8E 8E 30 31 \
          32 33 34 35 36 37 38 39 30 31 32 33 94 92 00 FF 95 A1 00",
     ),
-    // New symbols, behind fields that have ids or not, and a field that is its own symbol.
+    // New symbols, after fields that have ids or not, and a field that is its own symbol.
     (
         VALUE,
         SYMBOLS,

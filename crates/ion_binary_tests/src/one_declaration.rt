@@ -50,8 +50,8 @@ const APPENDED: &str = "E7 81 83 D4 87 B2 81 61 EE 8E 81 83 DB 87 B6 81 62 81 63
 // The text `a` is declared, then a table of one import that is not there.
 const IMPORTED: &str = "E7 81 83 D4 87 B2 81 61 EC 81 83 D9 86 B7 D6 84 81 78 88 21 01";
 
-// Reads a declaration, behind which its table is the present one. Its nth growth is refused, alone or
-// with all behind it; none where that is 0.
+// Reads a declaration, after which its table is the present one. Its nth growth is refused, alone or
+// with all after it; none where that is 0.
 fn declare<R: RawReader<A>, A: Allocator + Copy>(
     rt: &impl Abort,
     meter: &mut Meter<A>,
@@ -163,7 +163,7 @@ fn has_growth(
     is_met
 }
 
-// How many growths the second declaration has. Each is refused alone, and with all behind it.
+// How many growths the second declaration has. Each is refused alone, and with all after it.
 fn count_growths(rt: &impl Abort, alloc: Global, octets: &[u8]) -> u64 {
     let refusing = Refusing::new(alloc, 0);
     for nth in 1..1_000 {

@@ -32,7 +32,7 @@ pub struct Outcome {
     again: u32,
     // How often it was answered.
     ends: u32,
-    /// The words of each item, with "; " behind them.
+    /// The words of each item, with "; " after them.
     pub items: String,
     /// The place of each item's top-level value.
     pub tops: Vec<u64>,
@@ -114,7 +114,7 @@ impl Outcome {
         self.told(alloc).expect(rt, "memory")
     }
 
-    /// Asserts the words, behind those before.
+    /// Asserts the words, after those before.
     pub fn expect(&self, rt: &impl Abort, alloc: Global, before: &str, words: &str) {
         let told = self.words(rt, alloc);
         same(rt, told.as_str().strip_prefix(before), Some(words));

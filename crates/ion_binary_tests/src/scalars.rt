@@ -1,4 +1,4 @@
-//! Values without members, each row behind a version marker.
+//! Values without members, each row after a version marker.
 
 pub const NULLS_AND_BOOLS: &str = "
 0F 1F 2F 3F 4F 5F 6F|4/4 null.null; 5/5 null.bool; 6/6 null.int; 7/7 null.int; 8/8 null.float; 9/9 null.decimal; 10/10 null.timestamp; end|

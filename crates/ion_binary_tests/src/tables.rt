@@ -21,7 +21,7 @@ type Form = (&'static [u8], &'static str, Option<usize>);
 // Raw items of whole streams.
 const STREAMS: Form = (b"", "", None);
 
-// Raw items behind a version marker.
+// Raw items after a version marker.
 const ITEMS: Form = (MARKER, "0/0 marker; ", None);
 
 // User values without shared tables.
@@ -33,7 +33,7 @@ const FIRST: Form = (MARKER, "", Some(1));
 // User values where there is also version 3 of it, with r, s and t.
 const BOTH: Form = (MARKER, "", Some(2));
 
-/// The tables of raw items behind a version marker, under the usual limits: octets, and the words of
+/// The tables of raw items after a version marker, under the usual limits: octets, and the words of
 /// what is read of them.
 pub const RAW: [&str; 14] = [
     scalars::NULLS_AND_BOOLS,
@@ -52,7 +52,7 @@ pub const RAW: [&str; 14] = [
     wrappers::INSIDES,
 ];
 
-// All others. Behind the words may be limits.
+// All others. After the words may be limits.
 const OTHERS: [(Form, &[&str]); 5] = [
     (
         ITEMS,

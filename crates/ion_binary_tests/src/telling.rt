@@ -131,11 +131,11 @@ fn tell_head(words: &mut String, head: Head<'_>, from: u64) -> Result<(), AllocE
     }
 }
 
-/// Adds an item's words, with "; " behind them: its place and that of its top-level value, its
-/// field's id or text and place behind which is a colon, those of each annotation behind which are
+/// Adds an item's words, with "; " after them: its place and that of its top-level value, its
+/// field's id or text and place after which is a colon, those of each annotation after which are
 /// two, and its head.
 ///
-/// A number is told by its sign and digits, a decimal's exponent behind a `d`; octets in
+/// A number is told by its sign and digits, a decimal's exponent after a `d`; octets in
 /// hexadecimal. Places are told from this one, and those before it as 0.
 pub fn tell_item<N: Names>(
     words: &mut String,

@@ -1,4 +1,4 @@
-//! Annotation wrappers, each row behind a version marker.
+//! Annotation wrappers, each row after a version marker.
 
 pub const ANNOTATED: &str = "
 E4 81 84 21 05|7/4 4@6:: int 5; end|

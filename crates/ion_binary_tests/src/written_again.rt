@@ -298,7 +298,7 @@ const PLAIN: &str = "EE 8E 81 83 DB 86 71 03 87 B6 81 61 81 62 81 63 D6 8A E4 81
 
 const ITEMS: usize = 14;
 
-/// Asserts what a device gets that fails behind so many bytes, and how many items were put.
+/// Asserts what a device gets that fails after so many bytes, and how many items were put.
 fn expect_failing(rt: &impl Abort, alloc: Global, octets: &[u8], room: usize, items: usize) {
     let mut meter = Meter::new(alloc);
     let catalog = Catalog::new(&meter);

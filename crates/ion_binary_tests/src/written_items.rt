@@ -560,7 +560,7 @@ const ANEW: &[Row] = &[
         "E0 01 00 EA EA 81 83 D7 86 71 03 87 B2 81 61 71 0A E0 01 00 EA EA 81 83 D7 86 71 03 \
          87 B2 81 62 71 0A",
     ),
-    // A value without symbols may come behind the marker too, and none stands behind the last
+    // A value without symbols may come after the marker too, and none stands after the last
     // value.
     (
         VALUE,

@@ -1,4 +1,4 @@
-//! Rows of octets and of what is written of what they spell, all behind a version marker.
+//! Rows of octets and of what is written of what they spell, all after a version marker.
 
 /// Symbols. Of the shared table x there is version 1, with p and q.
 pub const SYMBOLS: &str = "

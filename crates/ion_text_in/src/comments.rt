@@ -6,7 +6,7 @@ ghost use Rattle.ion_text_in.specs.Feeding.{LeadsTo, PassesBlanks};
 use crate::blank::{run_without, white_run};
 use crate::slice::behind;
 
-/// Behind blanks; nothing where the bytes show no end of them.
+/// After blanks; nothing where the bytes show no end of them.
 #[inline(always)]
 pub(crate) fn behind_blanks(bytes: &[u8]) -> &[u8]
     ensures { 0 < length result.now → PassesBlanks bytes.now result.now }
@@ -44,7 +44,7 @@ fn behind_comments(bytes: &[u8]) -> &[u8]
     }
 }
 
-// Behind the comment that begins here; nothing where none does, or the bytes show no end of it.
+// After the comment that begins here; nothing where none does, or the bytes show no end of it.
 #[inline(always)]
 fn behind_comment(bytes: &[u8]) -> &[u8]
     ensures leads { 0 < length result.now
@@ -68,7 +68,7 @@ fn behind_comment(bytes: &[u8]) -> &[u8]
     &[]
 }
 
-// Behind the star and the slash that end a block; nothing where the bytes show none.
+// After the star and the slash that end a block; nothing where the bytes show none.
 #[inline(always)]
 fn behind_block(bytes: &[u8]) -> &[u8]
     ensures { 0 < length result.now → (start : ℕ)

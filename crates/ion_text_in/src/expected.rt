@@ -13,7 +13,7 @@ use ion_value::ion_type::Kind;
 /// What must come next.
 #[derive(Clone, Copy)]
 pub(crate) enum Expected {
-    /// A value, behind its field's name and annotations.
+    /// A value, after its field's name and annotations.
     Value,
     /// A field's name, or the end of the struct.
     Field,
@@ -93,7 +93,7 @@ pub(crate) fn behind_comma(kind: Option<Kind>) -> Expected
     }
 }
 
-// What comes behind a member of the innermost container, if any.
+// What comes after a member of the innermost container, if any.
 #[inline]
 pub(crate) fn behind_member(kind: Option<Kind>) -> Expected
     ensures is { wanted result None [] ≡ reading.behind_member kind }

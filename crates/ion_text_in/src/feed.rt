@@ -20,8 +20,9 @@ use crate::quick::scan_quick;
 use crate::scanned::Scanned;
 use crate::slice::{behind, front};
 use crate::word::{Word, scan_simple};
-use any::rare;
+use any::{any_number, rare};
 use close::close;
+use copies::{bounds_for_call, spot_for_call, start_for_call};
 use forward::forward;
 use heads::{
     begin_head, decimal_head, int_head, keyword_head, spelled_quick, string_head, symbol_head,
@@ -62,7 +63,17 @@ fn number<'a, W: ValueWriter<O, A>, O: Output, A: Allocator + Copy>(
         (lane kinds.new at.new writer.new sink.new meter.new) }
 {
     let Some(quick) = scan_quick(bounds.limits.scalar, start.next.rest) else {
-        return rare(at, start, bounds, kinds, meter, writer, sink);
+        let turned = any_number(
+            spot_for_call(*at),
+            start_for_call(start),
+            bounds_for_call(bounds),
+            kinds,
+            meter,
+            writer,
+            sink,
+        );
+        *at = spot_for_call(turned.spot);
+        return turned.more;
     };
     let text = front(quick.count, start.next.rest);
     let rest = behind(quick.count, start.next.rest);
@@ -86,7 +97,7 @@ fn number<'a, W: ValueWriter<O, A>, O: Output, A: Allocator + Copy>(
     }
 }
 
-// Hands on a word: a null, a bool, or a symbol, behind which a token is told that is no two colons.
+// Hands on a word: a null, a bool, or a symbol, after which a token is told that is no two colons.
 #[inline(always)]
 fn word<'a, W: ValueWriter<O, A>, O: Output, A: Allocator + Copy>(
     at: &mut Spot<'a>,
@@ -125,7 +136,7 @@ fn word<'a, W: ValueWriter<O, A>, O: Output, A: Allocator + Copy>(
     }
 }
 
-// Hands on the value behind the annotation of so many bytes that stands here.
+// Hands on the value after the annotation of so many bytes that stands here.
 #[inline(always)]
 fn note<'a, W: ValueWriter<O, A>, O: Output, A: Allocator + Copy>(
     at: &mut Spot<'a>,
@@ -205,7 +216,7 @@ fn begin<'a, W: ValueWriter<O, A>, O: Output, A: Allocator + Copy>(
     forward(at, start, found, bounds, kinds, meter, writer, sink)
 }
 
-// Hands on the value that begins here, or the container's beginning, behind its field's name. Each kind has a
+// Hands on the value that begins here, or the container's beginning, after its field's name. Each kind has a
 // function of its own, since a function pays at its entry for what it finds on the way.
 // It is put in line where it is called, which is once; the mark `always` would be dropped, since so
 // much is put in line in it.
@@ -239,7 +250,7 @@ fn value<'a, W: ValueWriter<O, A>, O: Output, A: Allocator + Copy>(
     }
 }
 
-// Hands on one item, behind the comma that must come before it, and says whether it did.
+// Hands on one item, after the comma that must come before it, and says whether it did.
 #[inline(always)]
 fn turn<'a, W: ValueWriter<O, A>, O: Output, A: Allocator + Copy>(
     at: &mut Spot<'a>,

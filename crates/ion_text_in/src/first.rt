@@ -51,7 +51,7 @@ pub(crate) enum First {
     Nothing,
 }
 
-/// What comes behind blanks.
+/// What comes after blanks.
 #[derive(Clone, Copy)]
 pub(crate) struct Ahead {
     /// The token that begins there, or none at the input's end.
@@ -154,7 +154,7 @@ static FIRST_BYTES: [u8; 256] = [
     0, 0, 0, 0, 0, 0, 0, 0, 0, 0, 0, 0, 0, 0, 0, 0, 0, 0, 0, 0, 0, 0, 0, 0, 0, 0, 0, 0, 0, 0, 0, 0,
 ];
 
-/// Passes over blanks, and tells what comes behind them.
+/// Passes over blanks, and tells what comes after them.
 ///
 /// No byte is waited for but those that tell it, and they stand in the window then.
 pub(crate) fn next_ahead<I: Input, A: Allocator + Copy>(
@@ -186,7 +186,7 @@ pub(crate) fn next_ahead<I: Input, A: Allocator + Copy>(
     }
 }
 
-// What begins at the front of a slice where the input ends behind it, or none where there is no
+// What begins at the front of a slice where the input ends after it, or none where there is no
 // byte. A byte that goes on with no token changes nothing.
 #[cold]
 fn ended_first(in_sexp: bool, bytes: &[u8]) -> Option<First>
@@ -210,7 +210,7 @@ fn ended_first(in_sexp: bool, bytes: &[u8]) -> Option<First>
     scan_first(in_sexp, &padded)
 }
 
-// The byte at an index, or 0 behind the last.
+// The byte at an index, or 0 after the last.
 fn byte_at(bytes: &[u8], index: usize) -> u8
     ensures { result ≡ slice_index bytes.now index }
 {
@@ -237,7 +237,7 @@ fn sign(in_sexp: bool, sign: u8, others: &[u8]) -> Option<First>
     }
 }
 
-// Whether `inf` stands behind a sign, and no identifier goes on behind it.
+// Whether `inf` stands after a sign, and no identifier goes on after it.
 #[inline(always)]
 fn is_infinity(others: &[u8]) -> Option<bool>
     ensures shows { IfSome result (λ is. (more : List ℕ) → is_inf (others.now ++ more) ≡ is) }

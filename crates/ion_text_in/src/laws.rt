@@ -179,7 +179,7 @@ pub fn what_begins_a_token()
     ensures one { OneBegins }
 {}
 
-/// A step from behind blanks is the step from before them.
+/// A step from after blanks is the step from before them.
 pub fn blanks_change_no_step()
     ensures { BlanksChangeNoStep }
 {}

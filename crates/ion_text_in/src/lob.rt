@@ -56,7 +56,7 @@ pub(crate) fn next_lob<I: Input, A: Allocator + Copy>(
     next_opened(source, text, place, limits, meter)
 }
 
-// The text of a lob that begins at a place, from behind its opening braces and white space, and what
+// The text of a lob that begins at a place, from after its opening braces and white space, and what
 // closes the lob.
 fn next_opened<I: Input, A: Allocator + Copy>(
     source: &mut Source<I, A>,
@@ -121,7 +121,7 @@ const BLOCK: usize = 2048;
 // made.
 const LINE: usize = 256;
 
-// The bytes of a blob behind its opening braces and white space, read up to and with the closing
+// The bytes of a blob after its opening braces and white space, read up to and with the closing
 // braces of a lob that begins at a place.
 fn next_blob<I: Input, A: Allocator + Copy>(
     source: &mut Source<I, A>,
@@ -149,7 +149,7 @@ fn next_blob<I: Input, A: Allocator + Copy>(
 }
 
 // Takes groups of the window in blocks, as far as they stand without white space between them and
-// are well formed, and none behind a padded one; true where the last of them is padded.
+// are well formed, and none after a padded one; true where the last of them is padded.
 fn take_blocks<I: Input, A: Allocator + Copy>(
     source: &mut Source<I, A>,
     text: &mut Buf<A>,
@@ -270,7 +270,7 @@ fn take_group<I: Input, A: Allocator + Copy>(
     Ok(Some(n < 3))
 }
 
-// Passes over the braces behind fewer than four characters, which may be none alone.
+// Passes over the braces after fewer than four characters, which may be none alone.
 fn end_groups<I: Input, A: Allocator + Copy>(
     source: &mut Source<I, A>,
     count: usize,

@@ -16,7 +16,7 @@ use crate::quoted::Quote;
 pub(crate) enum Meant {
     Char(char),
     Byte(u8),
-    /// Nothing, as an end of a line behind a backslash does.
+    /// Nothing, as an end of a line after a backslash does.
     Nothing,
 }
 
@@ -43,7 +43,7 @@ enum HexDigits {
 }
 
 /// The closing quote of a text that is not long, or an escape that no CR ends, which stand most often
-/// behind plain bytes. `Cut` for any other piece, and where the bytes end before.
+/// after plain bytes. `Cut` for any other piece, and where the bytes end before.
 #[inline(always)]
 pub(crate) fn quick_piece(quote: Quote, bytes: &[u8]) -> Piece
     ensures shows { ShowsPiece (quote_of quote) bytes.now result }
@@ -128,7 +128,7 @@ fn line_end_length(byte: u8, behind: &[u8]) -> usize
     }
 }
 
-// What stands behind a backslash.
+// What stands after a backslash.
 #[inline]
 fn escape(in_clob: bool, bytes: &[u8]) -> Piece
     ensures { piece_of result ≡ quoted.escape in_clob bytes.now }
@@ -148,7 +148,7 @@ fn escape(in_clob: bool, bytes: &[u8]) -> Piece
     }
 }
 
-// Which byte each letter behind a backslash means, where it means one.
+// Which byte each letter after a backslash means, where it means one.
 static LETTERS: [u8; 256] = [
     1, 1, 1, 1, 1, 1, 1, 1, 1, 1, 1, 1, 1, 1, 1, 1, 1, 1, 1, 1, 1, 1, 1, 1, 1, 1, 1, 1, 1, 1, 1, 1,
     1, 1, 34, 1, 1, 1, 1, 39, 1, 1, 1, 1, 1, 1, 1, 47, 0, 1, 1, 1, 1, 1, 1, 1, 1, 1, 1, 1, 1, 1, 1,
@@ -164,7 +164,7 @@ static LETTERS: [u8; 256] = [
 // What stands there for the others, since no letter means it.
 const NO_LETTER: u8 = 1;
 
-// A character by its code, behind the letter that says how many digits this has: two of a byte in a
+// A character by its code, after the letter that says how many digits this has: two of a byte in a
 // clob, and else of a character, four of this or of one of a pair of surrogates, or eight.
 #[inline]
 fn coded(in_clob: bool, letter: u8, digits: &[u8]) -> Piece
@@ -187,7 +187,7 @@ fn coded(in_clob: bool, letter: u8, digits: &[u8]) -> Piece
     }
 }
 
-// What stands behind the escape of a high surrogate: that of a low one.
+// What stands after the escape of a high surrogate: that of a low one.
 fn low_behind(high: u32, bytes: &[u8]) -> Piece
     requires { (0xD800 ≤ high) × (high ≤ 0xDBFF) }
     ensures { piece_of result ≡ quoted.low_behind high bytes.now }

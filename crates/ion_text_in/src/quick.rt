@@ -35,7 +35,7 @@ pub(crate) struct Quick {
 /// The int or decimal at the front of these bytes, where it has no more than the limit.
 ///
 /// There is an answer where it is a minus or none and at most 38 digits, or at most 19 with a point
-/// among them, which may have a `d` and a small exponent behind them, and where punctuation, a quote
+/// among them, which may have a `d` and a small exponent after them, and where punctuation, a quote
 /// or white space ends it within the bytes. There is none where it is `-0`.
 #[inline(always)]
 pub(crate) fn scan_quick(limit: u64, bytes: &[u8]) -> Option<Quick>
@@ -54,7 +54,7 @@ pub(crate) fn scan_quick(limit: u64, bytes: &[u8]) -> Option<Quick>
     Some(Quick { count, ..quick })
 }
 
-// Whether there is a minus in front, and what stands behind it.
+// Whether there is a minus in front, and what stands after it.
 #[inline(always)]
 fn sign(bytes: &[u8]) -> (bool, &[u8])
     ensures { signed_text result.0 result.1.now ≡ bytes.now }
@@ -87,7 +87,7 @@ fn quick_digits(negative: bool, digits: &[u8]) -> Option<Quick>
     quick_mantissa(negative, count, digits)
 }
 
-// The decimal of so many digits, with a point or an exponent behind them. It stands apart so that
+// The decimal of so many digits, with a point or an exponent after them. It stands apart so that
 // the answers of its calls have no place in memory where a number is an int.
 #[inline(always)]
 fn quick_mantissa(negative: bool, count: usize, digits: &[u8]) -> Option<Quick>
@@ -116,7 +116,7 @@ pub(crate) fn signed_int(negative: bool, magnitude: u128) -> Int
     }
 }
 
-// Whether a zero stands before another digit or an underscore, or alone behind a minus.
+// Whether a zero stands before another digit or an underscore, or alone after a minus.
 #[inline(always)]
 fn begins_zeros(negative: bool, digits: &[u8]) -> bool
     ensures { result ≡ (first_is (λ b. b == 48) digits.now
@@ -139,7 +139,7 @@ const NARROW: usize = 19;
 // The greatest magnitude of an exponent.
 const GREATEST: u64 = 128;
 
-// The decimal of so many digits with a point behind them.
+// The decimal of so many digits with a point after them.
 #[inline(never)]
 fn quick_decimal(negative: bool, count: usize, digits: &[u8]) -> Option<Quick>
     requires whole { AreWhole digits.now count }
@@ -169,7 +169,7 @@ fn quick_decimal(negative: bool, count: usize, digits: &[u8]) -> Option<Quick>
     None
 }
 
-// The decimal of so many digits with a `d` behind them.
+// The decimal of so many digits with a `d` after them.
 #[inline(never)]
 fn quick_whole(negative: bool, count: usize, digits: &[u8]) -> Option<Quick>
     requires whole { AreWhole digits.now count }
@@ -180,8 +180,8 @@ fn quick_whole(negative: bool, count: usize, digits: &[u8]) -> Option<Quick>
     quick_power(negative, number_by(&digits[..count]), 0, count, digits)
 }
 
-// The decimal of a coefficient, of which so many digits stand behind a point, that ends at a place
-// with a `d` and an exponent behind it.
+// The decimal of a coefficient, of which so many digits stand after a point, that ends at a place
+// with a `d` and an exponent after it.
 #[inline(never)]
 fn quick_power(
     negative: bool,
@@ -213,7 +213,7 @@ fn quick_power(
     })
 }
 
-// The exponent of this sign and magnitude, less so many digits behind a point.
+// The exponent of this sign and magnitude, less so many digits after a point.
 #[inline(always)]
 fn exponent_of(below: bool, magnitude: u64, places: usize) -> i32
     requires small { magnitude ≤ 128 }
@@ -254,7 +254,7 @@ fn number_by(digits: &[u8]) -> u128
     front as u128 * 10_u128.pow(rest.len() as u32) + number_after(0, rest) as u128
 }
 
-// The number that these digits spell behind another: read by fours, and then those that are left.
+// The number that these digits spell after another: read by fours, and then those that are left.
 #[inline(always)]
 fn number_after(start: u64, digits: &[u8]) -> u64
     requires digits { all_are is_digit digits.now ≡ true }

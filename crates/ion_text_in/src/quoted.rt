@@ -133,7 +133,7 @@ pub(crate) fn plain_length(quote: Quote, bytes: &[u8]) -> usize
 // Which of these bytes may stand for something else than themselves: a bit for each, the lowest for
 // the first. Those are the mark, a backslash, bytes below the space and, in a clob, bytes that are no
 // ASCII; of those below the space a few stand for themselves all the same. Counted round from the
-// space, bytes that are no ASCII come behind those that are, and those below the space last, so that
+// space, bytes that are no ASCII come after those that are, and those below the space last, so that
 // one comparison tells both.
 #[inline(always)]
 fn suspects(mark: u8, in_clob: bool, bytes: u8x32) -> u64

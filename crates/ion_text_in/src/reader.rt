@@ -85,7 +85,7 @@ pub struct TextReader<I: Input, A: Allocator + Copy> {
     what: ItemKind,
     place: u64,
     top: u64,
-    // Where a comment behind the item that is lent begins that does not end.
+    // Where a comment after the item that is lent begins that does not end.
     unfinished: Option<u64>,
     limits: Limits,
     done: bool,
@@ -185,7 +185,7 @@ impl<I: Input, A: Allocator + Copy> TextReader<I, A> {
         }
     }
 
-    // Lends a scalar or a version marker whose head begins at a place, behind what was read of it.
+    // Lends a scalar or a version marker whose head begins at a place, after what was read of it.
     #[inline(always)]
     fn give(&mut self, what: ItemKind, place: u64, unfinished: Option<u64>) -> StepResult
         ensures { (m : Counts) → CanStep self.old m → self.old.expected ≡ Expected.Value
@@ -394,8 +394,8 @@ impl<I: Input, A: Allocator + Copy> TextReader<I, A> {
         }
     }
 
-    // Closes the innermost open container, where it is of this kind: behind a field's name and
-    // behind annotations a value has to come.
+    // Closes the innermost open container, where it is of this kind: after a field's name and
+    // after annotations a value has to come.
     fn close(&mut self, kind: Kind, place: u64, meter: &mut Meter<A>) -> Result<StepResult, Fault>
         requires { CanStep self.old meter.old }
         ensures { StepsTo I.Input None (taking self.old place (tokens.end kind)) 0

@@ -32,7 +32,7 @@ pub(crate) struct Extent {
     pub(crate) ended: bool,
 }
 
-/// How far a token goes on in a slice that begins behind the first byte of the token.
+/// How far a token goes on in a slice that begins after the first byte of the token.
 #[inline(always)]
 pub(crate) fn run_extent(run: Run, bytes: &[u8]) -> Extent
     ensures { IsExtent run bytes.now result }
@@ -99,7 +99,7 @@ fn word_stops(bytes: u8x16) -> u64
     (no_letter & no_digit & no_mark).to_bitmask()
 }
 
-// How far a number or a timestamp goes on in a slice that begins behind its first byte. Most are
+// How far a number or a timestamp goes on in a slice that begins after its first byte. Most are
 // so short that 32 bytes, looked at together, show where they end; others, and those with bytes
 // that may end them or not, are looked at byte by byte.
 #[inline(always)]

@@ -1,7 +1,7 @@
 //! Parts of slices.
 ghost use Rattle.std.specs.Prelude.{◌≡◌, ◌≤◌, length, take, drop};
 
-/// What stands behind so many bytes.
+/// What stands after so many bytes.
 #[inline(always)]
 pub(crate) fn behind(count: usize, bytes: &[u8]) -> &[u8]
     requires { count ≤ length bytes.now }

@@ -25,7 +25,7 @@ use ion_meter::meter::Meter;
 use ion_meter::source::Source;
 use std::alloc::Allocator;
 
-/// Reads a text that is not long from behind its opening quote into `text`.
+/// Reads a text that is not long from after its opening quote into `text`.
 ///
 /// Faults stand at `place`: `Truncated`, `ScalarLimit`, and `BadText` or `BadLob`.
 #[inline(always)]
@@ -59,10 +59,10 @@ pub(crate) fn next_short_text<I: Input, A: Allocator + Copy>(
     }
 }
 
-/// Reads a long text from behind its three opening quotes into `text`, and passes over the blanks
-/// behind it, to see whether a segment follows: in a clob over white space alone.
+/// Reads a long text from after its three opening quotes into `text`, and passes over the blanks
+/// after it, to see whether a segment follows: in a clob over white space alone.
 ///
-/// `Some` is the place where a comment behind the text begins that does not end. Faults stand at
+/// `Some` is the place where a comment after the text begins that does not end. Faults stand at
 /// `place`: `Truncated`, `ScalarLimit`, and `BadText` or `BadLob`.
 pub(crate) fn next_long_text<I: Input, A: Allocator + Copy>(
     source: &mut Source<I, A>,
@@ -136,8 +136,8 @@ pub(crate) fn pass_quotes<I: Input, A: Allocator + Copy>(
     Ok(true)
 }
 
-/// Reads a segment from behind its opening quotes to behind the closing ones, and puts the bytes
-/// that it spells behind those that stand in `text`.
+/// Reads a segment from after its opening quotes to after the closing ones, and puts the bytes
+/// that it spells after those that stand in `text`.
 ///
 /// Answers faults at `place`: `Truncated` where the input ends before the segment does,
 /// `ScalarLimit` before `text` grows above `Limits::scalar`, `BadText`, or `BadLob` in a clob, for
@@ -241,7 +241,7 @@ pub(crate) fn put<A: Allocator + Copy>(
     text.extend(meter, bytes)
 }
 
-// Puts what a piece means behind a text.
+// Puts what a piece means after a text.
 #[inline]
 fn put_meant<A: Allocator + Copy>(
     text: &mut Buf<A>,

@@ -70,7 +70,7 @@ pub(crate) enum Token {
     Plain(Body),
     /// A symbol, and whether it stands in quotes.
     Symbol(Symbol, bool),
-    /// A string. Behind a long one blanks were passed over: `Some` is the place where a comment
+    /// A string. After a long one blanks were passed over: `Some` is the place where a comment
     /// begins among them that does not end.
     String(Option<u64>),
     Operator,
@@ -193,7 +193,7 @@ fn number_token(number: Number) -> Token
     }
 }
 
-// Puts the text of an annotation behind those before it.
+// Puts the text of an annotation after those before it.
 #[inline]
 pub(crate) fn keep_text<A: Allocator + Copy>(
     texts: &mut Buf<A>,

@@ -13,12 +13,12 @@ use crate::word::{Word, scan_word};
 use ion_value::ion_type::Kind;
 
 /// What the front of some bytes shows of the next item, where it shows a whole token of it and what
-/// has to be seen behind that.
+/// has to be seen after that.
 #[derive(Clone, Copy)]
 pub(crate) enum Part<'a> {
     /// The rest of it.
     Item,
-    /// A comma, a field's name or an annotation, behind which it goes on with these bytes.
+    /// A comma, a field's name or an annotation, after which it goes on with these bytes.
     Passed(&'a [u8]),
 }
 
@@ -26,7 +26,7 @@ pub(crate) enum Part<'a> {
 /// is taken without a byte more.
 ///
 /// False may be wrong. It is answered of what may be a version marker or a declaration of a symbol
-/// table, since what stands behind them is read in the same call.
+/// table, since what stands after them is read in the same call.
 pub(crate) fn shows_item(inside: Option<Kind>, bytes: &[u8]) -> bool {
     let mut rest = bytes;
     'parts: loop {
@@ -38,7 +38,7 @@ pub(crate) fn shows_item(inside: Option<Kind>, bytes: &[u8]) -> bool {
     }
 }
 
-// What the next token is, with what has to be seen behind it.
+// What the next token is, with what has to be seen after it.
 fn next_part(inside: Option<Kind>, bytes: &[u8]) -> Option<Part<'_>>
     ensures { IfSome result (PassesSome bytes.now) }
 {
@@ -96,7 +96,7 @@ fn may_be_declaration(bytes: &[u8]) -> bool
     }
 }
 
-// What stands behind a symbol or a text: with a colon behind it, it is a field's name or an
+// What stands after a symbol or a text: with a colon after it, it is a field's name or an
 // annotation.
 fn behind_name(in_sexp: bool, bytes: &[u8]) -> Option<Part<'_>>
     ensures { IfSome result (PassesSome bytes.now) }
@@ -107,7 +107,7 @@ fn behind_name(in_sexp: bool, bytes: &[u8]) -> Option<Part<'_>>
     }
 }
 
-// Which token begins behind blanks, and the bytes from there on.
+// Which token begins after blanks, and the bytes from there on.
 fn first_behind(in_sexp: bool, bytes: &[u8]) -> Option<(First, &[u8])>
     ensures wide { IfSome result (λ found. width (first_of found.0) ≤ length found.1.now) }
     ensures within { IfSome result (λ found. length found.1.now ≤ length bytes.now) }
@@ -117,7 +117,7 @@ fn first_behind(in_sexp: bool, bytes: &[u8]) -> Option<(First, &[u8])>
     Some((first, rest))
 }
 
-// What stands behind the quotes that close a text.
+// What stands after the quotes that close a text.
 fn behind_text(quote: Quote, bytes: &[u8]) -> Option<&[u8]>
     ensures { IfSome result (λ rest. length rest.now < length bytes.now) }
 {
@@ -133,7 +133,7 @@ fn behind_text(quote: Quote, bytes: &[u8]) -> Option<&[u8]>
     }
 }
 
-// A blob or a clob in short quotes, from behind its opening braces.
+// A blob or a clob in short quotes, from after its opening braces.
 fn lob_part(bytes: &[u8]) -> Option<Part<'_>>
     ensures { IfSome result (PassesSome bytes.now) }
 {

@@ -44,7 +44,7 @@ pub(crate) enum Word {
 /// What a slice shows of the word that begins at the front of it.
 ///
 /// Its bytes are those at the front of the slice. Answers `ScalarLimit` where it has more than the
-/// limit, and then `BadToken` where no type's name stands behind `null.`.
+/// limit, and then `BadToken` where no type's name stands after `null.`.
 #[inline(never)]
 pub(crate) fn scan_word(limit: u64, bytes: &[u8]) -> Scanned<Word>
     ensures shows { Shows (word_token_of (shown_text bytes.now result)) bytes.now result
@@ -110,7 +110,7 @@ pub(crate) fn is_zero_id(limit: u64, bytes: &[u8]) -> bool
     }
 }
 
-// How many bytes stand at the front of a slice that are a word without a type behind it, where the
+// How many bytes stand at the front of a slice that are a word without a type after it, where the
 // slice shows them, they are no more than the limit, and begin as a symbol does, but for `$`.
 #[inline(always)]
 fn begun_word(limit: u64, bytes: &[u8]) -> Option<usize>
@@ -152,7 +152,7 @@ fn typed_null(limit: u64, bytes: &[u8]) -> Scanned<Word>
 /// The word that begins here: the bytes of a symbol are copied to `text`.
 ///
 /// Answers `ScalarLimit` where it has more bytes than the limit, and then `BadToken` where no type's
-/// name stands behind `null.`, each at the place of its first byte.
+/// name stands after `null.`, each at the place of its first byte.
 #[inline(always)]
 pub(crate) fn next_word<I: Input, A: Allocator + Copy>(
     source: &mut Source<I, A>,
@@ -289,7 +289,7 @@ fn word_extent(bytes: &[u8]) -> Option<usize>
     Some(count + 1 + name.len)
 }
 
-// Whether the name of a type belongs to a word, with these bytes behind it.
+// Whether the name of a type belongs to a word, with these bytes after it.
 #[inline(always)]
 fn has_type(word: &[u8], behind: &[u8]) -> bool
     ensures { result ≡ (bytes_eq (codes "null") word.now && first_is (λ b. b == 46) behind.now) }

@@ -38,7 +38,7 @@ pub fn before(kinds: &[Kind], empty: bool) -> &'static [u8]
     }
 }
 
-/// What stands behind a value: at top level, the end of its line.
+/// What stands after a value: at top level, the end of its line.
 #[inline]
 pub fn behind(kinds: &[Kind]) -> &'static [u8]
     ensures { (empty : Bool) → result.now ≡ behind_value (shown kinds.now empty) }
@@ -59,7 +59,7 @@ pub fn closing(kinds: &[Kind]) -> &'static [u8]
     }
 }
 
-/// What stands behind that bracket.
+/// What stands after that bracket.
 #[inline]
 pub fn behind_end(kinds: &[Kind]) -> &'static [u8]
     ensures { (empty : Bool) → result.now ≡ behind_end (shown kinds.now empty) }

@@ -84,7 +84,7 @@ fn shown_run(quote: u8, top: u16, bytes: &[u8]) -> usize
 }
 
 // Which of these bytes do not stand for themselves: a bit for each, the lowest for the first. Counted
-// round from the space, those from `top` on come behind those below it, and those below the space
+// round from the space, those from `top` on come after those below it, and those below the space
 // last, so that one comparison tells both.
 #[inline(always)]
 fn hidden(quote: u8, top: u16, bytes: u8x16) -> u64

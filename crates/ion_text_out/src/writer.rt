@@ -87,7 +87,7 @@ impl<A: Allocator + Copy> TextWriter<A> {
         kinds.release(meter);
     }
 
-    // Puts an item and moves to behind it.
+    // Puts an item and moves to after it.
     #[inline(always)]
     fn take<O: Output, N: Names>(
         &mut self,
@@ -116,7 +116,7 @@ impl<A: Allocator + Copy> TextWriter<A> {
         self.settle(meter, &head)
     }
 
-    // Moves to behind a head.
+    // Moves to after a head.
     #[inline(always)]
     fn settle(&mut self, meter: &mut Meter<A>, head: &Head<'_>) -> Result<(), Fault>
         requires can_step { CanStep self.old meter.old }

@@ -105,7 +105,7 @@ fn may_stand<N: Names>(depth: u32, kinds: &[Kind], item: &Item<'_, N>) -> bool
     }
 }
 
-/// Which containers are open behind a head.
+/// Which containers are open after a head.
 fn go_on(rt: &impl Abort, kinds: &mut Vec<Kind>, head: &Head<'_>)
     ensures { kinds.new.items ≡ open_after kinds.old.items (raw_head head.now) }
 {

@@ -7,7 +7,7 @@ use ion_meter::stream::FromRead;
 use std::io::Read;
 use std::marker::Model;
 
-/// A file behind its run, with how often a read of it failed.
+/// A file after its run, with how often a read of it failed.
 ///
 /// Only a device makes one, so that no call sets the count.
 #[derive(Drop)]

@@ -154,7 +154,7 @@ fn with_limits<'a>(
         .arg(limit_arg(alloc, "value", most, value, !writes_binary))
 }
 
-/// A subcommand with its texts, and the options that each has behind its own.
+/// A subcommand with its texts, and the options that each has after its own.
 fn action_command<'a>(
     alloc: Global,
     command: Command<'a>,

@@ -22,7 +22,7 @@ use ion_value::reader::RawReader;
 use ion_value::writer::ValueWriter;
 use std::alloc::Allocator;
 
-// How many containers are open behind an item.
+// How many containers are open after an item.
 #[inline]
 fn level_behind(level: u32, head: &Head<'_>) -> u32
     requires { level ≤ 65535 }
@@ -76,7 +76,7 @@ fn flush_ended<R: RawReader<A>, O: Output, A: Allocator + Copy>(
 
 /// Puts each item of the user values that are read, and counts the values at top level.
 ///
-/// Behind each item that is read and put one at a time, the reader hands on what lies whole in its
+/// After each item that is read and put one at a time, the reader hands on what lies whole in its
 /// window. Where the reader may have to wait for its device, what was put is written first, if a
 /// value at top level has ended since it was written last.
 pub fn copy_items<R: RawReader<A>, W: ValueWriter<O, A>, O: Output, A: Allocator + Copy>(

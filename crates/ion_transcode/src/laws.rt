@@ -114,7 +114,7 @@ pub fn faultless_paths_are_read()
 }
 
 /// What is written of a stream that is refused is that of the user values of a path that the
-/// stream's bytes spell, behind which the first fault stands: text with its brackets open, or the
+/// stream's bytes spell, after which the first fault stands: text with its brackets open, or the
 /// whole values in binary.
 pub fn refused_output_is_that_of_a_path()
     ensures { RefusedOutputIsThatOfAPath }

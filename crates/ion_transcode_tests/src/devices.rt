@@ -21,11 +21,11 @@ use std::process::Abort;
 pub struct Giving<'a> {
     /// The bytes that it has not given.
     pub left: &'a [u8],
-    /// The bytes that it gives behind these.
+    /// The bytes that it gives after these.
     pub again: &'a [u8],
     /// How often it gives them.
     pub times: u32,
-    /// The bytes that it gives behind all of these.
+    /// The bytes that it gives after all of these.
     pub last: &'a [u8],
     /// The most that it gives a read.
     pub most: usize,
@@ -78,7 +78,7 @@ impl<'a> Giving<'a> {
 }
 
 /// A reader that gives a piece a read, and fails where not just so many bytes were written before it
-/// as stand beside the piece. It ends behind them.
+/// as stand beside the piece. It ends after them.
 #[derive(Drop)]
 pub struct Waiting<'a> {
     /// The pieces that it has not given.

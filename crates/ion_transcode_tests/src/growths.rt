@@ -1,4 +1,4 @@
-//! Runs of which each growth is refused in turn: alone, and with all behind it.
+//! Runs of which each growth is refused in turn: alone, and with all after it.
 ghost use Rattle.std.specs.Prelude.{◌≤◌};
 ghost use Rattle.ion_symbols.specs.Table.{catalog_cost};
 
@@ -101,7 +101,7 @@ fn expect(
     assert!(rt; refused > 0 || output.len() == case.output.len());
 }
 
-/// Whether a run meets its nth growth, which is refused: alone, or with all behind it.
+/// Whether a run meets its nth growth, which is refused: alone, or with all after it.
 fn is_refused(
     rt: &impl Abort,
     alloc: Global,
@@ -259,7 +259,7 @@ fn a_long_value(rt: HostRuntime) -> Result<(), Fail> {
 }
 
 /// Whether the loading of a catalogue meets its nth growth, which is refused: alone, or with all
-/// behind it.
+/// after it.
 fn is_load_refused(
     rt: &impl Abort,
     refusing: &Refusing<&LocalHeap>,

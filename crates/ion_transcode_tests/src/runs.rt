@@ -386,7 +386,7 @@ fn expect_live(
     same_at(rt, "in pieces", shown, 0, given, (want, shown.as_bytes()));
 }
 
-/// Blanks that fill a window behind one byte.
+/// Blanks that fill a window after one byte.
 const BLANKS: [u8; 4_095] = [b' '; 4_095];
 
 /// Pieces of a text, each with how many bytes are written before it is read; how many values there are;
@@ -403,7 +403,7 @@ const LIVE_TEXTS: &[(&[(&[u8], usize)], u64, &str)] = &[
         4,
         "1\n2\n\"a\"\n[2]\n",
     ),
-    // Behind a symbol two colons may come.
+    // After a symbol two colons may come.
     (
         &[(b"1 a", 0), (b"::", 2), (b"b ", 2), (b"4 ", 2), (b"", 9)],
         3,
@@ -470,7 +470,7 @@ const LIVE_TEXTS: &[(&[(&[u8], usize)], u64, &str)] = &[
         3,
         "1\n2\n3\n",
     ),
-    // A declaration is no value, and is read with the value behind it.
+    // A declaration is no value, and is read with the value after it.
     (
         &[
             (b"1 $ion_symbol_table::{symbols:[", 0),
@@ -522,7 +522,7 @@ const LIVE_OCTETS: &[(&[(&[u8], usize)], u64, &str)] = &[
         3,
         "true\n{name:5}\nname::5\n",
     ),
-    // A declaration, which is read with the value behind it.
+    // A declaration, which is read with the value after it.
     (
         &[
             (b"\xE0\x01\x00\xEA\x11\xE7\x81\x83\xD4", 0),

@@ -9,7 +9,7 @@ use ion_test_support::fields::{Fields, is_row};
 use std::alloc::Global;
 use std::process::Abort;
 
-/// How the rows of a table are run, and which fields they have. Behind them may be limits.
+/// How the rows of a table are run, and which fields they have. After them may be limits.
 #[derive(Clone, Copy)]
 pub enum Kind {
     /// Texts, their verdicts, and what is shown of them.

@@ -64,7 +64,7 @@ const TARGETS: [To; 3] = [To::Text, To::Nothing, To::Binary];
 /// Checksums are FNV-1a of 64 bits.
 const SEED: u64 = 0xCBF2_9CE4_8422_2325;
 
-/// The checksum of some bytes behind those of this one.
+/// The checksum of some bytes after those of this one.
 fn put(sum: u64, bytes: &[u8]) -> u64 {
     let mut sum = sum;
     for byte in bytes {
@@ -306,7 +306,7 @@ fn expect_sentence(rt: &impl Abort, alloc: Global, beside: Beside<'_>, sentence:
     assert!(rt; is_met);
 }
 
-/// Asserts what comes of the inputs of a table. A sentence has `~` before it, and its inputs are the rows behind it.
+/// Asserts what comes of the inputs of a table. A sentence has `~` before it, and its inputs are the rows after it.
 fn expect_rows(rt: &impl Abort, alloc: Global, beside: Beside<'_>, table: &str) {
     for part in table.split('~') {
         match part.split_once('\n') {

@@ -15,7 +15,7 @@ use ion_value::var::var_uint_write;
 use std::alloc::Allocator;
 
 impl<A: Allocator + Copy> OpenValue<A> {
-    /// Adds a scalar behind the ids of its field and of its annotation, each 0 where there is none, as
+    /// Adds a scalar after the ids of its field and of its annotation, each 0 where there is none, as
     /// `extend_if_room` adds octets.
     #[inline(never)]
     pub fn put_octets(
@@ -37,7 +37,7 @@ impl<A: Allocator + Copy> OpenValue<A> {
         self.put_behind(meter, limits, name, notes.as_slice(), scalar)
     }
 
-    /// Adds a scalar behind the id of its field, 0 where there is none, and the octets of the ids of
+    /// Adds a scalar after the id of its field, 0 where there is none, and the octets of the ids of
     /// its annotations, as `extend_if_room` adds octets.
     #[inline(always)]
     pub fn put_behind(

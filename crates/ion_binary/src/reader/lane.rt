@@ -199,7 +199,7 @@ pub(super) fn values_behind(values: u64, frames: &[Frame]) -> u64
 }
 
 impl<I: Input, A: Allocator + Copy> BinReader<I, A> {
-    // Hands items on, behind so many values at top level, as long as `hand` can: how many values ended.
+    // Hands items on, after so many values at top level, as long as `hand` can: how many values ended.
     #[inline(always)]
     pub(super) fn hand_all<N: Names, W: ValueWriter<O, A>, O: Output, const OTHERS: bool>(
         &mut self,
@@ -432,7 +432,7 @@ impl<I: Input, A: Allocator + Copy> BinReader<I, A> {
         }
     }
 
-    // What is shown behind a front of a head of this shape, and how many octets the item has.
+    // What is shown after a front of a head of this shape, and how many octets the item has.
     #[inline(always)]
     fn shown_behind(
         &self,

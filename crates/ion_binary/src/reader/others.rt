@@ -15,7 +15,7 @@ use ion_value::writer::ValueWriter;
 use std::alloc::Allocator;
 
 impl<I: Input, A: Allocator + Copy> BinReader<I, A> {
-    // Hands on items that the loop over most leaves, behind so many values at top level: one that has an
+    // Hands on items that the loop over most leaves, after so many values at top level: one that has an
     // annotation, or else those whose names are not known to be written as they stand. It answers how many
     // values ended.
     #[inline(always)]

@@ -61,7 +61,7 @@ impl<A: Allocator + Copy> BinWriter<A> {
         }
     }
 
-    // Puts it, behind the ids of its field and of its annotation.
+    // Puts it, after the ids of its field and of its annotation.
     #[inline(always)]
     fn put_fresh(
         &mut self,
@@ -158,7 +158,7 @@ impl<A: Allocator + Copy> BinWriter<A> {
         }
     }
 
-    // The text of a symbol value, behind the id of its field.
+    // The text of a symbol value, after the id of its field.
     fn fresh_symbol<'n>(&self, item: &SingleItem<'n, 'n>, name: u32) -> Option<Fresh<'n>>
         requires known { HaveIds self.now.symbols.texts
             (field_symbols (option_map placed_text item.now.field)) }

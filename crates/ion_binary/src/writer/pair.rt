@@ -17,7 +17,7 @@ use ion_value::var::var_uint_write;
 use std::alloc::Allocator;
 
 impl<A: Allocator + Copy> BinWriter<A> {
-    // Adds a scalar behind a second annotation of this text, where a container is open, all texts have
+    // Adds a scalar after a second annotation of this text, where a container is open, all texts have
     // ids, and there is room. Else it answers false.
     #[inline(never)]
     pub(super) fn add_pair(

@@ -1,9 +1,10 @@
-//! Values of any kind in a lane, behind two annotations at most.
-ghost use Rattle.ion_text_in.specs.Feeding.{lane, CanFeed, IsStart, Turns};
+//! Values of any kind in a lane, after two annotations at most.
+ghost use Rattle.ion_text_in.specs.Feeding.{lane, BeginsAs, CanFeed, IsStart, Turns};
+ghost use Rattle.ion_text_in.specs.Token.{a_run};
 
 use super::copies::{bounds_for_call, spot_for_call, start_for_call};
-use super::forward::forward_any;
-use super::heads::scan_head;
+use super::forward::{forward, forward_any};
+use super::heads::{run_head, scan_head};
 use super::noted::with_second;
 use super::spot::{Bounds, Spot, Start};
 use ion_meter::device::Output;
@@ -14,14 +15,14 @@ use ion_value::ion_type::Kind;
 use ion_value::writer::ValueWriter;
 use std::alloc::Allocator;
 
-/// Where the lane stands behind a turn, and whether it goes on.
+/// Where the lane stands after a turn, and whether it goes on.
 #[derive(Clone, Copy)]
 pub(super) struct Turned<'a> {
     pub(super) spot: Spot<'a>,
     pub(super) more: bool,
 }
 
-/// Hands on the value that begins here, whatever it is, behind its field's name and its annotation.
+/// Hands on the value that begins here, whatever it is, after its field's name and its annotation.
 /// A second annotation may stand here first.
 #[inline(never)]
 pub(super) fn any_value<'a, W: ValueWriter<O, A>, O: Output, A: Allocator + Copy>(
@@ -47,6 +48,34 @@ pub(super) fn any_value<'a, W: ValueWriter<O, A>, O: Output, A: Allocator + Copy
     };
     let mut at = spot;
     let more = forward_any(&mut at, further, found, bounds, kinds, meter, writer, sink);
+    Turned { spot: at, more }
+}
+
+/// Hands on the number or timestamp that begins here, after its field's name.
+#[inline(never)]
+pub(super) fn any_number<'a, W: ValueWriter<O, A>, O: Output, A: Allocator + Copy>(
+    spot: Spot<'a>,
+    start: Start<'a>,
+    bounds: Bounds,
+    kinds: &mut Stack<Kind, A>,
+    meter: &mut Meter<A>,
+    writer: &mut W,
+    sink: &mut Sink<O, A>,
+) -> Turned<'a>
+    requires can { CanFeed W.ValueWriter bounds
+        (lane kinds.old spot writer.old sink.old meter.old) }
+    requires start { IsStart bounds spot start }
+    requires begins { BeginsAs a_run start.next.rest.now }
+    ensures { Turns W.ValueWriter bounds result.more
+        (lane kinds.old spot.entry writer.old sink.old meter.old)
+        (lane kinds.new result.spot writer.new sink.new meter.new) }
+{
+    let place = bounds.end - start.next.rest.len() as u64;
+    let Some(found) = run_head(bounds.limits, place, start.next.rest) else {
+        return Turned { spot, more: false };
+    };
+    let mut at = spot;
+    let more = forward(&mut at, start, found, bounds, kinds, meter, writer, sink);
     Turned { spot: at, more }
 }
 

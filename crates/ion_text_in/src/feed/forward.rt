@@ -73,7 +73,7 @@ fn close_begun<A: Allocator + Copy>(
     }
 }
 
-// Behind an item: at the first member of the container that it begins, or behind its value.
+// After an item: at the first member of the container that it begins, or after its value.
 #[inline(always)]
 fn pass_item<'a>(
     at: &mut Spot<'a>,

@@ -111,9 +111,9 @@ fn head_of<'a>(number: Number) -> Head<'a>
     }
 }
 
-// Any number or timestamp.
+/// Any number or timestamp.
 #[inline(never)]
-fn run_head<'a>(limits: Limits, place: u64, bytes: &'a [u8]) -> Option<Found<'a>>
+pub(super) fn run_head<'a>(limits: Limits, place: u64, bytes: &'a [u8]) -> Option<Found<'a>>
     requires { BeginsAs a_run bytes.now }
     ensures { IfSome result (IsFound limits place bytes.now) }
 {
@@ -151,7 +151,7 @@ pub(super) fn string_head<'a>(limits: Limits, place: u64, bytes: &'a [u8]) -> Op
     Some(found_as(Head::String(string.text), string.rest))
 }
 
-// A word: a null, a bool, or a symbol behind which no two colons come.
+// A word: a null, a bool, or a symbol after which no two colons come.
 #[inline(always)]
 fn word_head<'a>(limits: Limits, place: u64, bytes: &'a [u8]) -> Option<Found<'a>>
     requires { BeginsAs a_word bytes.now }
@@ -186,7 +186,7 @@ pub(super) fn keyword_head<'a>(
     }
 }
 
-/// A symbol that has so many bytes, where a token is told behind it that is no two colons.
+/// A symbol that has so many bytes, where a token is told after it that is no two colons.
 #[inline(always)]
 pub(super) fn symbol_head<'a>(
     limits: Limits,
@@ -214,7 +214,7 @@ pub(super) fn symbol_head<'a>(
     })
 }
 
-/// A symbol in quotes of plain bytes alone, where a token is told behind it that is no two colons.
+/// A symbol in quotes of plain bytes alone, where a token is told after it that is no two colons.
 #[inline(never)]
 pub(super) fn quoted_head<'a>(limits: Limits, place: u64, bytes: &'a [u8]) -> Option<Found<'a>>
     requires { BeginsAs a_quoted bytes.now }

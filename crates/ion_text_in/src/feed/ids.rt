@@ -37,7 +37,7 @@ struct IdText<'a> {
 const NEAR: usize = 64;
 
 /// Whether a dollar sign stands near the front of these bytes: it tells with no call that most members
-/// have no id, and one that stands further behind is left to `next`.
+/// have no id, and one that stands further on is left to `next`.
 #[inline(always)]
 pub(super) fn is_dollar_near(bytes: &[u8]) -> bool {
     let near = &bytes[..bytes.len().min(NEAR)];
@@ -69,7 +69,7 @@ pub(super) fn id_turns<'a, N: Names, W: ValueWriter<O, A>, O: Output, A: Allocat
     }
 }
 
-// Hands on one, behind the comma that must come before it, and says whether it did.
+// Hands on one, after the comma that must come before it, and says whether it did.
 #[inline(always)]
 fn id_turn<'a, N: Names, W: ValueWriter<O, A>, O: Output, A: Allocator + Copy>(
     at: &mut Spot<'a>,
@@ -100,7 +100,7 @@ fn id_turn<'a, N: Names, W: ValueWriter<O, A>, O: Output, A: Allocator + Copy>(
     forward_any(at, further, found, bounds, kinds, meter, writer, sink)
 }
 
-// What the value begins with that may begin here, behind the name of its field where one must come: an id,
+// What the value begins with that may begin here, after the name of its field where one must come: an id,
 // or a simple word.
 #[inline(always)]
 fn id_start<'a, N: Names>(
@@ -205,7 +205,7 @@ fn id_found<'a, N: Names>(
     None
 }
 
-// A symbol that is an id, where a token is told behind it that is no two colons.
+// A symbol that is an id, where a token is told after it that is no two colons.
 #[inline(always)]
 fn id_head<'a, N: Names>(
     bytes: &'a [u8],

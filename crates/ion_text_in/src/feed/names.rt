@@ -15,7 +15,7 @@ use ion_value::ion_type::Kind;
 use ion_value::plain_item::TextAt;
 use ion_value::quoting::BARE;
 
-/// What the value begins with that may begin here, behind the name of its field where one must come, which
+/// What the value begins with that may begin here, after the name of its field where one must come, which
 /// stands without quotes.
 #[inline(always)]
 pub(super) fn to_start<'a>(spot: Spot<'a>, next: Next<'a>, bounds: Bounds) -> Option<Start<'a>>
@@ -33,7 +33,7 @@ pub(super) fn to_start<'a>(spot: Spot<'a>, next: Next<'a>, bounds: Bounds) -> Op
     }
 }
 
-// What the value begins with behind the name that must come, and that begins at a place: none behind a
+// What the value begins with after the name that must come, and that begins at a place: none after a
 // name between quotes, so that of those here it is known, and asked of none, that they are simple.
 #[inline(always)]
 fn field_start<'a>(next: Next<'a>, limits: Limits, place: u64) -> Option<Start<'a>>
@@ -79,7 +79,7 @@ fn text_start<'a>(quote: Quote, limits: Limits, place: u64, bytes: &'a [u8]) -> 
     behind_name(quoted_text(name.text, place), name.rest)
 }
 
-/// What the value begins with behind a name, where a colon stands behind that.
+/// What the value begins with after a name, where a colon stands after that.
 #[inline(always)]
 pub(super) fn behind_name<'a>(name: TextAt<'a>, bytes: &'a [u8]) -> Option<Start<'a>>
     ensures { IfSome result (IsBehindName name.entry bytes.now) }
@@ -98,7 +98,7 @@ pub(super) fn behind_name<'a>(name: TextAt<'a>, bytes: &'a [u8]) -> Option<Start
     })
 }
 
-// At the colon behind blanks, where it stands there.
+// At the colon after blanks, where it stands there.
 #[inline(always)]
 fn to_colon(bytes: &[u8]) -> Option<&[u8]>
     ensures { IfSome result (λ rest. ToColon bytes.now rest.now) }

@@ -88,7 +88,7 @@ fn behind_note<'a>(
     })
 }
 
-// What a value begins with behind two colons, where these stand here.
+// What a value begins with after two colons, where these stand here.
 #[inline(always)]
 fn behind_colons(colons: &[u8]) -> Option<Next<'_>>
     ensures { IfSome result (IsBehindColons colons.now) }

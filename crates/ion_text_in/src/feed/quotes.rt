@@ -18,7 +18,7 @@ use ion_value::ion_type::Kind;
 use ion_value::writer::ValueWriter;
 use std::alloc::Allocator;
 
-/// Hands on one member whose name stands between quotes, behind the comma that must come before it, and says
+/// Hands on one member whose name stands between quotes, after the comma that must come before it, and says
 /// whether it did.
 #[inline(never)]
 pub(super) fn quoted_turn<'a, W: ValueWriter<O, A>, O: Output, A: Allocator + Copy>(
@@ -42,7 +42,7 @@ pub(super) fn quoted_turn<'a, W: ValueWriter<O, A>, O: Output, A: Allocator + Co
     }
 }
 
-// What the value begins with behind the name between quotes that stands here, where a name must come.
+// What the value begins with after the name between quotes that stands here, where a name must come.
 #[inline(always)]
 fn to_quoted<'a>(spot: Spot<'a>, next: Next<'a>, bounds: Bounds) -> Option<Start<'a>>
     requires next { IsNext spot.rest.now next }
@@ -58,7 +58,7 @@ fn to_quoted<'a>(spot: Spot<'a>, next: Next<'a>, bounds: Bounds) -> Option<Start
     }
 }
 
-/// Hands on the symbol in quotes that stands here, or the value behind it where it is an annotation,
+/// Hands on the symbol in quotes that stands here, or the value after it where it is an annotation,
 /// by a call, over a copy of where the lane stands.
 #[inline(always)]
 pub(super) fn quoted_value<'a, W: ValueWriter<O, A>, O: Output, A: Allocator + Copy>(

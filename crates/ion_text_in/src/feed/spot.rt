@@ -44,7 +44,7 @@ pub(crate) struct Bounds {
     pub(crate) end: u64,
 }
 
-/// What the next token is behind blanks.
+/// What the next token is after blanks.
 #[derive(Clone, Copy)]
 pub(crate) struct Next<'a> {
     /// The number of its kind, where its first byte or two tell it; 0 where that is not known.
@@ -53,7 +53,7 @@ pub(crate) struct Next<'a> {
     pub(super) rest: &'a [u8],
 }
 
-/// Where a value begins, behind the name of its field.
+/// Where a value begins, after the name of its field.
 #[derive(Clone, Copy)]
 pub(crate) struct Start<'a> {
     /// The name.
@@ -64,10 +64,10 @@ pub(crate) struct Start<'a> {
     pub(super) next: Next<'a>,
 }
 
-/// Where a value begins behind its annotations. The second is none in the frequent loop.
+/// Where a value begins after its annotations. The second is none in the frequent loop.
 #[derive(Clone, Copy)]
 pub(crate) struct Further<'a> {
-    /// The beginning behind both.
+    /// The beginning after both.
     pub(super) start: Start<'a>,
     /// The second annotation, if there are two.
     pub(super) second: Option<TextAt<'a>>,
@@ -80,7 +80,7 @@ pub(crate) struct Found<'a> {
     pub(super) head: Head<'a>,
     /// Its canonical text, where that is known.
     pub(super) spelled: Option<&'a [u8]>,
-    /// The bytes behind it.
+    /// The bytes after it.
     pub(super) rest: &'a [u8],
 }
 
@@ -90,7 +90,7 @@ pub(super) const WORD: u64 = 1;
 // The number of a comma.
 const COMMA: u64 = 4;
 
-/// What the next token is behind blanks.
+/// What the next token is after blanks.
 #[inline(always)]
 pub(super) fn next_told(bytes: &[u8]) -> Next<'_>
     ensures { IsNext bytes.now result }
@@ -106,7 +106,7 @@ pub(super) fn next_told(bytes: &[u8]) -> Next<'_>
     }
 }
 
-/// Passes over the comma that must come; what the next token is behind it, and behind blanks.
+/// Passes over the comma that must come; what the next token is after it, and after blanks.
 #[inline(always)]
 pub(super) fn to_member<'a>(at: &mut Spot<'a>) -> Next<'a>
     ensures comma { PassesComma at.old at.new }
@@ -122,7 +122,7 @@ pub(super) fn to_member<'a>(at: &mut Spot<'a>) -> Next<'a>
     behind_separator(at, next.rest)
 }
 
-// Passes over the comma that stands here, and looks behind it.
+// Passes over the comma that stands here, and looks after it.
 #[inline(always)]
 fn behind_separator<'a>(at: &mut Spot<'a>, rest: &'a [u8]) -> Next<'a>
     requires separator { at.old.separator ≡ true }
@@ -138,7 +138,7 @@ fn behind_separator<'a>(at: &mut Spot<'a>, rest: &'a [u8]) -> Next<'a>
     next_told(at.rest)
 }
 
-/// The place of the next token behind blanks. It is counted from the spot on, whose place is at hand.
+/// The place of the next token after blanks. It is counted from the spot on, whose place is at hand.
 #[inline(always)]
 pub(super) fn place_behind(bounds: Bounds, spot: Spot<'_>, next: Next<'_>) -> u64
     requires next { IsNext spot.rest.now next }
@@ -202,7 +202,7 @@ pub(super) fn top_at(top: u64, inner: Option<Kind>, note: Option<TextAt<'_>>, pl
     }
 }
 
-/// Behind a value: where no container is open, one more has ended. It is told by a jump, since
+/// After a value: where no container is open, one more has ended. It is told by a jump, since
 /// that is rare.
 #[inline(always)]
 pub(super) fn pass_value<'a>(at: &mut Spot<'a>, rest: &'a [u8], top: u64, inner: Option<Kind>)

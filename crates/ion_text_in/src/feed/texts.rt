@@ -10,7 +10,7 @@ use crate::slice::{behind, front};
 use ion_value::plain_item::TextAt;
 use ion_value::quoting::{Quoting, code_of};
 
-/// A text, and the bytes behind its closing quote.
+/// A text, and the bytes after its closing quote.
 #[derive(Clone, Copy)]
 pub(crate) struct Between<'a> {
     pub(super) text: &'a [u8],

@@ -2,7 +2,7 @@
 
 use super::Row;
 
-/// Blanks, and what stands behind them.
+/// Blanks, and what stands after them.
 pub const BLANKS: &[Row] = &[
     (4096, b"", "over"),
     (4096, b"x", "0/0 symbol 'x'@0; over"),

@@ -146,7 +146,7 @@ pub const TEXTS: &[Row] = &[
     ),
 ];
 
-/// What stands behind a fault in some of them.
+/// What stands after a fault in some of them.
 pub const BEHIND: &[Row] = &[
     (
         1048576,

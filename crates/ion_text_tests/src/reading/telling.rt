@@ -116,9 +116,9 @@ fn tell_head(words: &mut String, head: Head<'_>) -> Result<(), AllocError> {
 }
 
 /// Adds an item's words: its place and that of its top-level value, its field's id or text and place
-/// behind which is a colon, those of each annotation behind which are two, and its head.
+/// after which is a colon, those of each annotation after which are two, and its head.
 ///
-/// A number is told by its sign and digits, a decimal's exponent behind a `d`; octets in
+/// A number is told by its sign and digits, a decimal's exponent after a `d`; octets in
 /// hexadecimal.
 pub fn tell_item(words: &mut String, item: &Item<'_, NoNames>) -> Result<(), AllocError> {
     let place = item.place();

@@ -20,9 +20,8 @@ use crate::quick::scan_quick;
 use crate::scanned::Scanned;
 use crate::slice::{behind, front};
 use crate::word::{Word, scan_simple};
-use any::{any_number, rare};
+use any::{rare, rare_number};
 use close::close;
-use copies::{bounds_for_call, spot_for_call, start_for_call};
 use forward::forward;
 use heads::{
     begin_head, decimal_head, int_head, keyword_head, spelled_quick, string_head, symbol_head,
@@ -63,17 +62,7 @@ fn number<'a, W: ValueWriter<O, A>, O: Output, A: Allocator + Copy>(
         (lane kinds.new at.new writer.new sink.new meter.new) }
 {
     let Some(quick) = scan_quick(bounds.limits.scalar, start.next.rest) else {
-        let turned = any_number(
-            spot_for_call(*at),
-            start_for_call(start),
-            bounds_for_call(bounds),
-            kinds,
-            meter,
-            writer,
-            sink,
-        );
-        *at = spot_for_call(turned.spot);
-        return turned.more;
+        return rare_number(at, start, bounds, kinds, meter, writer, sink);
     };
     let text = front(quick.count, start.next.rest);
     let rest = behind(quick.count, start.next.rest);

@@ -51,9 +51,9 @@ pub(super) fn any_value<'a, W: ValueWriter<O, A>, O: Output, A: Allocator + Copy
     Turned { spot: at, more }
 }
 
-/// Hands on the number or timestamp that begins here, after its field's name.
+// Hands on the number or timestamp that begins here, after its field's name.
 #[inline(never)]
-pub(super) fn any_number<'a, W: ValueWriter<O, A>, O: Output, A: Allocator + Copy>(
+fn any_number<'a, W: ValueWriter<O, A>, O: Output, A: Allocator + Copy>(
     spot: Spot<'a>,
     start: Start<'a>,
     bounds: Bounds,
@@ -98,6 +98,38 @@ pub(super) fn rare<'a, W: ValueWriter<O, A>, O: Output, A: Allocator + Copy>(
         (lane kinds.new at.new writer.new sink.new meter.new) }
 {
     let turned = any_value(
+        spot_for_call(*at),
+        start_for_call(start),
+        bounds_for_call(bounds),
+        kinds,
+        meter,
+        writer,
+        sink,
+    );
+    *at = spot_for_call(turned.spot);
+    turned.more
+}
+
+/// Hands on a number that is no short int or decimal, as `rare` does a value of a rare kind.
+#[inline(always)]
+pub(super) fn rare_number<'a, W: ValueWriter<O, A>, O: Output, A: Allocator + Copy>(
+    at: &mut Spot<'a>,
+    start: Start<'a>,
+    bounds: Bounds,
+    kinds: &mut Stack<Kind, A>,
+    meter: &mut Meter<A>,
+    writer: &mut W,
+    sink: &mut Sink<O, A>,
+) -> bool
+    requires can { CanFeed W.ValueWriter bounds
+        (lane kinds.old at.old writer.old sink.old meter.old) }
+    requires start { IsStart bounds at.old start }
+    requires begins { BeginsAs a_run start.next.rest.now }
+    ensures { Turns W.ValueWriter bounds result
+        (lane kinds.old at.old writer.old sink.old meter.old)
+        (lane kinds.new at.new writer.new sink.new meter.new) }
+{
+    let turned = any_number(
         spot_for_call(*at),
         start_for_call(start),
         bounds_for_call(bounds),

@@ -5,3 +5,4 @@ pub mod Narrow
 pub mod Reading
 pub mod Search
 pub mod ShortestRows
+pub mod TextRows

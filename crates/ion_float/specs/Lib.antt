@@ -1,3 +1,4 @@
 pub mod Float
 pub mod Octets
 pub mod Shortest
+pub mod Text

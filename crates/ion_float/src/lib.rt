@@ -1,0 +1,6 @@
+//! The shortest decimal of a double.
+//!
+//! Nothing here takes memory.
+#![tactic(auto)]
+
+pub mod laws;

@@ -1,7 +1,6 @@
 -- At the least power the nearest multiple reads as the float.
-use Rattle.std.proofs.Common.{◌≡◌, ℕ, zero, suc, ◌+◌, ◌-◌, ◌*◌, ◌/◌, ◌%◌, ◌^◌, ◌<◌, ◌≤◌, T, false, refl, sym, ap, ◌∙◌, subst, inl, inr, arith, mod-lt, div-add-mod', mul-le-mul_left, mul-le-mul_right, le_of_mul-le-mul_right, pow_pos, lit≤}
+use Rattle.std.proofs.Common.{◌≡◌, ℕ, suc, ◌+◌, ◌*◌, ◌/◌, ◌%◌, ◌^◌, ◌<◌, ◌≤◌, false, sym, ap, ◌∙◌, subst, inl, inr, arith, mod-lt, div-add-mod', mul-le-mul_left, mul-le-mul_right, le_of_mul-le-mul_right, pow_pos, lit≤}
 use Rattle.std.proofs.lemmas.Bool.{cases_lt}
-use native.Mathlib.Nat.{eq-zero-or-pos}
 use lib.Ieee.{Float, binary64, prec, low, hid}
 use lib.Ieee.Exact.{HasValue}
 use lib.Ieee.Nearest.{closest}
@@ -69,9 +68,12 @@ least_reads x m k v M N =
   where
     more : 0 < k → hid binary64 ≤ m
     more K = omega (arith, N K)
+
     less : (l t w : ℕ) → l + 1 ≤ t → t ≤ w → l < w
     less l t w a b = omega (arith, a, b)
+
     first : (a c w l : ℕ) → 2 * a ≤ 2 * c + l → l < w → 2 * a < 2 * c + w
     first a c w l h s = omega (arith, h, s)
+
     lower : (h m w c l : ℕ) → h < m → 2 * (m * w) ≤ 2 * c + l → l < w → h * w ≤ c
     lower h m w c l hm b s = let next : h + 1 ≤ m = omega arith in omega (arith, mul-le-mul_right w next, b, s)

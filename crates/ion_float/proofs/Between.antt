@@ -88,18 +88,21 @@ none_above digits power bits p read down up more other =
     let from = mul-le-mul_right t (lower digits) in
     let to = mul-le-mul_right t (upper digits) in
     elim (one_of_two binary64 (from_bits binary64 bits) front more (10 ^ (power + 1 - 342)) (10 ^ (342 - (power + 1))) (digits * 10 ^ (power - 342)) (10 ^ (342 - power))
-        p (ten_to_pos _) (ten_to_pos _)
-        (first front digits _ _ _ _ (tens power) from) (second (front + 1) digits _ _ _ _ (tens power) to) read other) [
+    p (ten_to_pos _) (ten_to_pos _)
+    (first front digits _ _ _ _ (tens power) from) (second (front + 1) digits _ _ _ _ (tens power) to) read other) [
       | inl a ↦ absurd (down a)
       | inr b ↦ absurd (up b)
     ]
   where
     lower : (d : ℕ) → d / 10 * 10 ≤ d
     lower d = omega arith
+
     upper : (d : ℕ) → d ≤ (d / 10 + 1) * 10
     upper d = omega arith
+
     first : (k d a b c e : ℕ) → a * b ≡ 10 * (c * e) → k * 10 * (c * e) ≤ d * (c * e) → k * a * b ≤ d * c * e
     first k d a b c e same h = omega (arith, ap (λ z. k * z) same, h)
+
     second : (k d a b c e : ℕ) → a * b ≡ 10 * (c * e) → d * (c * e) ≤ k * 10 * (c * e) → d * c * e ≤ k * a * b
     second k d a b c e same h = omega (arith, ap (λ z. k * z) same, h)
 

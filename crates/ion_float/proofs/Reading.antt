@@ -1,12 +1,15 @@
 -- What the definition gives for a float reads as the float.
-use Rattle.std.proofs.Common.{◌≡◌, ℕ, zero, suc, ◌+◌, ◌-◌, ◌*◌, ◌/◌, ◌%◌, ◌^◌, ◌<◌, ◌≤◌, Bool, true, false, T, refl, sym, ap, ◌∙◌, subst, inl, inr, arith, mod-lt, div-add-mod'}
+use Rattle.std.proofs.Common.{◌≡◌, ℕ, zero, suc, ◌+◌, ◌*◌, ◌/◌, ◌%◌, ◌^◌, ◌<◌, ◌≤◌, Bool, true, false, refl, sym, ap, ◌∙◌, subst, arith, div-add-mod'}
 use mathlib.Core.Bool.{true≢false}
-use native.Mathlib.Nat.{eq-zero-or-pos, div-lt_iff_lt-mul, pow-suc}
+use native.Mathlib.Nat.{pow-suc}
 use lib.Ieee.{Float, binary64, prec, low, hid, ones, of_bits, round}
 use lib.Ieee.Exact.{HasValue}
 use Rattle.fast_float.specs.Rounding.{scaled_bits, IsNearestBits}
-use Rattle.fast_float.proofs.Patterns.{of_bits_value, field_units}
-use Rattle.ion_float.specs.Shortest.{reads, IsPositive, near, reads_as, search, shortest}
+use Rattle.fast_float.proofs.Patterns.{of_bits_value}
+use lib.Ieee.Positive.{positive_of_value}
+use native.Mathlib.Nat.{mul-pos}
+use lib.Pow.{pow_pos}
+use Rattle.ion_float.specs.Shortest.{reads, IsAboveZero, IsPositive, near, reads_as, search, shortest}
 use Rattle.ion_float.proofs.Back.{least_reads}
 use Rattle.ion_float.proofs.Search.{reads_as-true, reads_as-reads}
 
@@ -21,12 +24,16 @@ at_fields : (x t : ℕ) → x < ones binary64 → t < hid binary64 → (m : ℕ)
 at_fields zero t X H = (t, 0, record { bits_are = omega arith; value = of_bits_value binary64 zero t X H; most = omega arith; normal = λ h. absurd (omega arith) })
 at_fields (suc zero) t X H =
     (hid binary64 + t, 0, record { bits_are = omega arith; value = of_bits_value binary64 1 t X H; most = omega arith; normal = λ h. absurd (omega arith) })
-at_fields (suc (suc i)) zero X H =
-    (2 * hid binary64, i, record {
-      bits_are = omega arith;
-      value = subst (λ a. HasValue (of_bits binary64 (suc (suc i) * hid binary64 + 0)) false a (2 ^ low binary64)) (twice (hid binary64) i) (of_bits_value binary64 (suc (suc i)) zero X H);
-      most = omega arith;
-      normal = λ h. omega arith })
+at_fields (suc (suc i)) zero X H = (
+  2 * hid binary64,
+  i,
+  record {
+    bits_are = omega arith;
+    value = subst (λ a. HasValue (of_bits binary64 (suc (suc i) * hid binary64 + 0)) false a (2 ^ low binary64)) (twice (hid binary64) i) (of_bits_value binary64 (suc (suc i)) zero X H);
+    most = omega arith;
+    normal = λ h. omega arith;
+  },
+)
   where
     twice : (h i : ℕ) → (h + 0) * 2 ^ suc i ≡ 2 * h * 2 ^ i
     twice h i = omega (arith, ap (λ z. h * z) (pow-suc 2 i))
@@ -40,6 +47,17 @@ made bits h =
     let rest : bits % hid binary64 < hid binary64 = omega arith in
     let e : bits / hid binary64 * hid binary64 + bits % hid binary64 ≡ bits = omega arith in
     subst (λ b. (m : ℕ) × (k : ℕ) × IsMade b m k) e (at_fields (bits / hid binary64) (bits % hid binary64) field rest)
+
+-- bits above zero and below those of infinity are of a finite double above zero
+pub is-positive : (bits : ℕ) → IsAboveZero bits → IsPositive bits
+is-positive bits p =
+    let it = made bits p.1 in
+    let r = it.2 in
+    positive_of_value (of_bits binary64 bits) (it.0 * 2 ^ it.1) (2 ^ low binary64) r.value (mul-pos (some bits it.0 it.1 p.0 r.bits_are r.normal) (pow_pos it.1))
+  where
+    some : (bits m k : ℕ) → 0 < bits → scaled_bits binary64 m k ≡ bits → (0 < k → hid binary64 < m) → 0 < m
+    some bits m zero b e n = omega arith
+    some bits m (suc k) b e n = omega (arith, n (omega arith))
 
 at_least : (bits : ℕ) → bits < ones binary64 * hid binary64 → reads (near (of_bits binary64 bits) 0) 0 bits
 at_least bits h =

@@ -1,15 +1,12 @@
 -- A decimal that passes the tests is the one of the definition.
-use Rattle.std.proofs.Common.{◌≡◌, ℕ, zero, suc, ◌+◌, ◌-◌, ◌*◌, ◌^◌, ◌<◌, ◌≤◌, Bool, true, false, T, refl, sym, ap, ◌∙◌, subst, inl, inr, arith, pow-add}
+use Rattle.std.proofs.Common.{◌≡◌, ℕ, zero, suc, ◌+◌, ◌-◌, ◌*◌, ◌^◌, ◌<◌, Bool, true, false, refl, sym, ap, ◌∙◌, subst, inl, inr, arith, pow-add}
 use mathlib.Core.Bool.{true≢false}
 use Rattle.std.proofs.lemmas.Bool.{cases_lt, eqb-true}
 use Rattle.std.specs.Prelude.{from_bits}
-use mathlib.Core.Bool.{not}
-use lib.Dec.{eqb}
 use lib.Ieee.{Float, binary64, round, to_bits, of_bits}
 use lib.Ieee.Fits.{round-fits, eq→eqb}
 use lib.Ieee.Bits.{of_bits-to_bits, to_bits-of_bits, is_true}
 use Rattle.fast_float.proofs.Extremes.{round_tens}
-use Rattle.fast_float.proofs.ExactLemmas.{ten_to_pos}
 use Rattle.ion_float.specs.Shortest.{reads, IsPositive, NoneAbove, near, reads_as, search, shortest}
 use Rattle.ion_float.proofs.Between.{positive-number}
 
@@ -99,5 +96,5 @@ shortest_is_above bits digits power fits small p read none below same =
     search_to x bits power 651 (digits, power) small
     (λ k c l. by_test (reads_as bits c k) (λ h. none_higher power bits k c none l (reads_as-reads bits c k h)))
     (taken_above x bits power _ _ (by_test (reads_as bits (near x power) power) (λ h. below (reads_as-reads bits (near x power) power h)))
-        (ap (λ d. reads_as bits d power) same ∙ reads_as-true bits digits power fits p read)
-     ∙ ap (λ d. (d, power)) same)
+    (ap (λ d. reads_as bits d power) same ∙ reads_as-true bits digits power fits p read)
+    ∙ ap (λ d. (d, power)) same)

@@ -5,4 +5,5 @@
 #![tactic(auto)]
 
 pub mod float;
+pub mod laws;
 pub mod octets;

@@ -1,5 +1,5 @@
 -- The definition on some floats.
-use Rattle.std.proofs.Common.{◌≡◌, ℕ, refl}
+use Rattle.std.proofs.Common.{◌≡◌, refl}
 use lib.Ieee.{round, to_bits, of_bits}
 use Rattle.ion_float.specs.Shortest.{reads_as, search, shortest}
 

@@ -7,3 +7,5 @@
 pub mod float;
 pub mod laws;
 pub mod octets;
+pub mod shortest;
+pub mod text;

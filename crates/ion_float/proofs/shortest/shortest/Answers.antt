@@ -1,0 +1,4 @@
+use Rattle.ion_float.proofs.shortest.shortest.Goals as goal
+
+pub returns : goal.returns
+returns c = ?

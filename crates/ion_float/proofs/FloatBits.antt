@@ -47,3 +47,11 @@ is_nan-test bits x e kept =
         | inr b ↦ b ∙ sym n
       ]
     ]
+
+pub infinite-bits : from_bits binary64 9218868437227405312 ≡ inf false
+unfolding of_bits
+infinite-bits = refl
+
+pub below-bits : from_bits binary64 18442240474082181120 ≡ inf true
+unfolding of_bits
+below-bits = refl

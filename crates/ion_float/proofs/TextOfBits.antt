@@ -18,6 +18,7 @@ use Rattle.std.proofs.lemmas.Bool.{cases_Bool, eqb-true, lt-ltb, ltb-false, leb-
 use Rattle.std.specs.Float.{float_with_sign}
 use Rattle.ion_float.specs.Shortest.{IsAboveZero, IsPositive, near, reads_as, search, shortest}
 use Rattle.ion_float.specs.Text.{pointed, digits_text, magnitude_text, float_text}
+use Rattle.ion_float.proofs.FloatBits.{infinite-bits, below-bits}
 use Rattle.ion_float.proofs.Between.{positive-number}
 use Rattle.ion_float.proofs.Reading.{is-positive}
 
@@ -28,14 +29,6 @@ unfolding is_nan
 no_number nan h = refl
 no_number (inf s) h = absurd (true≢false (sym h))
 no_number (fin s m e) h = absurd (true≢false (sym h))
-
-infinite-bits : from_bits binary64 9218868437227405312 ≡ inf false
-unfolding of_bits
-infinite-bits = refl
-
-below-bits : from_bits binary64 18442240474082181120 ≡ inf true
-unfolding of_bits
-below-bits = refl
 
 pub infinite : (x : Float) (bits : ℕ) → from_bits binary64 bits ≡ x → bits ≡ 9218868437227405312 → codes "+inf" ≡ float_text x
 infinite x bits e b = ap float_text (sym infinite-bits ∙ ap (from_bits binary64) (sym b) ∙ e)

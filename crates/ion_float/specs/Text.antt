@@ -1,5 +1,5 @@
 -- Floats in text (Ion specification, "Real Numbers").
-use Rattle.std.specs.Prelude.{ℕ, zero, suc, ◌+◌, ◌-◌, ℤ, pos, ◌-ℤ◌, Bool, true, false, not, ◌&&◌, ◌||◌, ◌==◌, if◌then◌else◌, List, [], ◌∷◌, ◌++◌, length, filter, codes, decimal, Result, Ok, Err, to_bits}
+use Rattle.std.specs.Prelude.{ℕ, zero, suc, ◌+◌, ◌-◌, ℤ, pos, ◌-ℤ◌, Bool, true, false, not, ◌&&◌, ◌||◌, ◌==◌, if◌then◌else◌, List, [], ◌∷◌, ◌++◌, length, filter, codes, decimal, Option, Some, None, Result, Ok, Err, to_bits}
 use Rattle.std.specs.Str.{bytes_eq}
 use lib.Ieee.{Float, nan, inf, fin, binary64}
 use Rattle.fast_float.specs.Rounding.{nearest_to_decimal}
@@ -63,10 +63,18 @@ float_of_parts negative p =
         (power_value p.power -ℤ pos (length (fraction_digits p.fraction))))
     else Err BadToken
 
+-- the floats that are written as words
+abbrev pub float_word : List ℕ → Option Float
+float_word run =
+    if bytes_eq run (codes "nan") then Some nan
+    else (if bytes_eq run (codes "+inf") then Some (inf false)
+    else (if bytes_eq run (codes "-inf") then Some (inf true) else None))
+
+-- a float that was found, or else what is made of the parts
+abbrev pub or_else : Option Float → Result Float Reason → Result Float Reason
+or_else (Some x) parts = Ok x
+or_else None parts = parts
+
 -- the float that a run of text spells, or why it is none
 unfoldable pub float_of_text : List ℕ → Result Float Reason
-float_of_text run =
-    if bytes_eq run (codes "nan") then Ok nan
-    else (if bytes_eq run (codes "+inf") then Ok (inf false)
-    else (if bytes_eq run (codes "-inf") then Ok (inf true)
-    else float_of_parts (has_minus run) (parts_of (without_minus run))))
+float_of_text run = or_else (float_word run) (float_of_parts (has_minus run) (parts_of (without_minus run)))

@@ -1,6 +1,6 @@
 //! Floats as their bits.
 ghost use Rattle.std.specs.Prelude.{◌≡◌, to_bits, from_bits, is_nan};
-ghost use Rattle.std.specs.Float.{binary64, nan};
+ghost use Rattle.std.specs.Float.{binary64, nan, inf, NotNan};
 
 use std::marker::Model;
 
@@ -51,6 +51,15 @@ impl Float64 {
         Float64 { bits: kept(bits) }
     }
 
+    /// The float of a number.
+    #[inline]
+    pub(crate) fn from_number(number: f64) -> Float64
+        requires { NotNan number }
+        ensures { result ≡ number }
+    {
+        Float64::from_bits(number.to_bits())
+    }
+
     /// The float that stands for all that is no number.
     #[inline]
     pub fn nan() -> Float64
@@ -59,7 +68,19 @@ impl Float64 {
         Float64 { bits: NAN }
     }
 
-    /// Whether it is that float.
+    /// The infinity above zero, or the one below it.
+    #[inline]
+    pub fn infinite(negative: bool) -> Float64
+        ensures { result ≡ inf negative }
+    {
+        if negative {
+            Float64::from_bits(SIGN + INFINITY)
+        } else {
+            Float64::from_bits(INFINITY)
+        }
+    }
+
+    /// Whether it is `nan`.
     #[inline]
     pub fn is_nan(self) -> bool
         ensures { result ≡ is_nan self }

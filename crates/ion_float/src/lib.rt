@@ -9,3 +9,4 @@ pub mod laws;
 pub mod octets;
 pub mod shortest;
 pub mod text;
+mod text_reading;

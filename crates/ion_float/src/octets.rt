@@ -42,7 +42,7 @@ fn widened(bits: u32) -> Float64
     if bits % SIGN > INFINITY {
         return Float64::nan();
     }
-    Float64::from_bits((f32::from_bits(bits) as f64).to_bits())
+    Float64::from_number(f32::from_bits(bits) as f64)
 }
 
 /// The fewest octets of a float: none of `0e0`, four where a binary32 has the value, and eight

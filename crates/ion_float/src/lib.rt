@@ -3,4 +3,5 @@
 //! Nothing here takes memory.
 #![tactic(auto)]
 
+mod exact;
 pub mod laws;

@@ -1,0 +1,125 @@
+//! Exact comparison of a double with the multiples of a power of ten.
+//!
+//! Natural numbers stand in limbs on the stack. The largest that occur have fewer than 2,176 bits.
+ghost use Rattle.std.specs.Prelude.{◌≡◌, ℕ, ◌+◌, ◌*◌, ◌^◌, ◌<◌, ◌≤◌, length, slice_index};
+ghost use Rattle.std.specs.Ordering.{nat_cmp};
+ghost use Rattle.ion_float.specs.Limbs.{value};
+
+use arrayvec::ArrayVec;
+use std::cmp::Ordering;
+use std::marker::Model;
+
+const LIMBS: usize = 34;
+
+// The limb at this index, or 0 behind the last.
+#[inline]
+fn limb_at(limbs: &[u64], index: usize) -> u64
+    ensures { result ≡ slice_index limbs.now index }
+{
+    if index < limbs.len() { limbs[index] } else { 0 }
+}
+
+// Multiplies the number in these limbs, and returns what passes the last of them.
+#[inline]
+fn multiply(limbs: &mut [u64], factor: u64) -> u64
+    ensures { value limbs.new + result * 2 ^ (64 * length limbs.old) ≡ value limbs.old * factor }
+{
+    let mut carry = 0;
+    for limb in limbs.iter_mut() {
+        let product = *limb as u128 * factor as u128 + carry as u128;
+        *limb = (product & 0xffff_ffff_ffff_ffff) as u64;
+        carry = (product >> 64) as u64;
+    }
+    carry
+}
+
+// How a multiple of the number in `limbs` compares with the number in `others`. The product goes by
+// limb for limb, and the last limbs that differ decide.
+#[inline]
+fn compare_multiple(limbs: &[u64], factor: u64, others: &[u64]) -> Ordering
+    requires { length limbs.now < 2 ^ 32 }
+    ensures { result ≡ nat_cmp (value limbs.now * factor) (value others.now) }
+{
+    let mut order = Ordering::Equal;
+    let mut carry = 0;
+    for index in 0..others.len().max(limbs.len() + 1) {
+        let product = limb_at(limbs, index) as u128 * factor as u128 + carry as u128;
+        let limb = (product & 0xffff_ffff_ffff_ffff) as u64;
+        carry = (product >> 64) as u64;
+        order = limb.cmp(&limb_at(others, index)).then(order);
+    }
+    order
+}
+
+/// A natural number below 2^2176.
+#[derive(Drop)]
+pub(crate) struct Natural {
+    limbs: ArrayVec<u64, LIMBS>,
+}
+
+impl Model for Natural {
+    ghost use Rattle.std.specs.Prelude.{ℕ};
+    ghost use Rattle.ion_float.specs.Limbs.{value};
+
+    ghost Value = { ℕ };
+
+    ghost view = { λ n. value n.limbs.items };
+}
+
+impl Natural {
+    pub(crate) fn new(number: u64) -> Natural
+        ensures { result ≡ number }
+    {
+        let mut limbs = ArrayVec::new();
+        limbs.push(number);
+        Natural { limbs }
+    }
+
+    pub(crate) fn multiply(&mut self, factor: u64)
+        requires { self.old * factor < 2 ^ 2176 }
+        ensures { self.new ≡ self.old * factor }
+    {
+        let carry = multiply(self.limbs.as_mut_slice(), factor);
+        if carry > 0 {
+            self.limbs.push(carry);
+        }
+    }
+
+    /// Multiplies by 2^power.
+    pub(crate) fn times_two_to(&mut self, power: u32)
+        requires { self.old * 2 ^ power < 2 ^ 2176 }
+        ensures { self.new ≡ self.old * 2 ^ power }
+    {
+        self.times_power(2, 63, power);
+    }
+
+    /// Multiplies by 10^power.
+    pub(crate) fn times_ten_to(&mut self, power: u32)
+        requires { self.old * 10 ^ power < 2 ^ 2176 }
+        ensures { self.new ≡ self.old * 10 ^ power }
+    {
+        self.times_power(10, 19, power);
+    }
+
+    // Multiplies by base^power, `step` of the factors at once.
+    fn times_power(&mut self, base: u64, step: u32, power: u32)
+        requires base { 0 < base }
+        requires step { (0 < step) × (base ^ step < 2 ^ 64) }
+        requires room { self.old * base ^ power < 2 ^ 2176 }
+        ensures { self.new ≡ self.old * base ^ power }
+    {
+        let factor = base.pow(step);
+        let mut left = power;
+        while left >= step {
+            self.multiply(factor);
+            left -= step;
+        }
+        self.multiply(base.pow(left));
+    }
+
+    pub(crate) fn compare_multiple(&self, factor: u64, other: &Natural) -> Ordering
+        ensures { result ≡ nat_cmp (self.now * factor) other.now }
+    {
+        compare_multiple(self.limbs.as_slice(), factor, other.limbs.as_slice())
+    }
+}

@@ -107,3 +107,41 @@ cmp_step p q x y w P Q =
         | inr f ↦ cmp-equal (p + x * w) (q + y * w) (omega arith) ∙ sym (cmp-equal p q (omega arith))
       ]
     ]
+
+-- ---- and back from what a comparison says
+
+pub cmp-says_less : (a b : ℕ) → Less ≡ nat_cmp a b → a < b
+cmp-says_less a b h = elim (cases_lt a b) [
+  | inl l ↦ l
+  | inr g ↦ elim (cases_lt b a) [ inl m ↦ absurd (clash (h ∙ cmp-greater a b m)) | inr e ↦ absurd (clash_equal (h ∙ cmp-equal a b (omega arith))) ]
+]
+  where
+    clash : Less ≡ Greater → ⊥
+    clash e = cc
+
+    clash_equal : Less ≡ Equal → ⊥
+    clash_equal e = cc
+
+pub cmp-says_equal : (a b : ℕ) → Equal ≡ nat_cmp a b → a ≡ b
+cmp-says_equal a b h = elim (cases_lt a b) [
+  | inl l ↦ absurd (clash (h ∙ cmp-less a b l))
+  | inr g ↦ elim (cases_lt b a) [ inl m ↦ absurd (clash_greater (h ∙ cmp-greater a b m)) | inr e ↦ omega arith ]
+]
+  where
+    clash : Equal ≡ Less → ⊥
+    clash e = cc
+
+    clash_greater : Equal ≡ Greater → ⊥
+    clash_greater e = cc
+
+pub cmp-says_greater : (a b : ℕ) → Greater ≡ nat_cmp a b → b < a
+cmp-says_greater a b h = elim (cases_lt a b) [
+  | inl l ↦ absurd (clash (h ∙ cmp-less a b l))
+  | inr g ↦ elim (cases_lt b a) [ inl m ↦ m | inr e ↦ absurd (clash_equal (h ∙ cmp-equal a b (omega arith))) ]
+]
+  where
+    clash : Greater ≡ Less → ⊥
+    clash e = cc
+
+    clash_equal : Greater ≡ Equal → ⊥
+    clash_equal e = cc

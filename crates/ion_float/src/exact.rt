@@ -3,7 +3,12 @@
 //! Natural numbers stand in limbs on the stack. The largest that occur have fewer than 2,176 bits.
 ghost use Rattle.std.specs.Prelude.{◌≡◌, ℕ, ◌+◌, ◌*◌, ◌^◌, ◌<◌, ◌≤◌, length, slice_index};
 ghost use Rattle.std.specs.Ordering.{nat_cmp};
+ghost use Rattle.std.specs.Float.{binary64};
+ghost use Rattle.std.specs.Prelude.{from_bits, IsTrue, ◌-◌, ◌↔◌, false};
+ghost use lib.Ieee.Exact.{HasValue};
+ghost use lib.Ieee.Nearest.{closest};
 ghost use Rattle.ion_float.specs.Limbs.{value};
+ghost use Rattle.ion_float.specs.Shortest.{IsAboveZero, near};
 
 use arrayvec::ArrayVec;
 use std::cmp::Ordering;
@@ -121,5 +126,64 @@ impl Natural {
         ensures { result ≡ nat_cmp (self.now * factor) other.now }
     {
         compare_multiple(self.limbs.as_slice(), factor, other.limbs.as_slice())
+    }
+}
+
+// The significand and the exponent of a finite double above zero, which is
+// significand · 2^exponent / 2^1074.
+#[inline]
+fn parts_of(bits: u64) -> (u64, u32)
+    requires { IsAboveZero bits }
+    ensures fits { (result.0 < 2 ^ 53) × (result.1 < 2046) }
+    ensures value { HasValue (from_bits binary64 bits) false (result.0 * 2 ^ result.1) (2 ^ 1074) }
+{
+    let field = bits >> 52;
+    let rest = bits & 0x000f_ffff_ffff_ffff;
+    if field == 0 {
+        (rest, 0)
+    } else {
+        (rest + (1 << 52), field as u32 - 1)
+    }
+}
+
+/// A finite double above zero in units of a power of ten: `twice` over `unit` is twice the double
+/// over the power.
+#[derive(Drop)]
+pub(crate) struct Ratio {
+    pub(crate) twice: Natural,
+    pub(crate) unit: Natural,
+    ghost some: { 0 < unit },
+}
+
+impl Ratio {
+    /// The double with these bits in units of 10^(row - 342).
+    pub(crate) fn new(bits: u64, row: u32) -> Ratio
+        requires above_zero { IsAboveZero bits }
+        requires row { row < 651 }
+        ensures { closest result.twice (2 * result.unit) ≡ near (from_bits binary64 bits) row }
+    {
+        let (significand, exponent) = parts_of(bits);
+        let mut twice = Natural::new(2 * significand);
+        let mut unit = Natural::new(1);
+        twice.times_two_to(exponent.saturating_sub(1074));
+        unit.times_two_to(1074_u32.saturating_sub(exponent));
+        twice.times_ten_to(342_u32.saturating_sub(row));
+        unit.times_ten_to(row.saturating_sub(342));
+        Ratio { twice, unit }
+    }
+
+    /// Whether the multiple nearest to the double, the even one of two, is at least this one.
+    pub(crate) fn reaches(&self, digits: u64) -> bool
+        requires { digits < 2 ^ 63 }
+        ensures { IsTrue result ↔ (digits ≤ closest self.now.twice (2 * self.now.unit)) }
+    {
+        if digits == 0 {
+            return true;
+        }
+        match self.unit.compare_multiple(2 * digits - 1, &self.twice) {
+            Ordering::Less => true,
+            Ordering::Equal => digits % 2 == 0,
+            Ordering::Greater => false,
+        }
     }
 }

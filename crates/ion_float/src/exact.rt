@@ -186,4 +186,21 @@ impl Ratio {
             Ordering::Greater => false,
         }
     }
+    /// The multiple nearest to the double, the even one of two.
+    pub(crate) fn nearest(&self) -> u64
+        requires { closest self.now.twice (2 * self.now.unit) < 10 ^ 17 }
+        ensures { result ≡ closest self.now.twice (2 * self.now.unit) }
+    {
+        let mut low = 0;
+        let mut high = 100_000_000_000_000_000;
+        while high - low > 1 {
+            let middle = low + (high - low) / 2;
+            if self.reaches(middle) {
+                low = middle;
+            } else {
+                high = middle;
+            }
+        }
+        low
+    }
 }

@@ -5,3 +5,4 @@
 
 mod exact;
 pub mod laws;
+pub mod shortest;

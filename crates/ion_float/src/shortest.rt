@@ -1,0 +1,59 @@
+//! The shortest decimal that reads as a double.
+ghost use Rattle.std.specs.Prelude.{◌≡◌, ◌<◌, ◌^◌, ◌↔◌, IsTrue};
+ghost use Rattle.ion_float.specs.Shortest.{IsAboveZero, reads, shortest};
+
+use crate::exact::Ratio;
+use fast_float::nearest_bits;
+
+/// The decimal digits · 10^(row - 342), below 10^17 · 10^308.
+#[derive(Clone, Copy, Debug, Drop, PartialEq, Eq)]
+pub struct Digits {
+    /// The digits as a number below 10^17, whose last is not 0.
+    pub digits: u64,
+    /// The power of ten and 342, below 651.
+    pub row: u32,
+}
+
+// Whether this decimal reads as the double with these bits.
+#[inline]
+fn reads_back(digits: u64, row: u32, bits: u64) -> bool
+    requires above_zero { IsAboveZero bits }
+    requires row { row < 651 }
+    ensures { IsTrue result ↔ reads digits row bits }
+{
+    digits > 0 && nearest_bits::<f64>(digits, row as u64) == bits
+}
+
+/// The shortest decimal that reads as a finite double above zero: the greatest power of ten at which
+/// the nearest multiple reads as it, or the one above, and that multiple.
+pub fn shortest(bits: u64) -> Digits
+    requires { IsAboveZero bits }
+    ensures digits { (result.digits, result.row) ≡ shortest bits }
+    ensures few { result.digits < 10 ^ 17 }
+{
+    search_down(bits)
+}
+
+// Tries each power from the greatest down. This is slow, some ten milliseconds.
+#[cold]
+fn search_down(bits: u64) -> Digits
+    requires { IsAboveZero bits }
+    ensures digits { (result.digits, result.row) ≡ shortest bits }
+    ensures few { result.digits < 10 ^ 17 }
+{
+    let mut row = 651;
+    loop {
+        row -= 1;
+        let digits = Ratio::new(bits, row).nearest();
+        // In row 0 they read: 10^-342 is far below the gap between two doubles.
+        if row == 0 || reads_back(digits, row, bits) {
+            return Digits { digits, row };
+        }
+        if reads_back(digits + 1, row, bits) {
+            return Digits {
+                digits: digits + 1,
+                row,
+            };
+        }
+    }
+}

@@ -4,5 +4,6 @@
 #![tactic(auto)]
 
 mod exact;
+mod guess;
 pub mod laws;
 pub mod shortest;

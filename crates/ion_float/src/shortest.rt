@@ -1,8 +1,9 @@
 //! The shortest decimal that reads as a double.
 ghost use Rattle.std.specs.Prelude.{◌≡◌, ◌<◌, ◌^◌, ◌↔◌, IsTrue};
-ghost use Rattle.ion_float.specs.Shortest.{IsAboveZero, reads, shortest};
+ghost use Rattle.ion_float.specs.Shortest.{IsAboveZero, IsTaken, NoneAbove, reads, shortest};
 
 use crate::exact::Ratio;
+use crate::guess::guess;
 use fast_float::nearest_bits;
 
 /// The decimal digits · 10^(row - 342), below 10^17 · 10^308.
@@ -31,7 +32,53 @@ pub fn shortest(bits: u64) -> Digits
     ensures digits { (result.digits, result.row) ≡ shortest bits }
     ensures few { result.digits < 10 ^ 17 }
 {
-    search_down(bits)
+    match guess(bits) {
+        Some(found) if is_shortest(found, bits) => found,
+        _ => search_down(bits),
+    }
+}
+
+// Whether tests show that this is the shortest decimal.
+#[inline]
+fn is_shortest(found: Digits, bits: u64) -> bool
+    requires above_zero { IsAboveZero bits }
+    ensures digits { IsTrue result → (found.digits, found.row) ≡ shortest bits }
+    ensures few { IsTrue result → found.digits < 10 ^ 17 }
+{
+    let Digits { digits, row } = found;
+    if digits >= 100_000_000_000_000_000 || row >= 650 || !reads_back(digits, row, bits) {
+        return false;
+    }
+    is_last_row(digits, row, bits) && is_nearest(digits, row, bits)
+}
+
+// Whether no multiple of the next power of ten reads as the double, as these digits do.
+#[inline]
+fn is_last_row(digits: u64, row: u32, bits: u64) -> bool
+    requires above_zero { IsAboveZero bits }
+    requires row { row < 650 }
+    requires read { reads digits row bits }
+    ensures { IsTrue result → NoneAbove row bits }
+{
+    let front = digits / 10;
+    !reads_back(front, row + 1, bits) && !reads_back(front + 1, row + 1, bits)
+}
+
+// Whether the definition takes these digits, which read, in this row: they are the nearest multiple,
+// or the one above it where that doesn't read, as in some powers of two.
+#[inline]
+fn is_nearest(digits: u64, row: u32, bits: u64) -> bool
+    requires above_zero { IsAboveZero bits }
+    requires sizes { (digits < 10 ^ 17) × (row < 650) }
+    requires read { reads digits row bits }
+    ensures { IsTrue result → IsTaken digits row bits }
+{
+    let ratio = Ratio::new(bits, row);
+    if ratio.reaches(digits) {
+        return !ratio.reaches(digits + 1);
+    }
+    let below = digits - 1;
+    ratio.reaches(below) && !reads_back(below, row, bits)
 }
 
 // Tries each power from the greatest down. This is slow, some ten milliseconds.

@@ -11,6 +11,7 @@ use native.Mathlib.Nat.{mul-pos}
 use lib.Pow.{pow_pos}
 use Rattle.ion_float.specs.Shortest.{reads, IsAboveZero, IsPositive, near, reads_as, search, shortest}
 use Rattle.ion_float.proofs.Back.{least_reads}
+use Rattle.ion_float.proofs.Between.{zero-reads}
 use Rattle.ion_float.proofs.Search.{reads_as-true, reads_as-reads}
 
 -- a float as m * 2 ^ k of the least one
@@ -88,3 +89,10 @@ shortest_reads bits h p =
   where
     no : false ≡ true → ⊥
     no e = true≢false (sym e)
+
+-- so it has digits
+pub some_digits : (digits row bits : ℕ) → IsAboveZero bits → (digits, row) ≡ shortest bits → 1 ≤ digits
+some_digits zero row bits p e =
+    let read = shortest_reads bits p.1 (is-positive bits p) in
+    absurd (zero-reads row bits (is-positive bits p) (subst (λ (r : ℕ × ℕ). reads r.0 r.1 bits) (sym e) read))
+some_digits (suc d) row bits p e = omega arith

@@ -1,5 +1,5 @@
 //! The shortest decimal that reads as a double.
-ghost use Rattle.std.specs.Prelude.{◌≡◌, ◌<◌, ◌^◌, ◌↔◌, IsTrue};
+ghost use Rattle.std.specs.Prelude.{◌≡◌, ◌<◌, ◌≤◌, ◌^◌, ◌↔◌, IsTrue};
 ghost use Rattle.ion_float.specs.Shortest.{IsAboveZero, IsTaken, NoneAbove, reads, shortest};
 
 use crate::exact::Ratio;
@@ -29,7 +29,8 @@ fn reads_back(digits: u64, row: u32, bits: u64) -> bool
 /// the nearest multiple reads as it, or the one above, and that multiple.
 pub fn shortest(bits: u64) -> Digits
     requires { IsAboveZero bits }
-    ensures digits { (result.digits, result.row) ≡ shortest bits }
+    ensures exact { (result.digits, result.row) ≡ shortest bits }
+    ensures some { 1 ≤ result.digits }
     ensures few { result.digits < 10 ^ 17 }
 {
     match guess(bits) {
@@ -42,7 +43,7 @@ pub fn shortest(bits: u64) -> Digits
 #[inline]
 fn is_shortest(found: Digits, bits: u64) -> bool
     requires above_zero { IsAboveZero bits }
-    ensures digits { IsTrue result → (found.digits, found.row) ≡ shortest bits }
+    ensures exact { IsTrue result → (found.digits, found.row) ≡ shortest bits }
     ensures few { IsTrue result → found.digits < 10 ^ 17 }
 {
     let Digits { digits, row } = found;
@@ -85,7 +86,7 @@ fn is_nearest(digits: u64, row: u32, bits: u64) -> bool
 #[cold]
 fn search_down(bits: u64) -> Digits
     requires { IsAboveZero bits }
-    ensures digits { (result.digits, result.row) ≡ shortest bits }
+    ensures exact { (result.digits, result.row) ≡ shortest bits }
     ensures few { result.digits < 10 ^ 17 }
 {
     let mut row = 651;

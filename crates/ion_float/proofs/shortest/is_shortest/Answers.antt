@@ -3,8 +3,8 @@ use Rattle.ion_float.proofs.Reading.{is-positive}
 use Rattle.ion_float.proofs.Search.{shortest_is, shortest_is_above}
 use Rattle.ion_float.proofs.shortest.is_shortest.Goals as goal
 
-pub returns-then-is_last_row-clause-digits : goal.returns-then-is_last_row-clause-digits
-returns-then-is_last_row-clause-digits c h =
+pub returns-then-is_last_row-clause-exact : goal.returns-then-is_last_row-clause-exact
+returns-then-is_last_row-clause-exact c h =
     let d = c.args.found.digits in
     let row = c.args.found.row in
     let p = is-positive c.args.bits c.requires.above_zero in

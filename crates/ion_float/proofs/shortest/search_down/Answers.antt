@@ -18,8 +18,8 @@ nearest-digits-requires c =
     let few = few_here c.args.bits l.row (near (from_bits binary64 c.args.bits) (l.row - 1)) c.requires l.invariant.some refl l.invariant.few in
     omega (arith, few, c.new.ensures)
 
-pub returns-then-row-eq0-clause-digits : goal.returns-then-row-eq0-clause-digits
-returns-then-row-eq0-clause-digits c =
+pub returns-then-row-eq0-clause-exact : goal.returns-then-row-eq0-clause-exact
+returns-then-row-eq0-clause-exact c =
     let l = c.loop-row in
     let d = c.nearest-digits.result in
     let same = c.nearest-digits.ensures ∙ c.new.ensures in
@@ -46,8 +46,8 @@ overflow_add-result c =
     let few = few_here c.args.bits l.row c.nearest-digits.result c.requires l.invariant.some (c.nearest-digits.ensures ∙ c.new.ensures) l.invariant.few in
     record { fits = omega (arith, few) }
 
-pub returns-then-reads_back-2-clause-digits : goal.returns-then-reads_back-2-clause-digits
-returns-then-reads_back-2-clause-digits c =
+pub returns-then-reads_back-2-clause-exact : goal.returns-then-reads_back-2-clause-exact
+returns-then-reads_back-2-clause-exact c =
     let l = c.loop-row in
     found_above c.args.bits l.row c.nearest-digits.result c.requires l.invariant.some (c.nearest-digits.ensures ∙ c.new.ensures) l.invariant.same
     (λ h. false≢true (sym c.if-reads_back.false ∙ c.reads_back.ensures.1 h)) (c.reads_back-in-loop-row.ensures.0 c.if-reads_back-2.true)

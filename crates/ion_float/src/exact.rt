@@ -72,14 +72,25 @@ impl Model for Natural {
 }
 
 impl Natural {
-    pub(crate) fn new(number: u64) -> Natural
-        ensures { result ≡ number }
+    /// number · 2^power.
+    pub(crate) fn new(number: u64, power: u32) -> Natural
+        requires { power < 2048 }
+        ensures { result ≡ number * 2 ^ power }
     {
         let mut limbs = ArrayVec::new();
-        limbs.push(number);
+        for _ in 0..power / 64 {
+            limbs.push(0);
+        }
+        let wide = (number as u128) << (power % 64);
+        limbs.push((wide & 0xffff_ffff_ffff_ffff) as u64);
+        let high = (wide >> 64) as u64;
+        if high > 0 {
+            limbs.push(high);
+        }
         Natural { limbs }
     }
 
+    /// Multiplies by a number of one limb.
     pub(crate) fn multiply(&mut self, factor: u64)
         requires { self.old * factor < 2 ^ 2176 }
         ensures { self.new ≡ self.old * factor }
@@ -90,38 +101,22 @@ impl Natural {
         }
     }
 
-    /// Multiplies by 2^power.
-    pub(crate) fn times_two_to(&mut self, power: u32)
-        requires { self.old * 2 ^ power < 2 ^ 2176 }
-        ensures { self.new ≡ self.old * 2 ^ power }
-    {
-        self.times_power(2, 63, power);
-    }
-
     /// Multiplies by 10^power.
     pub(crate) fn times_ten_to(&mut self, power: u32)
         requires { self.old * 10 ^ power < 2 ^ 2176 }
         ensures { self.new ≡ self.old * 10 ^ power }
     {
-        self.times_power(10, 19, power);
-    }
-
-    // Multiplies by base^power, `step` of the factors at once.
-    fn times_power(&mut self, base: u64, step: u32, power: u32)
-        requires base { 0 < base }
-        requires step { (0 < step) × (base ^ step < 2 ^ 64) }
-        requires room { self.old * base ^ power < 2 ^ 2176 }
-        ensures { self.new ≡ self.old * base ^ power }
-    {
-        let factor = base.pow(step);
         let mut left = power;
-        while left >= step {
-            self.multiply(factor);
-            left -= step;
+        while left >= 19 {
+            self.multiply(10_000_000_000_000_000_000);
+            left -= 19;
         }
-        self.multiply(base.pow(left));
+        if left > 0 {
+            self.multiply(10_u64.pow(left));
+        }
     }
 
+    /// How a multiple of this number compares with another.
     pub(crate) fn compare_multiple(&self, factor: u64, other: &Natural) -> Ordering
         ensures { result ≡ nat_cmp (self.now * factor) other.now }
     {
@@ -163,10 +158,8 @@ impl Ratio {
         ensures { closest result.twice (2 * result.unit) ≡ near (from_bits binary64 bits) row }
     {
         let (significand, exponent) = parts_of(bits);
-        let mut twice = Natural::new(2 * significand);
-        let mut unit = Natural::new(1);
-        twice.times_two_to(exponent.saturating_sub(1074));
-        unit.times_two_to(1074_u32.saturating_sub(exponent));
+        let mut twice = Natural::new(2 * significand, exponent.saturating_sub(1074));
+        let mut unit = Natural::new(1, 1074_u32.saturating_sub(exponent));
         twice.times_ten_to(342_u32.saturating_sub(row));
         unit.times_ten_to(row.saturating_sub(342));
         Ratio { twice, unit }

@@ -18,42 +18,30 @@ at_most a b c d h g = mul-le-mul h g
 power_up : (b k j : ℕ) → 0 < b → k ≤ j → b ^ k ≤ b ^ j
 power_up b k j p h = pow-le-pow_right p h
 
--- the sizes of the two sides, by powers of two alone and in the end
-twice_grown : (twice k m e : ℕ) → twice ≡ 2 * m → k ≡ e - 1074 → m < 2 ^ 53 → e < 2046 → twice * 2 ^ k ≤ 2 ^ 54 * 2 ^ 971
-twice_grown twice k m e t s M E = at_most twice (2 ^ 54) (2 ^ k) (2 ^ 971) (omega arith) (power_up 2 k 971 (omega arith) (omega arith))
+-- the sizes of the two sides
+twice_fits : (twice k j m e row : ℕ) → twice ≡ 2 * m * 2 ^ k → k ≡ e - 1074 → m < 2 ^ 53 → e < 2046 → j ≡ 342 - row → twice * 10 ^ j < 2 ^ 2176
+twice_fits twice k j m e row t s M E r =
+    let grown : twice ≤ 2 ^ 54 * 2 ^ 971 = le_trans (le_of_eq t) (at_most (2 * m) (2 ^ 54) (2 ^ k) (2 ^ 971) (omega arith) (power_up 2 k 971 (omega arith) (omega arith))) in
+    below twice (2 ^ 54 * 2 ^ 971) (10 ^ j) (10 ^ 342) (2 ^ 2176) grown (power_up 10 j 342 (omega arith) (omega arith)) (lit< tt)
 
-unit_grown : (unit k e : ℕ) → unit ≡ 1 → k ≡ 1074 - e → unit * 2 ^ k ≤ 1 * 2 ^ 1074
-unit_grown unit k e u s = at_most unit 1 (2 ^ k) (2 ^ 1074) (omega arith) (power_up 2 k 1074 (omega arith) (omega arith))
-
-twice_fits : (twice k row : ℕ) → twice ≤ 2 ^ 54 * 2 ^ 971 → k ≡ 342 - row → twice * 10 ^ k < 2 ^ 2176
-twice_fits twice k row t s = below twice (2 ^ 54 * 2 ^ 971) (10 ^ k) (10 ^ 342) (2 ^ 2176) t (power_up 10 k 342 (omega arith) (omega arith)) (lit< tt)
-
-unit_fits : (unit k row : ℕ) → unit ≤ 1 * 2 ^ 1074 → k ≡ row - 342 → row < 651 → unit * 10 ^ k < 2 ^ 2176
-unit_fits unit k row u s R = below unit (1 * 2 ^ 1074) (10 ^ k) (10 ^ 308) (2 ^ 2176) u (power_up 10 k 308 (omega arith) (omega arith)) (lit< tt)
-
-pub times_two_to-requires : goal.times_two_to-requires
-times_two_to-requires c =
-    let p = c.parts_of-significand in
-    lt_of_le_of_lt (twice_grown _ _ p.result.0 p.result.1 c.new-twice.ensures c.saturating_sub.ensures p.ensures.fits.0 p.ensures.fits.1) (lit< tt)
-
-pub times_two_to-requires-2 : goal.times_two_to-requires-2
-times_two_to-requires-2 c = lt_of_le_of_lt (unit_grown _ _ _ c.new-unit.ensures c.saturating_sub-2.ensures) (lit< tt)
+unit_fits : (unit k j e row : ℕ) → unit ≡ 1 * 2 ^ k → k ≡ 1074 - e → j ≡ row - 342 → row < 651 → unit * 10 ^ j < 2 ^ 2176
+unit_fits unit k j e row u s r R =
+    let grown : unit ≤ 1 * 2 ^ 1074 = le_trans (le_of_eq u) (at_most 1 1 (2 ^ k) (2 ^ 1074) (omega arith) (power_up 2 k 1074 (omega arith) (omega arith))) in
+    below unit (1 * 2 ^ 1074) (10 ^ j) (10 ^ 308) (2 ^ 2176) grown (power_up 10 j 308 (omega arith) (omega arith)) (lit< tt)
 
 pub times_ten_to-requires : goal.times_ten_to-requires
 times_ten_to-requires c =
     let p = c.parts_of-significand in
-    let grown = twice_grown _ _ p.result.0 p.result.1 c.new-twice.ensures c.saturating_sub.ensures p.ensures.fits.0 p.ensures.fits.1 in
-    twice_fits _ _ c.args.row (le_trans (le_of_eq c.times_two_to.ensures) grown) c.saturating_sub-3.ensures
+    twice_fits _ _ _ p.result.0 p.result.1 c.args.row c.new-twice.ensures c.saturating_sub.ensures p.ensures.fits.0 p.ensures.fits.1 c.saturating_sub-3.ensures
 
 pub times_ten_to-requires-2 : goal.times_ten_to-requires-2
-times_ten_to-requires-2 c =
-    unit_fits _ _ c.args.row (le_trans (le_of_eq c.times_two_to-2.ensures) (unit_grown _ _ _ c.new-unit.ensures c.saturating_sub-2.ensures)) c.saturating_sub-4.ensures c.requires.row
+times_ten_to-requires-2 c = unit_fits _ _ _ _ c.args.row c.new-unit.ensures c.saturating_sub-2.ensures c.saturating_sub-4.ensures c.requires.row
 
-some : (unit grown all k j : ℕ) → unit ≡ 1 → grown ≡ unit * 2 ^ k → all ≡ grown * 10 ^ j → 0 < all
-some unit grown all k j u g a = subst (λ n. 0 < n) (sym (a ∙ ap (λ n. n * 10 ^ j) g)) (mul-pos (mul-pos (subst (λ n. 0 < n) (sym u) (omega arith)) (pow_pos k)) (ten_to_pos j))
+some : (unit all k j : ℕ) → unit ≡ 1 * 2 ^ k → all ≡ unit * 10 ^ j → 0 < all
+some unit all k j u a = subst (λ n. 0 < n) (sym (a ∙ ap (λ n. n * 10 ^ j) u)) (mul-pos (mul-pos (omega arith) (pow_pos k)) (ten_to_pos j))
 
 pub invariant_of-result : goal.invariant_of-result
-invariant_of-result c = record { some = some _ _ _ _ _ c.new-unit.ensures c.times_two_to-2.ensures c.times_ten_to-2.ensures }
+invariant_of-result c = record { some = some _ _ _ _ c.new-unit.ensures c.times_ten_to-2.ensures }
 
 cancel : (a b l : ℕ) → 0 < l → a * l ≡ b * l → a ≡ b
 cancel a b l p e = le_antisymm (le_of_mul-le-mul_right (le_of_eq e) p) (le_of_mul-le-mul_right (le_of_eq (sym e)) p)
@@ -78,5 +66,5 @@ near_is x m e row v =
 pub returns : goal.returns
 returns c =
     let p = c.parts_of-significand in
-    rw (c.times_ten_to.ensures, c.times_two_to.ensures, c.new-twice.ensures, c.saturating_sub.ensures, c.saturating_sub-3.ensures, c.times_ten_to-2.ensures, c.times_two_to-2.ensures, c.new-unit.ensures, c.saturating_sub-2.ensures, c.saturating_sub-4.ensures)
+    rw (c.times_ten_to.ensures, c.new-twice.ensures, c.saturating_sub.ensures, c.saturating_sub-3.ensures, c.times_ten_to-2.ensures, c.new-unit.ensures, c.saturating_sub-2.ensures, c.saturating_sub-4.ensures)
     (near_is _ p.result.0 p.result.1 c.args.row p.ensures.value)

@@ -32,6 +32,7 @@ pub fn shortest(bits: u64) -> Digits
     ensures exact { (result.digits, result.row) ≡ shortest bits }
     ensures some { 1 ≤ result.digits }
     ensures few { result.digits < 10 ^ 17 }
+    ensures row { result.row < 651 }
 {
     match guess(bits) {
         Some(found) if is_shortest(found, bits) => found,
@@ -45,6 +46,7 @@ fn is_shortest(found: Digits, bits: u64) -> bool
     requires above_zero { IsAboveZero bits }
     ensures exact { IsTrue result → (found.digits, found.row) ≡ shortest bits }
     ensures few { IsTrue result → found.digits < 10 ^ 17 }
+    ensures row { IsTrue result → found.row < 650 }
 {
     let Digits { digits, row } = found;
     if digits >= 100_000_000_000_000_000 || row >= 650 || !reads_back(digits, row, bits) {
@@ -88,6 +90,7 @@ fn search_down(bits: u64) -> Digits
     requires { IsAboveZero bits }
     ensures exact { (result.digits, result.row) ≡ shortest bits }
     ensures few { result.digits < 10 ^ 17 }
+    ensures row { result.row < 651 }
 {
     let mut row = 651;
     loop {

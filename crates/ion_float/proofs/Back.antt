@@ -1,39 +1,13 @@
 -- At the least power the nearest multiple reads as the float.
-use Rattle.std.proofs.Common.{◌≡◌, ℕ, suc, ◌+◌, ◌*◌, ◌/◌, ◌%◌, ◌^◌, ◌<◌, ◌≤◌, false, sym, ap, ◌∙◌, subst, inl, inr, arith, mod-lt, div-add-mod', mul-le-mul_left, mul-le-mul_right, le_of_mul-le-mul_right, pow_pos, lit≤}
-use Rattle.std.proofs.lemmas.Bool.{cases_lt}
+use Rattle.std.proofs.Common.{◌≡◌, ℕ, ◌+◌, ◌*◌, ◌^◌, ◌<◌, ◌≤◌, false, ap, ◌∙◌, arith, mul-le-mul_left, mul-le-mul_right, le_of_mul-le-mul_right, pow_pos, lit≤}
 use lib.Ieee.{Float, binary64, prec, low, hid}
 use lib.Ieee.Exact.{HasValue}
-use lib.Ieee.Nearest.{closest}
 use lib.Ieee.Positive.{num, den, den_pos, value→cross}
-use Rattle.core.proofs.dec2flt.Closest.{closest_below, closest_tie, closest_above}
 use Rattle.fast_float.specs.Rounding.{scaled_bits, IsNearestBits}
 use Rattle.fast_float.proofs.ExactLemmas.{ten_to_pos}
 use Rattle.fast_float.proofs.RoundingLemmas.{nearest_of_near}
 use Rattle.ion_float.specs.Shortest.{near}
-
-abbrev Half : ℕ → ℕ → ℕ → Type 0
-Half n u c = (2 * (c * u) ≤ 2 * n + u) × (2 * n ≤ 2 * (c * u) + u)
-
-at : (n u c q : ℕ) → c ≡ q → Half n u q → Half n u c
-at n u c q e h = subst (λ z. Half n u z) (sym e) h
-
-closest-half : (n u : ℕ) → 0 < u → Half n u (closest n u)
-closest-half n u U =
-    let q = n / u in
-    let parts = div-add-mod' n u in
-    let rest = mod-lt n U in
-    let from : q * u ≤ n = omega arith in
-    let below : n < q * u + u = omega arith in
-    elim (cases_lt (2 * n) (2 * (q * u) + u)) [
-      | inl l ↦ at n u _ q (closest_below n u q from below l) (omega arith, omega arith)
-      | inr g ↦ elim (cases_lt (2 * (q * u) + u) (2 * n)) [
-        | inl m ↦ at n u _ (suc q) (closest_above n u q from below m) (omega arith, omega arith)
-        | inr e ↦ elim (cases_lt (q % 2) 1) [
-          | inl z ↦ at n u _ q (closest_tie n u q from below (omega arith) ∙ omega arith) (omega arith, omega arith)
-          | inr o ↦ at n u _ (suc q) (closest_tie n u q from below (omega arith) ∙ omega arith) (omega arith, omega arith)
-        ]
-      ]
-    ]
+use Rattle.ion_float.proofs.Nearness.{closest-half}
 
 -- c / t is near num / den, which is m * p / l
 module _ (c n d m p t l : ℕ) (D : 0 < d) (value : n * l ≡ m * p * d) where

@@ -69,7 +69,7 @@ one_of_two f x front more num den a b p D B from to read other =
 
 -- ---- at powers of ten
 
-tens : (power : ℕ) → 10 ^ (power + 1 - 342) * 10 ^ (342 - power) ≡ 10 * (10 ^ (power - 342) * 10 ^ (342 - (power + 1)))
+pub tens : (power : ℕ) → 10 ^ (power + 1 - 342) * 10 ^ (342 - power) ≡ 10 * (10 ^ (power - 342) * 10 ^ (342 - (power + 1)))
 tens power =
     let sum : power + 1 - 342 + (342 - power) ≡ 1 + (power - 342) + (342 - (power + 1)) = omega arith in
     let one : 10 ^ 1 ≡ 10 = refl in
@@ -112,13 +112,16 @@ positive-number nan p = absurd p
 positive-number (inf s) p = tt
 positive-number (fin s m e) p = tt
 
--- bits of a nearest float that are other bits are of another float
-pub another : (num den r bits : ℕ) → IsPositive bits → r < 2 ^ 64 → bits < 2 ^ 64 → IsNearestBits binary64 num den r → ¬ (r ≡ bits)
-    → ¬ (round binary64 false num den ≡ from_bits binary64 bits)
-another num den r bits p small fits near other e =
+-- the bits of a nearest float are those of the float that it is
+pub same_float : (num den r bits : ℕ) → IsPositive bits → r < 2 ^ 64 → bits < 2 ^ 64 → IsNearestBits binary64 num den r → round binary64 false num den ≡ from_bits binary64 bits → r ≡ bits
+same_float num den r bits p small fits near e =
     let same : from_bits binary64 r ≡ from_bits binary64 bits = near.0 ∙ e in
     let q : T (positive (of_bits binary64 r)) = subst (λ x. T (positive x)) (sym same) p in
-    other (sym (to_bits-of_bits binary64 r small (positive-number _ q)) ∙ ap (λ x. to_bits binary64 x) same ∙ to_bits-of_bits binary64 bits fits (positive-number _ p))
+    sym (to_bits-of_bits binary64 r small (positive-number _ q)) ∙ ap (λ x. to_bits binary64 x) same ∙ to_bits-of_bits binary64 bits fits (positive-number _ p)
+
+-- so other bits are of another float
+pub another : (num den r bits : ℕ) → IsPositive bits → r < 2 ^ 64 → bits < 2 ^ 64 → IsNearestBits binary64 num den r → ¬ (r ≡ bits) → ¬ (round binary64 false num den ≡ from_bits binary64 bits)
+another num den r bits p small fits near other e = other (same_float num den r bits p small fits near e)
 
 -- zero does not read as a float above zero
 pub zero-reads : (power bits : ℕ) → IsPositive bits → ¬ (reads 0 power bits)

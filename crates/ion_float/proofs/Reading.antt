@@ -11,14 +11,15 @@ use native.Mathlib.Nat.{mul-pos}
 use lib.Pow.{pow_pos}
 use Rattle.ion_float.specs.Shortest.{reads, IsAboveZero, IsPositive, near, reads_as, search, shortest}
 use Rattle.ion_float.proofs.Back.{least_reads}
+use Rattle.ion_float.proofs.Between.{zero-reads}
 use Rattle.ion_float.proofs.Search.{reads_as-true, reads_as-reads}
 
 -- a float as m * 2 ^ k of the least one
-record IsMade (bits m k : ℕ) : Type 0 where
-  bits_are : scaled_bits binary64 m k ≡ bits
-  value : HasValue (of_bits binary64 bits) false (m * 2 ^ k) (2 ^ low binary64)
-  most : m ≤ 2 ^ prec binary64
-  normal : 0 < k → hid binary64 < m
+pub record IsMade (bits m k : ℕ) : Type 0 where
+  pub bits_are : scaled_bits binary64 m k ≡ bits
+  pub value : HasValue (of_bits binary64 bits) false (m * 2 ^ k) (2 ^ low binary64)
+  pub most : m ≤ 2 ^ prec binary64
+  pub normal : 0 < k → hid binary64 < m
 
 at_fields : (x t : ℕ) → x < ones binary64 → t < hid binary64 → (m : ℕ) × (k : ℕ) × IsMade (x * hid binary64 + t) m k
 at_fields zero t X H = (t, 0, record { bits_are = omega arith; value = of_bits_value binary64 zero t X H; most = omega arith; normal = λ h. absurd (omega arith) })
@@ -40,7 +41,7 @@ at_fields (suc (suc i)) zero X H = (
 at_fields (suc (suc i)) (suc t) X H =
     (hid binary64 + suc t, suc i, record { bits_are = omega arith; value = of_bits_value binary64 (suc (suc i)) (suc t) X H; most = omega arith; normal = λ h. omega arith })
 
-made : (bits : ℕ) → bits < ones binary64 * hid binary64 → (m : ℕ) × (k : ℕ) × IsMade bits m k
+pub made : (bits : ℕ) → bits < ones binary64 * hid binary64 → (m : ℕ) × (k : ℕ) × IsMade bits m k
 made bits h =
     let parts = div-add-mod' bits (hid binary64) in
     let field : bits / hid binary64 < ones binary64 = omega arith in
@@ -59,7 +60,7 @@ is-positive bits p =
     some bits m zero b e n = omega arith
     some bits m (suc k) b e n = omega (arith, n (omega arith))
 
-at_least : (bits : ℕ) → bits < ones binary64 * hid binary64 → reads (near (of_bits binary64 bits) 0) 0 bits
+pub at_least : (bits : ℕ) → bits < ones binary64 * hid binary64 → reads (near (of_bits binary64 bits) 0) 0 bits
 at_least bits h =
     let it = made bits h in
     let r = it.2 in
@@ -88,3 +89,10 @@ shortest_reads bits h p =
   where
     no : false ≡ true → ⊥
     no e = true≢false (sym e)
+
+-- so it has digits
+pub some_digits : (digits row bits : ℕ) → IsAboveZero bits → (digits, row) ≡ shortest bits → 1 ≤ digits
+some_digits zero row bits p e =
+    let read = shortest_reads bits p.1 (is-positive bits p) in
+    absurd (zero-reads row bits (is-positive bits p) (subst (λ (r : ℕ × ℕ). reads r.0 r.1 bits) (sym e) read))
+some_digits (suc d) row bits p e = omega arith

@@ -10,7 +10,7 @@ use Rattle.fast_float.proofs.Extremes.{round_tens}
 use Rattle.ion_float.specs.Shortest.{reads, IsPositive, NoneAbove, near, reads_as, search, shortest}
 use Rattle.ion_float.proofs.Between.{positive-number}
 
-by_test : (b : Bool) → (b ≡ true → ⊥) → b ≡ false
+pub by_test : (b : Bool) → (b ≡ true → ⊥) → b ≡ false
 by_test true h = absurd (h refl)
 by_test false h = refl
 
@@ -37,12 +37,12 @@ none_higher power bits k c none l h =
         joined : (a b c : ℕ) → a * b * c ≡ a * (b * c)
         joined a b c = omega arith
 
-taken : (x : Float) (bits k : ℕ) (b c : Bool) → b ≡ true → search x bits k b c ≡ (near x k, k)
+pub taken : (x : Float) (bits k : ℕ) (b c : Bool) → b ≡ true → search x bits k b c ≡ (near x k, k)
 unfolding search
 taken x bits k true c h = refl
 taken x bits k false c h = absurd (true≢false (sym h))
 
-passed : (x : Float) (bits k : ℕ) (b c : Bool) → b ≡ false → c ≡ false → search x bits k b c ≡ search x bits k false false
+pub passed : (x : Float) (bits k : ℕ) (b c : Bool) → b ≡ false → c ≡ false → search x bits k b c ≡ search x bits k false false
 passed x bits k true c h g = absurd (true≢false h)
 passed x bits k false true h g = absurd (true≢false g)
 passed x bits k false false h g = refl
@@ -70,7 +70,7 @@ shortest_is bits digits power fits small p read none same =
 
 -- ---- where the nearest multiple doesn't read and the one above it does
 
-taken_above : (x : Float) (bits k : ℕ) (b c : Bool) → b ≡ false → c ≡ true → search x bits k b c ≡ (near x k + 1, k)
+pub taken_above : (x : Float) (bits k : ℕ) (b c : Bool) → b ≡ false → c ≡ true → search x bits k b c ≡ (near x k + 1, k)
 unfolding search
 taken_above x bits k true c h g = absurd (true≢false h)
 taken_above x bits k false true h g = refl
@@ -98,3 +98,17 @@ shortest_is_above bits digits power fits small p read none below same =
     (taken_above x bits power _ _ (by_test (reads_as bits (near x power) power) (λ h. below (reads_as-reads bits (near x power) power h)))
     (ap (λ d. reads_as bits d power) same ∙ reads_as-true bits digits power fits p read)
     ∙ ap (λ d. (d, power)) same)
+
+-- ---- power by power
+
+-- one power further down, whose nearest multiple is `digits`
+pub step_down : (bits row digits : ℕ) → 0 < row → shortest bits ≡ search (from_bits binary64 bits) bits row false false → digits ≡ near (from_bits binary64 bits) (row - 1)
+    → shortest bits ≡ search (from_bits binary64 bits) bits (row - 1) (reads_as bits digits (row - 1)) (reads_as bits (digits + 1) (row - 1))
+unfolding search
+step_down bits zero digits p so same = absurd (omega arith)
+step_down bits (suc n) digits p so same =
+    let x = from_bits binary64 bits in
+    let e : n ≡ suc n - 1 = omega arith in
+    let at : digits ≡ near x n = same ∙ ap (near x) (sym e) in
+    so ∙ subst (λ k. search x bits n (reads_as bits (near x n) n) (reads_as bits (near x n + 1) n) ≡ search x bits k (reads_as bits digits k) (reads_as bits (digits + 1) k)) e
+    (ap (λ d. search x bits n (reads_as bits d n) (reads_as bits (d + 1) n)) (sym at))

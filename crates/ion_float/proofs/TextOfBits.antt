@@ -16,7 +16,7 @@ use lib.Ieee.Exact.{HasValue}
 use lib.Ieee.Positive.{positive}
 use Rattle.std.proofs.lemmas.Bool.{cases_Bool, eqb-true, lt-ltb, ltb-false, leb-true, false_from_ne_true}
 use Rattle.std.specs.Float.{float_with_sign}
-use Rattle.ion_float.specs.Shortest.{IsAboveZero, IsPositive, near, reads_as, search, shortest}
+use Rattle.ion_float.specs.Shortest.{IsAboveZero, IsPositive, shortest}
 use Rattle.ion_float.specs.Text.{pointed, digits_text, magnitude_text, float_text}
 use Rattle.ion_float.proofs.FloatBits.{infinite-bits, below-bits}
 use Rattle.ion_float.proofs.Between.{positive-number}
@@ -131,27 +131,6 @@ above_text bits h =
     let p = is-positive bits h in
     ap (λ (b : ℕ). digits_text (shortest b)) (sym (to_bits-of_bits binary64 bits (omega (arith, h.1)) (positive-number _ p)))
     ∙ number_text (from_bits binary64 bits) p
-
--- ---- the row
-
-search-row : (x : Float) (bits n : ℕ) (b c : Bool) → (search x bits n b c).1 ≤ n
-unfolding search
-search-row x bits n true c = omega arith
-search-row x bits n false true = omega arith
-search-row x bits zero false false = omega arith
-search-row x bits (suc n) false false =
-    let more = search-row x bits n (reads_as bits (near x n) n) (reads_as bits (near x n + 1) n) in
-    step more
-  where
-    step : {a b : ℕ} → a ≤ b → a ≤ suc b
-    step h = omega arith
-
-shortest-search : (bits : ℕ) → (shortest bits).1 ≤ 651
-unfolding shortest
-shortest-search bits = search-row (of_bits binary64 bits) bits 651 false false
-
-pub shortest-row : (bits digits row : ℕ) → (digits, row) ≡ shortest bits → row ≤ 651
-shortest-row bits digits row h = subst (λ (d : ℕ × ℕ). d.1 ≤ 651) (sym h) (shortest-search bits)
 
 -- ---- lengths
 

@@ -4,7 +4,9 @@
 //! as its fewest octets. Nothing here takes memory.
 #![tactic(auto)]
 
+mod exact;
 pub mod float;
+mod guess;
 pub mod laws;
 pub mod octets;
 pub mod shortest;

@@ -1,25 +1,110 @@
-//! The shortest decimal of a double.
-ghost use Rattle.std.specs.Prelude.{◌≡◌, ◌^◌, ◌<◌, ◌≤◌};
-ghost use Rattle.ion_float.specs.Shortest.{IsAboveZero, shortest};
+//! The shortest decimal that reads as a double.
+ghost use Rattle.std.specs.Prelude.{◌≡◌, ◌<◌, ◌≤◌, ◌^◌, ◌↔◌, IsTrue};
+ghost use Rattle.ion_float.specs.Shortest.{IsAboveZero, IsTaken, NoneAbove, reads, shortest};
 
-/// A number in decimal: the digits times ten to the row less 342.
-#[derive(Clone, Copy, Debug, PartialEq, Eq)]
+use crate::exact::Ratio;
+use crate::guess::guess;
+use fast_float::nearest_bits;
+
+/// The decimal digits · 10^(row - 342), below 10^17 · 10^308.
+#[derive(Clone, Copy, Debug, Drop, PartialEq, Eq)]
 pub struct Digits {
-    /// The digits as one number.
+    /// The digits as a number below 10^17, whose last is not 0.
     pub digits: u64,
-    /// The power of ten that the last digit counts, and 342.
+    /// The power of ten and 342, below 651.
     pub row: u32,
 }
 
-/// The shortest decimal that reads as the finite double above zero with these bits.
+// Whether this decimal reads as the double with these bits.
+#[inline]
+fn reads_back(digits: u64, row: u32, bits: u64) -> bool
+    requires above_zero { IsAboveZero bits }
+    requires row { row < 651 }
+    ensures { IsTrue result ↔ reads digits row bits }
+{
+    digits > 0 && nearest_bits::<f64>(digits, row as u64) == bits
+}
+
+/// The shortest decimal that reads as a finite double above zero: the greatest power of ten at which
+/// the nearest multiple reads as it, or the one above, and that multiple.
 pub fn shortest(bits: u64) -> Digits
     requires { IsAboveZero bits }
     ensures exact { (result.digits, result.row) ≡ shortest bits }
     ensures some { 1 ≤ result.digits }
     ensures few { result.digits < 10 ^ 17 }
+    ensures row { result.row < 651 }
 {
-    Digits {
-        digits: bits,
-        row: 0,
+    match guess(bits) {
+        Some(found) if is_shortest(found, bits) => found,
+        _ => search_down(bits),
+    }
+}
+
+// Whether tests show that this is the shortest decimal.
+#[inline]
+fn is_shortest(found: Digits, bits: u64) -> bool
+    requires above_zero { IsAboveZero bits }
+    ensures exact { IsTrue result → (found.digits, found.row) ≡ shortest bits }
+    ensures few { IsTrue result → found.digits < 10 ^ 17 }
+    ensures row { IsTrue result → found.row < 650 }
+{
+    let Digits { digits, row } = found;
+    if digits >= 100_000_000_000_000_000 || row >= 650 || !reads_back(digits, row, bits) {
+        return false;
+    }
+    is_last_row(digits, row, bits) && is_nearest(digits, row, bits)
+}
+
+// Whether no multiple of the next power of ten reads as the double, as these digits do.
+#[inline]
+fn is_last_row(digits: u64, row: u32, bits: u64) -> bool
+    requires above_zero { IsAboveZero bits }
+    requires row { row < 650 }
+    requires read { reads digits row bits }
+    ensures { IsTrue result → NoneAbove row bits }
+{
+    let front = digits / 10;
+    !reads_back(front, row + 1, bits) && !reads_back(front + 1, row + 1, bits)
+}
+
+// Whether the definition takes these digits, which read, in this row: they are the nearest multiple,
+// or the one above it where that doesn't read, as in some powers of two.
+#[inline]
+fn is_nearest(digits: u64, row: u32, bits: u64) -> bool
+    requires above_zero { IsAboveZero bits }
+    requires sizes { (digits < 10 ^ 17) × (row < 650) }
+    requires read { reads digits row bits }
+    ensures { IsTrue result → IsTaken digits row bits }
+{
+    let ratio = Ratio::new(bits, row);
+    if ratio.reaches(digits) {
+        return !ratio.reaches(digits + 1);
+    }
+    let below = digits - 1;
+    ratio.reaches(below) && !reads_back(below, row, bits)
+}
+
+// Tries each power from the greatest down. This is slow, some ten milliseconds.
+#[cold]
+fn search_down(bits: u64) -> Digits
+    requires { IsAboveZero bits }
+    ensures exact { (result.digits, result.row) ≡ shortest bits }
+    ensures few { result.digits < 10 ^ 17 }
+    ensures row { result.row < 651 }
+{
+    let mut row = 651;
+    loop {
+        row -= 1;
+        let digits = Ratio::new(bits, row).nearest();
+        // In row 0 they read: 10^-342 is far below the gap between two doubles.
+        if row == 0 || reads_back(digits, row, bits) {
+            return Digits { digits, row };
+        }
+        if reads_back(digits + 1, row, bits) {
+            return Digits {
+                digits: digits + 1,
+                row,
+            };
+        }
     }
 }

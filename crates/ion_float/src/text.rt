@@ -75,7 +75,7 @@ fn push_magnitude(text: &mut ArrayString<24>, bits: u64)
 fn push_number(text: &mut ArrayString<24>, number: Digits)
     requires room { array_string_len text.old ≤ 1 }
     requires few { number.digits < 10 ^ 17 }
-    requires row { number.row ≤ 651 }
+    requires row { number.row < 651 }
     ensures { text.new.bytes ≡ text.old.bytes ++ digits_text (number.digits, number.row) }
 {
     let mut buffer = Buffer::new();
@@ -90,7 +90,7 @@ fn push_number(text: &mut ArrayString<24>, number: Digits)
 fn exponent(count: usize, row: u32) -> i32
     requires some { 1 ≤ count }
     requires few { count ≤ 17 }
-    requires row { row ≤ 651 }
+    requires row { row < 651 }
     ensures value { result ≡ exponent_of count row }
     ensures least { neg_ℤ (pos 342) ≤ℤ result }
     ensures most { result ≤ℤ pos 325 }

@@ -1,10 +1,7 @@
 use Rattle.std.proofs.Common.{◌∙◌, ap, ◌++◌, List, ℕ, arith}
 use Rattle.ion_float.specs.Text.{digits_text}
-use Rattle.ion_float.proofs.TextOfBits.{shortest-row, above_text}
+use Rattle.ion_float.proofs.TextOfBits.{above_text}
 use Rattle.ion_float.proofs.text.push_magnitude.Goals as goal
-
-pub push_number-requires-clause-row : goal.push_number-requires-clause-row
-push_number-requires-clause-row c = shortest-row c.args.bits c.shortest.result.digits c.shortest.result.row c.shortest.ensures.exact
 
 pub returns-else-bits-eq0 : goal.returns-else-bits-eq0
 returns-else-bits-eq0 c =

@@ -177,7 +177,7 @@ zero_or_not (inf s) h = absurd (true≢false (sym h))
 zero_or_not (fin true m e) h = absurd (true≢false (sym h))
 zero_or_not (fin false m e) h = (refl, omega (arith, ap (λ (z : ℕ). z * up e) (eqb-true m 0 h)))
 
-zero_fits : (f : Format) (s : Bool) → T (fits f (fin s zero (pos 0)))
+pub zero_fits : (f : Format) (s : Bool) → T (fits f (fin s zero (pos 0)))
 unfolding fits
 zero_fits f s = tt
 

@@ -14,11 +14,11 @@ use lib.Ieee.{Float, nan, inf, fin, Format, binary64, prec, low, hid, top, ones,
 use lib.Ieee.Bits.{to_bits-of_bits, nan_bits_is, nan_bits_above, is_true}
 use lib.Ieee.Exact.{HasValue}
 use lib.Ieee.Positive.{positive}
-use Rattle.std.proofs.lemmas.Bool.{cases_Bool, eqb-true, lt-ltb, ltb-false, leb-true, false_from_ne_true}
+use Rattle.std.proofs.lemmas.Bool.{cases_Bool, cases_lt, eqb-true, lt-ltb, ltb-false, leb-true, false_from_ne_true}
 use Rattle.std.specs.Float.{float_with_sign}
-use Rattle.ion_float.specs.Shortest.{IsAboveZero, IsPositive, shortest}
+use Rattle.ion_float.specs.Shortest.{IsAboveZero, IsPositive, near, reads_as, search, shortest}
 use Rattle.ion_float.specs.Text.{pointed, digits_text, magnitude_text, float_text}
-use Rattle.ion_float.proofs.FloatBits.{infinite-bits, below-bits}
+use Rattle.ion_float.proofs.FloatBits.{infinite-bits, below-bits, nan_above, nan_there}
 use Rattle.ion_float.proofs.Between.{positive-number}
 use Rattle.ion_float.proofs.Reading.{is-positive}
 
@@ -131,6 +131,64 @@ above_text bits h =
     let p = is-positive bits h in
     ap (λ (b : ℕ). digits_text (shortest b)) (sym (to_bits-of_bits binary64 bits (omega (arith, h.1)) (positive-number _ p)))
     ∙ number_text (from_bits binary64 bits) p
+
+-- ---- the row
+
+search-row : (x : Float) (bits n : ℕ) (b c : Bool) → (search x bits n b c).1 ≤ n
+unfolding search
+search-row x bits n true c = omega arith
+search-row x bits n false true = omega arith
+search-row x bits zero false false = omega arith
+search-row x bits (suc n) false false = let more = search-row x bits n (reads_as bits (near x n) n) (reads_as bits (near x n + 1) n) in step more
+  where
+    step : {a b : ℕ} → a ≤ b → a ≤ suc b
+    step h = omega arith
+
+pub shortest-row : (bits : ℕ) → (shortest bits).1 ≤ 651
+unfolding shortest
+shortest-row bits = search-row (of_bits binary64 bits) bits 651 false false
+
+-- ---- the bits of a float above zero
+
+sign-other : (y : Float) (m : ℕ) (e : ℤ) → float_with_sign true y ≡ fin false (suc m) e → ⊥
+unfolding float_with_sign
+sign-other nan m e h = cc
+sign-other (inf s) m e h = cc
+sign-other (fin s n d) m e h = cc
+
+zero-other : (m : ℕ) (e : ℤ) → from_bits binary64 0 ≡ fin false (suc m) e → ⊥
+unfolding of_bits
+zero-other m e h = cc
+
+infinite-other : (m : ℕ) (e : ℤ) → inf false ≡ fin false (suc m) e → ⊥
+infinite-other m e h = cc
+
+nan-other : (m : ℕ) (e : ℤ) → nan ≡ fin false (suc m) e → ⊥
+nan-other m e h = cc
+
+above-least : (bits m : ℕ) (e : ℤ) → from_bits binary64 bits ≡ fin false (suc m) e → 0 < bits
+above-least bits m e h = elim (eq-zero-or-pos bits) [
+  | inl z ↦ absurd (zero-other m e (rw z at h))
+  | inr p ↦ p
+]
+
+below-sign : (bits m : ℕ) (e : ℤ) → bits < 2 ^ 64 → from_bits binary64 bits ≡ fin false (suc m) e → bits < 2 ^ 63
+below-sign bits m e fits h = elim (cases_lt bits (2 ^ 63)) [
+  | inl l ↦ l
+  | inr g ↦ absurd (sign-other (from_bits binary64 (bits - 2 ^ 63)) m e (sym (sign-bits bits g fits) ∙ h))
+]
+
+pub above-zero : (bits m : ℕ) (e : ℤ) → bits < 2 ^ 64 → from_bits binary64 bits ≡ fin false (suc m) e → IsAboveZero bits
+above-zero bits m e fits h =
+    let low = below-sign bits m e fits h in
+    let most : bits < 2047 * 2 ^ 52 = elim (cases_lt bits (2047 * 2 ^ 52)) [
+      | inl l ↦ l
+      | inr g ↦ elim (cases_lt (2047 * 2 ^ 52) bits) [
+        | inl l ↦ absurd (nan-other m e (sym nan_there ∙ nan_above bits (omega arith) ∙ h))
+        | inr k ↦ let same : bits ≡ 9218868437227405312 = omega arith in absurd (infinite-other m e (sym infinite-bits ∙ ap (from_bits binary64) (sym same) ∙ h))
+      ]
+    ] in
+    (above-least bits m e h, most)
 
 -- ---- lengths
 

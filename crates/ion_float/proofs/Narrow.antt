@@ -171,7 +171,7 @@ narrow_above bits h =
 
 -- ---- octets
 
-zero_or_not : (x : Float) → is_positive_zero x ≡ true → HasValue x false 0 1
+pub zero_or_not : (x : Float) → is_positive_zero x ≡ true → HasValue x false 0 1
 zero_or_not nan h = absurd (true≢false (sym h))
 zero_or_not (inf s) h = absurd (true≢false (sym h))
 zero_or_not (fin true m e) h = absurd (true≢false (sym h))

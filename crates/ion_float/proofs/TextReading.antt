@@ -1,19 +1,23 @@
 -- What is read from a run by its shape, and what is parsed from it.
-use Rattle.std.proofs.Common.{◌≡◌, ◌≢◌, ℕ, suc, ◌-◌, ℤ, pos, ◌-ℤ◌, Bool, true, false, not, ◌&&◌, ◌||◌, ◌==◌, nat_lt, if◌then◌else◌, T, Option, Some, None, Result, Ok, Err, List, [], ◌∷◌, length, filter, inl, inr, refl, sym, ap, ◌∙◌, subst, arith, from_bits}
+use Rattle.std.proofs.Common.{◌≡◌, ◌≢◌, ◌⊎◌, ℕ, suc, ◌-◌, ◌*◌, ◌^◌, ℤ, pos, negsuc, IfOk, IfErr, IfSome, codes, ◌++◌, ◌-ℤ◌, Bool, true, false, not, ◌&&◌, ◌||◌, ◌==◌, nat_lt, if◌then◌else◌, T, Option, Some, None, Result, Ok, Err, List, [], ◌∷◌, length, filter, inl, inr, refl, sym, ap, ◌∙◌, subst, arith, from_bits}
 use mathlib.Core.Bool.{true≢false}
 use Rattle.std.proofs.lemmas.Bool.{cases_Bool, and_parts, or_parts, ne_eqb}
 use Rattle.std.proofs.lemmas.Bool.Decides.{nat_tests}
 use Rattle.std.specs.Float.{float_is_finite}
 use Rattle.std.specs.Float.Parse.{parse_float}
-use lib.Ieee.{Float, nan, inf, fin, binary64, fits, to_bits, of_bits}
+use lib.Ieee.{Float, Format, nan, inf, fin, binary64, fits, to_bits, of_bits}
+use lib.Ieee.Fits.{round-fits}
+use Rattle.fast_float.specs.Rounding.{nearest_to_decimal}
+use Rattle.ion_float.specs.Float.{IsFloat}
 use lib.Ieee.Bits.{of_bits-to_bits}
 use Rattle.ion_meter.specs.declared.fault.Reason.{Reason}
 use Rattle.ion_meter.specs.declared.fault.Reason.TheVariants.{BadToken, Range}
 use Rattle.ion_meter.specs.declared.fault.Reason.TheVariants as reason
 use Rattle.ion_value.specs.declared.decimal.Decimal.{Decimal}
-use Rattle.ion_value.specs.Digits.{all_are, is_digit, has_minus, without_minus}
+use Rattle.std.specs.Str.{bytes_eq}
+use Rattle.ion_value.specs.Digits.{all_are, is_digit, digits_value, has_minus, without_minus}
 use Rattle.ion_value.specs.Decimal as decimal
-use Rattle.ion_value.specs.Decimal.{Parts, parts_of, is_exponent_mark, is_decimal_mark, is_mantissa, is_power, power_digits, is_decimal, is_exponent, decimal_in_range, decimal_of_parts, decimal_of_text}
+use Rattle.ion_value.specs.Decimal.{Parts, parts_of, is_exponent_mark, is_decimal_mark, is_mantissa, is_power, power_digits, is_decimal, is_exponent, power_value, fraction_digits, decimal_in_range, decimal_of_parts, decimal_of_text}
 use Rattle.ion_float.specs.Text.{is_float_mark, is_float, finite, float_word, or_else, float_of_parts, float_of_text}
 use Rattle.ion_float.proofs.Closing.{closed}
 use Rattle.ion_float.proofs.Parsing.{nearest-parts, parse-is}
@@ -122,11 +126,11 @@ plain-closed (b ∷ run) h =
 
 -- ---- what a decimal's answer says of the shape
 
-shape-alike : (run : List ℕ) → is_float (parts_of (without_minus run)) ≡ true → decimal_of_text run ≡ Err reason.Float
+pub shape-alike : (run : List ℕ) → is_float (parts_of (without_minus run)) ≡ true → decimal_of_text run ≡ Err reason.Float
 unfolding decimal_of_text
 shape-alike run h = float-refused (has_minus run) (parts_of (without_minus run)) h
 
-alike-shape : (run : List ℕ) → decimal_of_text run ≡ Err reason.Float → is_float (parts_of (without_minus run)) ≡ true
+pub alike-shape : (run : List ℕ) → decimal_of_text run ≡ Err reason.Float → is_float (parts_of (without_minus run)) ≡ true
 unfolding decimal_of_text
 alike-shape run h = refused-float (has_minus run) (parts_of (without_minus run)) h
 
@@ -150,3 +154,47 @@ shape-other run r h other = elim (cases_Bool (is_float (parts_of (without_minus 
   | inl e ↦ absurd (other (err-same r (decimal_of_text run) h (shape-alike run e)))
   | inr e ↦ sym e
 ]
+
+-- ---- what is read is a float, or is refused for its shape or its range
+
+nearest-fits : (f : Format) (s : Bool) (n : ℕ) (z : ℤ) → T (fits f (nearest_to_decimal f s n z))
+nearest-fits f s n (pos e) = round-fits f s (n * 10 ^ e) 1
+nearest-fits f s n (negsuc e) = round-fits f s n (10 ^ suc e)
+
+-- a float, or a reason of these
+abbrev pub IsRead : Result Float Reason → Type 0
+IsRead r = IfOk r IsFloat × IfErr r (λ e. (e ≡ BadToken) ⊎ (e ≡ Range))
+
+finite-read : (x : Float) → IsFloat x → IsRead (finite x)
+finite-read nan h = (tt, inr refl)
+finite-read (inf s) h = (tt, inr refl)
+finite-read (fin s m e) h = (h, tt)
+
+shape-finite : (b s : Bool) (n : ℕ) (z : ℤ) → IsRead (if b then finite (nearest_to_decimal binary64 s n z) else Err BadToken)
+shape-finite true s n z = finite-read (nearest_to_decimal binary64 s n z) (nearest-fits binary64 s n z)
+shape-finite false s n z = (tt, inl refl)
+
+parts-are-read : (s : Bool) (p : Parts) → IsRead (float_of_parts s p)
+parts-are-read s p =
+    shape-finite (is_float p) s (digits_value 10 (filter is_digit p.whole ++ fraction_digits p.fraction)) (power_value p.power -ℤ pos (length (fraction_digits p.fraction)))
+
+word-fits : (a b c : Bool) → IfSome (if a then Some nan else (if b then Some (inf false) else (if c then Some (inf true) else None))) IsFloat
+unfolding fits
+word-fits true b c = tt
+word-fits false true c = tt
+word-fits false false true = tt
+word-fits false false false = tt
+
+else-read : (o : Option Float) (r : Result Float Reason) → IfSome o IsFloat → IsRead r → IsRead (or_else o r)
+else-read (Some x) r h k = (h, tt)
+else-read None r h k = k
+
+pub text-is-read : (run : List ℕ) → IsRead (float_of_text run)
+unfolding float_of_text
+text-is-read run =
+    else-read (float_word run) (float_of_parts (has_minus run) (parts_of (without_minus run)))
+    (word-fits (bytes_eq run (codes "nan")) (bytes_eq run (codes "+inf")) (bytes_eq run (codes "-inf")))
+    (parts-are-read (has_minus run) (parts_of (without_minus run)))
+
+pub same-read : (r : Result Float Reason) (run : List ℕ) → r ≡ float_of_text run → IsRead r
+same-read r run e = subst IsRead (sym e) (text-is-read run)

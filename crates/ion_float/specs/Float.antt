@@ -1,7 +1,7 @@
 -- Floats, and the bits that they are kept as.
-use Rattle.std.specs.Prelude.{◌≡◌, ℕ, to_bits, from_bits}
+use Rattle.std.specs.Prelude.{◌≡◌, ℕ, T, to_bits, from_bits}
 use mathlib.Core.Path.{ap}
-use lib.Ieee.{Float, binary64}
+use lib.Ieee.{Float, binary64, fits}
 use Rattle.ion_float.specs.declared.float.Float64.TheInside.{Inside}
 
 -- the float with the bits that are kept
@@ -19,3 +19,7 @@ kept_bits x = record { bits = to_bits binary64 x }
 -- those that are kept are those of the float that they stand for
 pub bits_are_back : (a : Inside) → IsKept a → kept_bits (value_of a) ≡ a
 bits_are_back a h = ap (λ (b : ℕ). record { bits = b }) h
+
+-- the floats of Ion: not a number, or a number or infinity that binary64 has
+abbrev pub IsFloat : Float → Type 0
+IsFloat x = T (fits binary64 x)

@@ -1,6 +1,7 @@
 //! Floats as their bits.
 ghost use Rattle.std.specs.Prelude.{◌≡◌, to_bits, from_bits, is_nan};
 ghost use Rattle.std.specs.Float.{binary64, nan, inf, NotNan};
+ghost use Rattle.ion_float.specs.Float.{IsFloat};
 
 use std::marker::Model;
 
@@ -93,6 +94,7 @@ impl Float64 {
     pub fn bits(self) -> u64
         ensures bits { result ≡ to_bits binary64 self }
         ensures value { from_bits binary64 result ≡ self }
+        ensures float { IsFloat self }
     {
         self.bits
     }

@@ -1,9 +1,35 @@
-//! Laws of the definition that the contracts cite, each the contract of a function that does
+//! Laws of the definitions that the contracts cite, each the contract of a function that does
 //! nothing.
 ghost use Rattle.std.specs.Prelude.{ℕ};
+ghost use Rattle.ion_float.specs.Laws.{FloatOctetsAreRead, FloatOctetsAreFewest, FloatTextIsRead, FloatTextIsUnique, FloatShapeIsRefused};
 ghost use Rattle.ion_float.specs.Shortest.{IsAboveZero, reads, shortest};
 
 /// The shortest decimal of a finite double above zero reads as it.
 pub fn shortest_reads_back()
     ensures { (bits : ℕ) → IsAboveZero bits → reads (shortest bits).0 (shortest bits).1 bits }
+{}
+
+/// Reading the octets of a float gives the float.
+pub fn float_octets_are_read()
+    ensures { FloatOctetsAreRead }
+{}
+
+/// No other octets that are read to a float are fewer than those that are written for it.
+pub fn float_octets_are_fewest()
+    ensures { FloatOctetsAreFewest }
+{}
+
+/// Reading the text of a float gives the float.
+pub fn float_text_is_read()
+    ensures { FloatTextIsRead }
+{}
+
+/// Floats with the same text are the same.
+pub fn float_text_is_unique()
+    ensures { FloatTextIsUnique }
+{}
+
+/// A run of text has the shape of a float exactly where it is refused as a decimal for that.
+pub fn float_shape_is_refused()
+    ensures { FloatShapeIsRefused }
 {}

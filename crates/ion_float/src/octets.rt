@@ -1,7 +1,8 @@
 //! Floats in octets.
-ghost use Rattle.std.specs.Prelude.{◌≡◌, ◌<◌, ◌≤◌, All, length, Some, None, if◌then◌else◌, to_bits, from_bits};
+ghost use Rattle.std.specs.Prelude.{◌≡◌, ◌<◌, ◌≤◌, All, IfSome, length, Some, None, if◌then◌else◌, to_bits, from_bits};
 ghost use Rattle.std.specs.Float.{binary32};
 ghost use lib.Ieee.{fits};
+ghost use Rattle.ion_float.specs.Float.{IsFloat};
 ghost use Rattle.ion_float.specs.Octets.{float_of_octets, float_octets};
 
 use crate::float::Float64;
@@ -21,7 +22,8 @@ const SIGN: u32 = 1 << 31;
 /// first octet counting most (binary encoding, "4: float"). There is none of any other length.
 #[inline]
 pub fn float_from_octets(body: &[u8]) -> Option<Float64>
-    ensures { result ≡ float_of_octets body.now }
+    ensures read { result ≡ float_of_octets body.now }
+    ensures valid { IfSome result IsFloat }
 {
     match body {
         [] => Some(Float64::from_bits(0)),

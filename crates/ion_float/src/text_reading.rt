@@ -1,9 +1,10 @@
 //! Floats read from text.
-ghost use Rattle.std.specs.Prelude.{◌≡◌, ◌==◌, ◌≤◌, Some, true, take, filter, not, length};
+ghost use Rattle.std.specs.Prelude.{◌≡◌, ◌⊎◌, ◌==◌, ◌≤◌, IfOk, IfErr, Some, true, take, filter, not, length};
 ghost use Rattle.std.specs.Float.{binary64, Float};
 ghost use Rattle.std.specs.Float.Parse.{parse_float};
 ghost use Rattle.ion_value.specs.Digits.{all_are, without_minus};
 ghost use Rattle.ion_value.specs.Decimal.{parts_of};
+ghost use Rattle.ion_float.specs.Float.{IsFloat};
 ghost use Rattle.ion_float.specs.Text.{is_float, finite, float_word, float_of_text};
 
 use crate::float::Float64;
@@ -19,7 +20,9 @@ use ion_value::decimal::decimal_from_text;
 /// is out of `Range`, and every other run a `BadToken`. The run is scratch afterwards: its
 /// underscores are closed up in place.
 pub fn float_from_text(run: &mut [u8]) -> Result<Float64, Reason>
-    ensures { result ≡ float_of_text run.old }
+    ensures read { result ≡ float_of_text run.old }
+    ensures valid { IfOk result IsFloat }
+    ensures refused { IfErr result (λ e. (e ≡ Reason.BadToken) ⊎ (e ≡ Reason.Range)) }
 {
     if let Some(float) = word(run) {
         return Ok(float);
@@ -34,7 +37,9 @@ pub fn float_from_text(run: &mut [u8]) -> Result<Float64, Reason>
 /// Reads a float in text that has no underscore, as `float_from_text` does.
 pub fn float_from_plain_text(run: &[u8]) -> Result<Float64, Reason>
     requires { all_are (λ b. not (b == 95)) run.now ≡ true }
-    ensures { result ≡ float_of_text run.now }
+    ensures read { result ≡ float_of_text run.now }
+    ensures valid { IfOk result IsFloat }
+    ensures refused { IfErr result (λ e. (e ≡ Reason.BadToken) ⊎ (e ≡ Reason.Range)) }
 {
     if let Some(float) = word(run) {
         return Ok(float);

@@ -1,13 +1,12 @@
 -- The parts of a run that is a float, without underscores.
-use Rattle.std.proofs.Common.{◌≡◌, ◌≢◌, ℕ, zero, suc, ◌+◌, ◌-◌, ◌*◌, ◌^◌, ◌<◌, ◌≤◌, ℤ, pos, Bool, true, false, not, ◌&&◌, ◌||◌, ◌==◌, nat_lt, if◌then◌else◌, List, [], ◌∷◌, ◌++◌, length, drop, map, filter, inl, inr, refl, sym, ap, ◌∙◌, subst, arith, append_assoc}
+use Rattle.std.proofs.Common.{◌≡◌, ℕ, suc, Bool, true, false, not, ◌&&◌, ◌||◌, ◌==◌, nat_lt, if◌then◌else◌, List, [], ◌∷◌, ◌++◌, length, filter, inl, inr, refl, sym, ap, ◌∙◌, subst, arith, append_assoc}
 use mathlib.Core.Bool.{true≢false}
-use Rattle.std.proofs.lemmas.Bool.{cases_Bool, and_parts, or_parts, eqb-true, ne_eqb, ltb-true}
+use Rattle.std.proofs.lemmas.Bool.{cases_Bool, and_parts, eqb-true}
 use Rattle.std.proofs.lemmas.Bool.Decides.{nat_tests}
-use Rattle.std.proofs.lemmas.List.{append-nil, length-map}
 use Rattle.std.proofs.lemmas.List.Elements.{filter-append}
-use Rattle.ion_value.specs.Number.{number, signed}
-use Rattle.ion_value.specs.Digits.{is_digit, digit_value, digits_from, are_digits, digits_value, first_is, all_are, is_whole, has_minus, without_minus, cut_at}
-use Rattle.ion_value.specs.Decimal.{is_exponent_mark, is_point, Parts, parts_of, is_fraction, fraction_digits, is_mantissa, has_sign, power_digits, is_power, power_value}
+use Rattle.ion_value.specs.Number.{signed}
+use Rattle.ion_value.specs.Digits.{is_digit, digits_from, are_digits, digits_value, all_are, is_whole, has_minus, without_minus, cut_at}
+use Rattle.ion_value.specs.Decimal.{is_exponent_mark, is_point, Parts, parts_of, is_fraction, fraction_digits, is_mantissa, power_digits, is_power, power_value}
 use Rattle.ion_float.specs.Text.{is_float_mark, is_float}
 use Rattle.ion_float.proofs.Scanning.{IsSign, none, plus, minus}
 
@@ -140,8 +139,16 @@ plus-power c [] h = absurd (true≢false (sym (and_parts (is_float_mark c && fal
 plus-power c (d ∷ ds) h =
     let parts = and_parts (is_float_mark c && nat_lt 0 (suc (length ds))) (all_are is_digit (d ∷ ds)) h in
     record {
-      mark = c; sign = 43 ∷ []; negative = false; first = d; rest = ds; is = refl;
-      marks = (and_parts (is_float_mark c) (nat_lt 0 (suc (length ds))) parts.0).0; signs = plus; digits = parts.1; value = refl;
+      mark = c;
+      sign = 43 ∷ [];
+      negative = false;
+      first = d;
+      rest = ds;
+      is = refl;
+      marks = (and_parts (is_float_mark c) (nat_lt 0 (suc (length ds))) parts.0).0;
+      signs = plus;
+      digits = parts.1;
+      value = refl;
     }
 
 minus-power : (c : ℕ) (ds : List ℕ) → is_power is_float_mark (c ∷ 45 ∷ ds) ≡ true → Exponent (c ∷ 45 ∷ ds)
@@ -149,8 +156,16 @@ minus-power c [] h = absurd (true≢false (sym (and_parts (is_float_mark c && fa
 minus-power c (d ∷ ds) h =
     let parts = and_parts (is_float_mark c && nat_lt 0 (suc (length ds))) (all_are is_digit (d ∷ ds)) h in
     record {
-      mark = c; sign = 45 ∷ []; negative = true; first = d; rest = ds; is = refl;
-      marks = (and_parts (is_float_mark c) (nat_lt 0 (suc (length ds))) parts.0).0; signs = minus; digits = parts.1; value = refl;
+      mark = c;
+      sign = 45 ∷ [];
+      negative = true;
+      first = d;
+      rest = ds;
+      is = refl;
+      marks = (and_parts (is_float_mark c) (nat_lt 0 (suc (length ds))) parts.0).0;
+      signs = minus;
+      digits = parts.1;
+      value = refl;
     }
 
 bare-power : (c d : ℕ) (ds : List ℕ) → (d == 43) ≡ false → (d == 45) ≡ false → is_power is_float_mark (c ∷ d ∷ ds) ≡ true → Exponent (c ∷ d ∷ ds)
@@ -159,8 +174,15 @@ bare-power c d ds e f h =
     let shape : ((is_float_mark c && nat_lt 0 (length (d ∷ ds))) && all_are is_digit (d ∷ ds)) ≡ true = rw same at h in
     let parts = and_parts (is_float_mark c && nat_lt 0 (suc (length ds))) (all_are is_digit (d ∷ ds)) shape in
     record {
-      mark = c; sign = []; negative = false; first = d; rest = ds; is = refl;
-      marks = (and_parts (is_float_mark c) (nat_lt 0 (suc (length ds))) parts.0).0; signs = none; digits = parts.1;
+      mark = c;
+      sign = [];
+      negative = false;
+      first = d;
+      rest = ds;
+      is = refl;
+      marks = (and_parts (is_float_mark c) (nat_lt 0 (suc (length ds))) parts.0).0;
+      signs = none;
+      digits = parts.1;
       value = rw (e, f) refl;
     }
 

@@ -64,8 +64,8 @@ moves-over run old count place m within mark =
 -- one turn of the loop
 pub kept-turn : (run old new : List ℕ) (count place n : ℕ) → Moves run old count place → place < length old → get_or run place 0 ≢ 95
     → new ≡ set run count (get_or run place 0) → n ≡ count + 1 → Moves new old n (place + 1)
-kept-turn run old new count place n m within other e f = rw (e, f, add-one, add-one) (moves-on run old count place m (omega (arith, m.size)) other)
+kept-turn run old new count place n m within other e f = rw (e, f, add-one count, add-one place) (moves-on run old count place m (omega (arith, m.size)) other)
 
 pub left-turn : (run old new : List ℕ) (count place n : ℕ) → Moves run old count place → place < length old → get_or run place 0 ≡ 95
     → new ≡ run → n ≡ count → Moves new old n (place + 1)
-left-turn run old new count place n m within mark e f = rw (e, f, add-one) (moves-over run old count place m (omega (arith, m.size)) mark)
+left-turn run old new count place n m within mark e f = rw (e, f, add-one place) (moves-over run old count place m (omega (arith, m.size)) mark)

@@ -2,8 +2,8 @@
 use Rattle.std.proofs.Common.{◌≡◌, ℕ, zero, suc, ◌+◌, ◌*◌, ◌^◌, ◌<◌, ◌≤◌, Bool, true, false, refl, sym, ◌∙◌, inl, inr, arith, add-one}
 use mathlib.Core.Bool.{true≢false}
 use Rattle.std.proofs.lemmas.Bool.{cases_lt}
-use lib.Ieee.{Float, binary64, ones, hid, of_bits}
-use Rattle.ion_float.specs.Shortest.{IsAboveZero, IsPositive, near, reads_as, search, shortest}
+use lib.Ieee.{binary64, of_bits}
+use Rattle.ion_float.specs.Shortest.{IsAboveZero, near, reads_as, search, shortest}
 use Rattle.ion_float.proofs.Few.{reads-many, next_near, first_near}
 use Rattle.ion_float.proofs.Reading.{is-positive, some_digits}
 use Rattle.ion_float.proofs.Search.{reads_as-true}

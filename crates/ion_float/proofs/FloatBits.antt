@@ -1,11 +1,11 @@
 -- The bits of a float as they are kept.
-use Rattle.std.proofs.Common.{◌≡◌, ℕ, ◌*◌, ◌%◌, ◌^◌, ◌<◌, ◌≤◌, Bool, true, false, T, not, inl, inr, refl, sym, ap, ◌∙◌, subst, arith, from_bits}
+use Rattle.std.proofs.Common.{◌≡◌, ℕ, ◌*◌, ◌%◌, ◌^◌, ◌<◌, ◌≤◌, Bool, true, false, T, not, inl, inr, refl, sym, ap, ◌∙◌, subst, from_bits}
 use Rattle.std.proofs.lemmas.Bool.{cases_Bool, eqb-true}
 use mathlib.Core.Bool.{true≢false}
 use lib.Dec.{eqb, lt→ltb}
 use lib.Ieee.Fits.{eq→eqb}
-use lib.Ieee.{Float, nan, inf, fin, binary64, is_nan, nan_bits, to_bits, of_bits, ones, hid, top}
-use lib.Ieee.Bits.{to_bits-of_bits, of_bits-to_bits, nan_bits_is, nan_bits_above, is_true}
+use lib.Ieee.{Float, nan, inf, fin, binary64, is_nan, to_bits, of_bits, ones, hid, top}
+use lib.Ieee.Bits.{to_bits-of_bits, nan_bits_is, nan_bits_above, is_true}
 use Rattle.std.proofs.lemmas.Float.{not_nan_f64_bits}
 
 -- the pattern that is written where there is no number

@@ -1,13 +1,13 @@
 -- A float in the narrower format.
-use Rattle.std.proofs.Common.{◌≡◌, ℕ, zero, suc, ◌+◌, ◌-◌, ◌*◌, ◌/◌, ◌%◌, ◌^◌, ◌<◌, ◌≤◌, ℤ, pos, negsuc, Bool, true, false, cond, if◌then◌else◌, ◌&&◌, T, not, inl, inr, refl, sym, ap, ◌∙◌, subst, arith, mul-le-mul_right, pow-add, pow_pos, Some, None, [], List, w32, w64, from_bits}
+use Rattle.std.proofs.Common.{◌≡◌, ℕ, zero, suc, ◌+◌, ◌-◌, ◌*◌, ◌/◌, ◌%◌, ◌^◌, ◌<◌, ◌≤◌, ℤ, pos, negsuc, Bool, true, false, cond, if◌then◌else◌, ◌&&◌, T, not, inl, inr, refl, sym, ap, ◌∙◌, subst, arith, pow-add, pow_pos, Some, None, [], w32, w64, from_bits}
 use Rattle.std.specs.Int.{to_be_bytes}
 use Rattle.ion_float.specs.Octets.{positive_zero, is_positive_zero, float_octets}
 use mathlib.Core.Bool.{true≢false}
 use Rattle.std.proofs.Math.Nat.{eq_of_mul-eq-mul_right}
 use Rattle.std.proofs.lemmas.Bool.{cases_Bool, cases_lt, eqb-true}
 use lib.Pow.{pow-lt}
-use native.Mathlib.Nat.{mul-lt-mul_of_pos_right, mul_assoc, mul_right_comm}
-use lib.Dec.{lt→ltb, eqb, ltb, leb, ltb→lt, leb→le, eqb→eq}
+use native.Mathlib.Nat.{mul-lt-mul_of_pos_right}
+use lib.Dec.{lt→ltb, eqb, ltb, leb, ltb→lt, leb→le}
 use lib.Ieee.{Float, nan, inf, fin, Format, binary32, binary64, of_bits, nan_bits, prec, emax, low, up, down, size, top, hid, ones, odd, units, round, fits, is_nan, to_bits}
 use lib.Ieee.Fits.{down_pos, round_is, round-fits, fits_widens, and_i, and_l, and_r, nan-fits, inf-fits}
 use lib.Ieee.Bits.{of_bits-to_bits, of_bits-fits, nan_bits_is, nan_bits_above, is_true}
@@ -211,6 +211,7 @@ four_octets x bits n b e z h =
   where
     some_inj : {a b : ℕ} → Some a ≡ Some b → a ≡ b
     some_inj h = cc
+
     some_none : {a : ℕ} → Some a ≡ None → ⊥
     some_none h = cc
 

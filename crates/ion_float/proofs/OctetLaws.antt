@@ -1,9 +1,9 @@
 -- Laws of floats in octets.
-use Rattle.std.proofs.Common.{◌≡◌, ◌≤◌, ◌<◌, ℕ, ◌==◌, if◌then◌else◌, Bool, true, false, T, Option, Some, None, IfSome, List, [], length, w32, w64, from_bits, inl, inr, refl, sym, ap, ◌∙◌, subst, arith}
+use Rattle.std.proofs.Common.{◌≡◌, ◌≤◌, ℕ, ◌==◌, if◌then◌else◌, Bool, true, false, T, Option, Some, None, IfSome, List, [], length, w32, w64, from_bits, inl, inr, refl, sym, ap, ◌∙◌, subst, arith}
 use Rattle.std.specs.Int.{from_be_bytes, to_be_bytes}
 use Rattle.std.proofs.lemmas.Bool.{cases_Bool, eqb-true}
 use Rattle.std.proofs.lemmas.Nat.{from_be_bytes-to_be_bytes_4, from_be_bytes-to_be_bytes_8}
-use lib.Ieee.{Float, Format, binary32, binary64, fits, to_bits, of_bits}
+use lib.Ieee.{Float, binary32, binary64, fits, to_bits, of_bits}
 use lib.Ieee.Bits.{of_bits-to_bits, of_bits-fits, to_bits-lt, is_true}
 use lib.Ieee.Fits.{fits_widens}
 use Rattle.ion_float.specs.Float.{IsFloat}

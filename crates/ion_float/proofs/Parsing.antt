@@ -1,5 +1,5 @@
 -- What is parsed from a run that is a float, without its underscores, is the float nearest to the number that its parts spell.
-use Rattle.std.proofs.Common.{◌≡◌, ℕ, zero, suc, ◌+◌, ◌-◌, ◌*◌, ◌^◌, ◌<◌, ◌≤◌, ℤ, pos, negsuc, neg_ℤ, ◌-ℤ◌, Bool, true, false, not, ◌&&◌, ◌||◌, ◌==◌, nat_lt, if◌then◌else◌, Some, List, [], ◌∷◌, ◌++◌, length, get_or, pow-add, map, filter, inl, inr, refl, sym, ap, ◌∙◌, arith}
+use Rattle.std.proofs.Common.{◌≡◌, ℕ, suc, ◌+◌, ◌*◌, ◌^◌, ◌<◌, ℤ, pos, negsuc, ◌-ℤ◌, Bool, true, false, ◌==◌, if◌then◌else◌, Some, List, [], ◌∷◌, ◌++◌, length, get_or, pow-add, map, filter, refl, sym, ap, ◌∙◌, arith}
 use Rattle.std.proofs.lemmas.Bool.{and_parts, lt-ltb, eq-eqb}
 use Rattle.std.proofs.lemmas.Bool.Decides.{nat_tests}
 use Rattle.std.proofs.lemmas.Int.{ints}
@@ -18,8 +18,8 @@ use Rattle.ion_value.specs.Digits.{is_digit, digit_value, digits_value, all_are,
 use Rattle.ion_value.specs.Decimal.{Parts, parts_of, fraction_digits, power_value}
 use Rattle.ion_value.proofs.LeadingDigits.{all_are-append}
 use Rattle.ion_float.specs.Text.{is_float}
-use Rattle.ion_float.proofs.Scanning.{IsSign, numeral, scan-plain, scan-pointed}
-use Rattle.ion_float.proofs.Closing.{closed, closed-all, filter-digits, Begins, filter-begins, IsFraction, without, pointed, fraction-is, Exponent, exponent-is, Shape, shape-is, parts-closed, sign-run}
+use Rattle.ion_float.proofs.Scanning.{numeral, scan-plain, scan-pointed}
+use Rattle.ion_float.proofs.Closing.{closed, closed-all, filter-digits, Begins, filter-begins, IsFraction, without, pointed, fraction-is, Exponent, exponent-is, shape-is, parts-closed, sign-run}
 
 -- ---- the number that digits spell, in the two words for it
 

@@ -1,5 +1,5 @@
 -- Reading the text of a float gives the float.
-use Rattle.std.proofs.Common.{◌≡◌, ℕ, zero, suc, ◌+◌, ◌-◌, ◌*◌, ◌^◌, ◌<◌, ◌≤◌, ℤ, pos, negsuc, ◌-ℤ◌, Bool, true, false, not, ◌&&◌, ◌||◌, ◌==◌, nat_lt, cond, if◌then◌else◌, T, Option, Some, None, Result, Ok, List, [], ◌∷◌, ◌++◌, length, filter, codes, inl, inr, refl, sym, ap, ◌∙◌, subst, arith, append-nil}
+use Rattle.std.proofs.Common.{◌≡◌, ℕ, zero, suc, ◌+◌, ◌-◌, ◌*◌, ◌^◌, ◌<◌, ◌≤◌, ℤ, pos, ◌-ℤ◌, Bool, true, false, not, ◌||◌, ◌==◌, cond, T, Option, None, Result, Ok, List, [], ◌∷◌, ◌++◌, length, filter, refl, sym, ap, ◌∙◌, subst, arith, append-nil}
 use Rattle.std.specs.Fmt.{decimal}
 use Rattle.std.specs.Float.{float_with_sign}
 use Rattle.std.proofs.lemmas.Bool.{and_parts}
@@ -7,16 +7,16 @@ use Rattle.std.proofs.lemmas.Bool.Decides.{nat_tests}
 use Rattle.std.proofs.lemmas.Int.{ints}
 use Rattle.fast_float.specs.Rounding.{nearest_to_decimal}
 use lib.Dec.{ltb}
-use lib.Ieee.{Float, nan, inf, fin, Format, binary64, prec, emax, low, odd, units, round, fits, to_bits, of_bits}
+use lib.Ieee.{Float, nan, inf, fin, Format, binary64, prec, emax, low, odd, units, round, fits, to_bits}
 use lib.Ieee.Fits.{round_is}
 use mathlib.Core.Bool.{true≢false}
 use lib.Ieee.Bits.{of_bits-to_bits, to_bits-lt}
 use Rattle.ion_meter.specs.declared.fault.Reason.{Reason}
-use Rattle.ion_value.specs.Digits.{is_digit, are_digits, digits_value, first_is, all_are, is_whole, has_minus, without_minus, cut_at}
-use Rattle.ion_value.specs.Decimal.{IsExponent, integer_text, is_exponent_mark, parts_of, is_fraction, fraction_digits, is_mantissa, is_power, power_value}
-use Rattle.ion_value.proofs.TextDecimals.{cut-prefix, apart-mark, make_parts, parts-prefix, parts-point, all-prefix, all-filter, all-some, Spells, spells, sign-plus, signed_text, sign-read, first-append, Power, power-written}
-use Rattle.ion_float.specs.Shortest.{IsAboveZero, reads, shortest}
-use Rattle.ion_float.specs.Text.{pointed, exponent_of, digits_text, magnitude_text, float_text, is_float_mark, is_float, finite, float_of_parts, float_word, or_else, float_of_text}
+use Rattle.ion_value.specs.Digits.{is_digit, digits_value, first_is, all_are, is_whole, has_minus, without_minus, cut_at}
+use Rattle.ion_value.specs.Decimal.{IsExponent, integer_text, is_exponent_mark, parts_of, is_fraction, fraction_digits, is_power, power_value}
+use Rattle.ion_value.proofs.TextDecimals.{cut-prefix, apart-mark, make_parts, parts-prefix, parts-point, all-prefix, all-filter, all-some, Spells, spells, signed_text, sign-read, Power, power-written}
+use Rattle.ion_float.specs.Shortest.{shortest}
+use Rattle.ion_float.specs.Text.{pointed, exponent_of, digits_text, magnitude_text, float_text, is_float_mark, finite, float_of_parts, float_word, or_else, float_of_text}
 use Rattle.ion_float.proofs.Parsing.{nearest-tens}
 use Rattle.ion_float.proofs.FewDigits.{few-digits}
 use Rattle.ion_float.proofs.Narrow.{same_value, zero_fits}

@@ -1,5 +1,5 @@
 -- The text of a float by its bits.
-use Rattle.std.proofs.Common.{◌≡◌, ℕ, zero, suc, ◌+◌, ◌-◌, ◌*◌, ◌/◌, ◌%◌, ◌^◌, ◌<◌, ◌≤◌, ◌≢◌, pos, negsuc, neg_ℤ, w32, SFits, to_z, of_z, append_assoc, ◌≤ℤ◌, ℤ, Bool, true, false, cond, T, not, List, [], ◌∷◌, ◌++◌, length, codes, from_bits, inl, inr, refl, sym, ap, ◌∙◌, subst, arith}
+use Rattle.std.proofs.Common.{◌≡◌, ℕ, zero, suc, ◌+◌, ◌-◌, ◌*◌, ◌/◌, ◌%◌, ◌^◌, ◌<◌, ◌≤◌, ◌≢◌, pos, negsuc, neg_ℤ, w32, SFits, to_z, of_z, append_assoc, ◌≤ℤ◌, ℤ, Bool, true, false, cond, T, List, [], ◌∷◌, ◌++◌, length, codes, from_bits, inl, inr, refl, sym, ap, ◌∙◌, subst, arith}
 use mathlib.Core.Bool.{true≢false}
 use native.Mathlib.Nat.{eq-zero-or-pos}
 use Rattle.std.specs.Fmt.{decimal, signed_decimal}
@@ -9,15 +9,14 @@ use Rattle.ion_value.proofs.TextDecimals.{spells}
 use Rattle.std.proofs.lemmas.List.{length-append}
 use lib.Signed.{mag}
 use Rattle.ion_value.specs.Decimal.{integer_text}
-use lib.Dec.{leb, eqb, ltb, le→leb, leb→le}
-use lib.Ieee.{Float, nan, inf, fin, Format, binary64, prec, low, hid, top, ones, odd, is_nan, nan_bits, of_fields, of_bits, to_bits}
+use lib.Dec.{leb, eqb, le→leb}
+use lib.Ieee.{Float, nan, inf, fin, Format, binary64, prec, low, hid, top, ones, odd, is_nan, of_fields, of_bits, to_bits}
 use lib.Ieee.Bits.{to_bits-of_bits, nan_bits_is, nan_bits_above, is_true}
-use lib.Ieee.Exact.{HasValue}
 use lib.Ieee.Positive.{positive}
-use Rattle.std.proofs.lemmas.Bool.{cases_Bool, cases_lt, eqb-true, lt-ltb, ltb-false, leb-true, false_from_ne_true}
+use Rattle.std.proofs.lemmas.Bool.{cases_lt, ltb-false, leb-true, false_from_ne_true}
 use Rattle.std.specs.Float.{float_with_sign}
-use Rattle.ion_float.specs.Shortest.{IsAboveZero, IsPositive, near, reads_as, search, shortest}
-use Rattle.ion_float.specs.Text.{pointed, digits_text, magnitude_text, float_text}
+use Rattle.ion_float.specs.Shortest.{IsAboveZero, near, reads_as, search, shortest}
+use Rattle.ion_float.specs.Text.{pointed, digits_text, float_text}
 use Rattle.ion_float.proofs.FloatBits.{infinite-bits, below-bits, nan_above, nan_there}
 use Rattle.ion_float.proofs.Between.{positive-number}
 use Rattle.ion_float.proofs.Reading.{is-positive}

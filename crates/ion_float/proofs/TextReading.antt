@@ -1,23 +1,21 @@
 -- What is read from a run by its shape, and what is parsed from it.
-use Rattle.std.proofs.Common.{◌≡◌, ◌≢◌, ◌⊎◌, ℕ, suc, ◌-◌, ◌*◌, ◌^◌, ℤ, pos, negsuc, IfOk, IfErr, IfSome, codes, ◌++◌, ◌-ℤ◌, Bool, true, false, not, ◌&&◌, ◌||◌, ◌==◌, nat_lt, if◌then◌else◌, T, Option, Some, None, Result, Ok, Err, List, [], ◌∷◌, length, filter, inl, inr, refl, sym, ap, ◌∙◌, subst, arith, from_bits}
+use Rattle.std.proofs.Common.{◌≡◌, ◌⊎◌, ℕ, suc, ◌*◌, ◌^◌, ℤ, pos, negsuc, IfOk, IfErr, IfSome, codes, ◌++◌, ◌-ℤ◌, Bool, true, false, not, ◌&&◌, ◌||◌, ◌==◌, nat_lt, if◌then◌else◌, T, Option, Some, None, Result, Ok, Err, List, [], ◌∷◌, length, filter, inl, inr, refl, sym, ap, ◌∙◌, subst, arith}
 use mathlib.Core.Bool.{true≢false}
-use Rattle.std.proofs.lemmas.Bool.{cases_Bool, and_parts, or_parts, ne_eqb}
+use Rattle.std.proofs.lemmas.Bool.{cases_Bool, and_parts, ne_eqb}
 use Rattle.std.proofs.lemmas.Bool.Decides.{nat_tests}
 use Rattle.std.specs.Float.{float_is_finite}
 use Rattle.std.specs.Float.Parse.{parse_float}
-use lib.Ieee.{Float, Format, nan, inf, fin, binary64, fits, to_bits, of_bits}
+use lib.Ieee.{Float, Format, nan, inf, fin, binary64, fits}
 use lib.Ieee.Fits.{round-fits}
 use Rattle.fast_float.specs.Rounding.{nearest_to_decimal}
 use Rattle.ion_float.specs.Float.{IsFloat}
-use lib.Ieee.Bits.{of_bits-to_bits}
 use Rattle.ion_meter.specs.declared.fault.Reason.{Reason}
 use Rattle.ion_meter.specs.declared.fault.Reason.TheVariants.{BadToken, Range}
 use Rattle.ion_meter.specs.declared.fault.Reason.TheVariants as reason
 use Rattle.ion_value.specs.declared.decimal.Decimal.{Decimal}
 use Rattle.std.specs.Str.{bytes_eq}
 use Rattle.ion_value.specs.Digits.{all_are, is_digit, digits_value, has_minus, without_minus}
-use Rattle.ion_value.specs.Decimal as decimal
-use Rattle.ion_value.specs.Decimal.{Parts, parts_of, is_exponent_mark, is_decimal_mark, is_mantissa, is_power, power_digits, is_decimal, is_exponent, power_value, fraction_digits, decimal_in_range, decimal_of_parts, decimal_of_text}
+use Rattle.ion_value.specs.Decimal.{Parts, parts_of, is_exponent_mark, is_decimal_mark, is_mantissa, is_power, power_digits, power_value, fraction_digits, decimal_of_parts, decimal_of_text}
 use Rattle.ion_float.specs.Text.{is_float_mark, is_float, finite, float_word, or_else, float_of_parts, float_of_text}
 use Rattle.ion_float.proofs.Closing.{closed}
 use Rattle.ion_float.proofs.Parsing.{nearest-parts, parse-is}

@@ -1,5 +1,5 @@
 -- Floats in text (Ion specification, "Real Numbers").
-use Rattle.std.specs.Prelude.{ℕ, zero, suc, ◌+◌, ◌-◌, ℤ, pos, ◌-ℤ◌, Bool, true, false, not, ◌&&◌, ◌||◌, ◌==◌, if◌then◌else◌, List, [], ◌∷◌, ◌++◌, length, filter, codes, decimal, Option, Some, None, Result, Ok, Err, to_bits}
+use Rattle.std.specs.Prelude.{ℕ, zero, suc, ◌+◌, ◌-◌, ℤ, pos, ◌-ℤ◌, Bool, true, false, ◌&&◌, ◌||◌, ◌==◌, if◌then◌else◌, List, [], ◌∷◌, ◌++◌, length, filter, codes, decimal, Option, Some, None, Result, Ok, Err, to_bits}
 use Rattle.std.specs.Str.{bytes_eq}
 use lib.Ieee.{Float, nan, inf, fin, binary64}
 use Rattle.fast_float.specs.Rounding.{nearest_to_decimal}
@@ -60,7 +60,7 @@ abbrev pub float_of_parts : Bool → Parts → Result Float Reason
 float_of_parts negative p =
     if is_float p
     then finite (nearest_to_decimal binary64 negative (digits_value 10 (filter is_digit p.whole ++ fraction_digits p.fraction))
-        (power_value p.power -ℤ pos (length (fraction_digits p.fraction))))
+    (power_value p.power -ℤ pos (length (fraction_digits p.fraction))))
     else Err BadToken
 
 -- the floats that are written as words

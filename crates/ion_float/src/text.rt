@@ -5,10 +5,9 @@ ghost use Rattle.arrayvec.specs.ArrayString.{array_string_len};
 ghost use Rattle.ion_value.specs.Decimal.{integer_text};
 ghost use Rattle.ion_float.specs.Text.{pointed, exponent_of, digits_text, float_text};
 
-pub use crate::text_reading::{float_from_plain_text, float_from_text};
-
 use crate::float::Float64;
 use crate::shortest::{Digits, shortest};
+pub use crate::text_reading::{float_from_plain_text, float_from_text};
 use arrayvec::ArrayString;
 use itoa::Buffer;
 

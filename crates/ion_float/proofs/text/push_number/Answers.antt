@@ -1,4 +1,4 @@
-use Rattle.std.proofs.Common.{arith, ◌≤◌, ◌+◌, length, ◌++◌, List, ℕ, ap, ◌∙◌}
+use Rattle.std.proofs.Common.{arith, ◌≤◌, length, ◌++◌, List, ℕ, ap, ◌∙◌}
 use Rattle.std.specs.Fmt.{decimal}
 use Rattle.ion_float.specs.Text.{pointed, exponent_of}
 use Rattle.ion_float.proofs.TextOfBits.{digits-some, digits-short, number-written}

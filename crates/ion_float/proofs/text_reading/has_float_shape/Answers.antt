@@ -1,4 +1,4 @@
-use Rattle.std.proofs.Common.{◌≡◌, ◌∙◌, sym, ap, Err}
+use Rattle.std.proofs.Common.{◌∙◌, sym, ap, Err}
 use Rattle.ion_float.proofs.TextReading.{shape-ok, shape-float, shape-other}
 use Rattle.ion_float.proofs.text_reading.has_float_shape.Goals as goal
 

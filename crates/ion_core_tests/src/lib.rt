@@ -7,6 +7,8 @@
 #[cfg(test)]
 mod float;
 #[cfg(test)]
+mod float_forms;
+#[cfg(test)]
 mod meter;
 #[cfg(test)]
 mod same;

@@ -205,7 +205,7 @@ fn is_plain(bytes: &[u8]) -> bool
     }
 }
 
-// The same of a run with no underscore, where it stands.
+// What is read of a run with no underscore, where it stands.
 fn read_plain(text: &str) -> Option<Result<u64, Reason>> {
     if !is_plain(text.as_bytes()) {
         return None;

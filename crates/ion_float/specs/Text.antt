@@ -11,13 +11,13 @@ use Rattle.ion_float.specs.Shortest.{shortest}
 
 -- ---- as it is written
 
--- digits, and a point behind the first of them where there are more
+-- digits, and a point after the first where there are more
 abbrev pub pointed : List ℕ → List ℕ
 pointed [] = []
 pointed (d ∷ []) = d ∷ []
 pointed (d ∷ e ∷ ds) = d ∷ 46 ∷ e ∷ ds
 
--- the exponent of a number of so many digits whose last counts 10 ^ (row - 342), with the point behind the first
+-- the exponent of a number of so many digits whose last counts 10 ^ (row - 342), with the point after the first
 abbrev pub exponent_of : ℕ → ℕ → ℤ
 exponent_of count row = pos (row + (count - 1)) -ℤ pos 342
 
@@ -44,7 +44,7 @@ float_text (fin true m e) = 45 ∷ magnitude_text m e
 abbrev pub is_float_mark : ℕ → Bool
 is_float_mark b = b == 101 || b == 69
 
--- parts that are a float: digits of which a first zero stands alone, a point and digits or none, and an exponent behind `e`
+-- parts that are a float: digits of which a first zero stands alone, a point and digits or none, and an exponent after `e`
 abbrev pub is_float : Parts → Bool
 is_float p = is_mantissa p && is_power is_float_mark p.power
 
@@ -54,7 +54,7 @@ finite nan = Err Range
 finite (inf s) = Err Range
 finite (fin s m e) = Ok (fin s m e)
 
--- all digits are a coefficient, which counts ten to the written exponent less the number of digits behind the point: the float is the one
+-- all digits are a coefficient, which counts ten to the written exponent less the number of digits after the point: the float is the one
 -- nearest to that, the even one of two, or `Range` where it is infinite
 abbrev pub float_of_parts : Bool → Parts → Result Float Reason
 float_of_parts negative p =

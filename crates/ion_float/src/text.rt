@@ -17,9 +17,8 @@ const INFINITY: u64 = 0x7FF0_0000_0000_0000;
 /// The sign's bit.
 const SIGN: u64 = 1 << 63;
 
-/// The text of a float (Ion specification, "Real Numbers"): `nan`, `+inf` or `-inf`, or digits with a
-/// point behind the first of them where there are more, `e` and an exponent, behind a minus where it
-/// has one.
+/// The text of a float (Ion specification, "Real Numbers"): `nan`, `+inf` or `-inf`, or a minus where
+/// there is one, digits with a point after the first where there are more, `e` and an exponent.
 ///
 /// The digits are the fewest that read as the float, and of these the nearest to it: `1e0`,
 /// `6.02214076e23`, `5e-324`. The sign of zero is kept.
@@ -83,7 +82,7 @@ fn push_number(text: &mut ArrayString<24>, number: Digits)
     push_exponent(text, exponent(digits.len(), number.row));
 }
 
-// The exponent of so many digits whose last counts ten to the row less 342, with the point behind
+// The exponent of so many digits whose last counts ten to the row less 342, with the point after
 // the first.
 #[inline]
 fn exponent(count: usize, row: u32) -> i32
@@ -110,7 +109,7 @@ fn push_exponent(text: &mut ArrayString<24>, exponent: i32)
     text.push_str(buffer.format(exponent));
 }
 
-// Adds digits, and a point behind the first of them where there are more.
+// Adds digits, and a point after the first where there are more.
 #[inline]
 fn push_pointed(text: &mut ArrayString<24>, digits: &str)
     requires ascii { IsAscii digits.now }

@@ -11,14 +11,13 @@ use crate::float::Float64;
 use ion_meter::fault::Reason;
 use ion_value::decimal::decimal_from_text;
 
-/// Reads a float in text: digits with a point among or behind them or with none, and an exponent
-/// behind `e`, behind a minus or none; or `nan`, `+inf` or `-inf` (Ion specification, "Real
-/// Numbers"). A first zero stands alone before the point, and single underscores may stand between
-/// two digits, but not in the exponent.
+/// Reads a float in text (Ion specification, "Real Numbers"): a minus or none, digits with or without
+/// a point, `e` and an exponent; or `nan`, `+inf` or `-inf`. A first zero stands alone before the
+/// point, and single underscores may stand between two digits, but not in the exponent.
 ///
 /// It is the float nearest to what is written, the even one of two. A number that would be infinite
-/// is out of `Range`, and every other run a `BadToken`. The run is scratch afterwards: its
-/// underscores are closed up in place.
+/// is out of `Range`, and every other run a `BadToken`. The underscores are closed up in place, so
+/// the run is scratch afterwards.
 pub fn float_from_text(run: &mut [u8]) -> Result<Float64, Reason>
     ensures read { result ≡ float_of_text run.old }
     ensures valid { IfOk result IsFloat }
@@ -34,7 +33,7 @@ pub fn float_from_text(run: &mut [u8]) -> Result<Float64, Reason>
     parsed(&run[..count])
 }
 
-/// Reads a float in text that has no underscore, as `float_from_text` does.
+/// Reads a float in text that has no underscore, as `float_from_text` does, where it stands.
 pub fn float_from_plain_text(run: &[u8]) -> Result<Float64, Reason>
     requires { all_are (λ b. not (b == 95)) run.now ≡ true }
     ensures read { result ≡ float_of_text run.now }
@@ -66,7 +65,7 @@ fn word(run: &[u8]) -> Option<Float64>
     }
 }
 
-// Whether these are digits with an exponent behind `e`: what a decimal is refused for.
+// Whether a run has the shape of a float, for which a decimal is refused.
 #[inline]
 fn has_float_shape(run: &[u8]) -> bool
     ensures { result ≡ is_float (parts_of (without_minus run.now)) }
@@ -89,7 +88,7 @@ fn parsed(text: &[u8]) -> Result<Float64, Reason>
     }
 }
 
-// Moves all bytes but the underscores to the front, and answers how many they are.
+// Moves all bytes but the underscores to the front, and returns how many they are.
 fn close_up(run: &mut [u8]) -> usize
     ensures within { result ≤ length run.new }
     ensures closed { take result run.new ≡ filter (λ b. not (b == 95)) run.old }

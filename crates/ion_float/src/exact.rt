@@ -124,10 +124,10 @@ impl Natural {
     }
 }
 
-// The significand and the exponent of a finite double above zero, which is
-// significand · 2^exponent / 2^1074.
+/// The significand and the exponent of a finite double above zero, which is
+/// significand · 2^exponent / 2^1074.
 #[inline]
-fn parts_of(bits: u64) -> (u64, u32)
+pub(crate) fn parts_of(bits: u64) -> (u64, u32)
     requires { IsAboveZero bits }
     ensures fits { (result.0 < 2 ^ 53) × (result.1 < 2046) }
     ensures value { HasValue (from_bits binary64 bits) false (result.0 * 2 ^ result.1) (2 ^ 1074) }

@@ -3,6 +3,7 @@
 //! Nothing here takes memory.
 #![tactic(auto)]
 
+mod bounds;
 mod exact;
 mod guess;
 pub mod laws;

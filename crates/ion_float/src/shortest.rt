@@ -2,12 +2,13 @@
 ghost use Rattle.std.specs.Prelude.{◌≡◌, ◌<◌, ◌≤◌, ◌^◌, ◌↔◌, IsTrue};
 ghost use Rattle.ion_float.specs.Shortest.{IsAboveZero, IsTaken, NoneAbove, reads, shortest};
 
+use crate::bounds::is_surely_nearest;
 use crate::exact::Ratio;
 use crate::guess::guess;
 use fast_float::nearest_bits;
 
 /// The decimal digits · 10^(row - 342), below 10^17 · 10^308.
-#[derive(Clone, Copy, Debug, Drop, PartialEq, Eq)]
+#[derive(Clone, Copy, Debug, PartialEq, Eq)]
 pub struct Digits {
     /// The digits as a number below 10^17, whose last is not 0.
     pub digits: u64,
@@ -76,6 +77,9 @@ fn is_nearest(digits: u64, row: u32, bits: u64) -> bool
     requires read { reads digits row bits }
     ensures { IsTrue result → IsTaken digits row bits }
 {
+    if is_surely_nearest(digits, row, bits) {
+        return true;
+    }
     let ratio = Ratio::new(bits, row);
     if ratio.reaches(digits) {
         return !ratio.reaches(digits + 1);

@@ -1,5 +1,5 @@
 -- No multiple of a greater power of ten than that of the definition reads as the double.
-use Rattle.std.proofs.Common.{◌≡◌, ℕ, zero, suc, ◌+◌, ◌-◌, ◌*◌, ◌%◌, ◌^◌, ◌<◌, ◌≤◌, ◌⊎◌, T, Bool, true, false, refl, sym, ap, ◌∙◌, subst, arith, inl, inr, mul-le-mul_right, pow_pos, pow-add, lit<}
+use Rattle.std.proofs.Common.{◌≡◌, ◌≢◌, ℕ, zero, suc, ◌+◌, ◌-◌, ◌*◌, ◌/◌, ◌%◌, ◌^◌, ◌<◌, ◌≤◌, ◌⊎◌, T, Bool, true, false, refl, sym, ap, ◌∙◌, subst, arith, inl, inr, mul-le-mul_right, pow_pos, pow-add, lit<}
 use mathlib.Core.Bool.{true≢false}
 use Rattle.std.specs.Prelude.{from_bits}
 use Rattle.std.proofs.lemmas.Bool.{cases_lt}
@@ -11,7 +11,7 @@ use lib.Ieee.Positive.{positive, num, den, den_pos, value→cross, value_pos, fi
 use Rattle.fast_float.specs.Rounding.{scaled_bits, IsNearestBits}
 use Rattle.core.specs.Dec2flt.Rounding.{IsJustAbove}
 use Rattle.fast_float.proofs.ExactLemmas.{ten_to_pos}
-use Rattle.fast_float.proofs.Extremes.{nearest_of_huge, tens_le}
+use Rattle.fast_float.proofs.Extremes.{nearest_of_huge, round_tens, tens_le}
 use Rattle.fast_float.proofs.RoundingLemmas.{nearest_of_near, nearest_below, nearest_tie}
 use Rattle.ion_float.specs.Shortest.{IsAboveZero, IsPositive, reads, near, reads_as, search, shortest}
 use Rattle.ion_float.proofs.Between.{squeezed, same_float, tens, zero-reads}
@@ -301,3 +301,19 @@ none_shorter bits row c (suc e) p few most read =
     middle d power h m back =
         between_read (from_bits binary64 bits) (c * 10 ^ (row - 342)) (10 ^ (342 - row)) (d * 10 ^ (power - 342)) (10 ^ (342 - power)) (10 ^ e * 10 ^ (power + 1 - 342)) (10 ^ (342 - (power + 1)))
         (is-positive bits p) (ten_to_pos (342 - row)) (ten_to_pos (342 - power)) (ten_to_pos (342 - (power + 1))) (lower power h) (upper d power m) read back
+
+-- a last 0 of the digits goes to the power
+tenth : (d row bits : ℕ) → reads (d * 10) row bits → reads d (row + 1) bits
+tenth d row bits read =
+    let sum : row + 1 - 342 + (342 - row) ≡ 1 + (row - 342) + (342 - (row + 1)) = omega arith in
+    round_tens binary64 d (row + 1 - 342) (342 - (row + 1)) (1 + (row - 342)) (342 - row) sum
+    ∙ ap (λ n. round binary64 false n (10 ^ (342 - row))) (ap (λ z. d * z) (pow-add 10 1 (row - 342)) ∙ regroup d (10 ^ (row - 342))) ∙ read
+  where
+    regroup : (a b : ℕ) → a * (10 * b) ≡ a * 10 * b
+    regroup a b = omega arith
+
+pub no_last_zero : (bits : ℕ) → IsAboveZero bits → (shortest bits).0 % 10 ≢ 0
+no_last_zero bits p z =
+    let is : (shortest bits).0 / 10 * 10 ≡ (shortest bits).0 = omega arith in
+    none_greater bits ((shortest bits).1 + 1) ((shortest bits).0 / 10) p (omega arith)
+    (tenth ((shortest bits).0 / 10) (shortest bits).1 bits (subst (λ d. reads d (shortest bits).1 bits) (sym is) (shortest_reads bits p.1 (is-positive bits p))))

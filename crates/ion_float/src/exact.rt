@@ -42,7 +42,6 @@ fn multiply(limbs: &mut [u64], factor: u64) -> u64
 // limb for limb, and the last limbs that differ decide.
 #[inline]
 fn compare_multiple(limbs: &[u64], factor: u64, others: &[u64]) -> Ordering
-    requires { length limbs.now < 2 ^ 32 }
     ensures { result ≡ nat_cmp (value limbs.now * factor) (value others.now) }
 {
     let mut order = Ordering::Equal;

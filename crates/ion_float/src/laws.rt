@@ -1,6 +1,6 @@
 //! Laws of the definition that the contracts cite, each the contract of a function that does
 //! nothing.
-ghost use Rattle.std.specs.Prelude.{ℕ, ◌<◌, ◌≤◌, ◌^◌};
+ghost use Rattle.std.specs.Prelude.{ℕ, ◌<◌, ◌≤◌, ◌≢◌, ◌%◌, ◌^◌};
 ghost use Rattle.ion_float.specs.Shortest.{IsAboveZero, reads, shortest};
 
 /// The shortest decimal of a finite double above zero reads as it.
@@ -18,4 +18,9 @@ pub fn shortest_has_the_greatest_power()
 pub fn shortest_has_the_fewest_digits()
     ensures { (bits row digits power : ℕ) → IsAboveZero bits → digits < 10 ^ power
         → 10 ^ power ≤ (shortest bits).0 → ¬ (reads digits row bits) }
+{}
+
+/// Its digits do not end in 0.
+pub fn shortest_ends_in_no_zero()
+    ensures { (bits : ℕ) → IsAboveZero bits → (shortest bits).0 % 10 ≢ 0 }
 {}

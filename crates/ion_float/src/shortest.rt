@@ -53,7 +53,7 @@ fn is_shortest(found: Digits, bits: u64) -> bool
     if digits >= 100_000_000_000_000_000 || row >= 650 || !reads_back(digits, row, bits) {
         return false;
     }
-    is_last_row(digits, row, bits) && is_nearest(digits, row, bits)
+    is_last_row(digits, row, bits) && is_taken(digits, row, bits)
 }
 
 // Whether no multiple of the next power of ten reads as the double, as these digits do.
@@ -71,7 +71,7 @@ fn is_last_row(digits: u64, row: u32, bits: u64) -> bool
 // Whether the definition takes these digits, which read, in this row: they are the nearest multiple,
 // or the one above it where that doesn't read, as in some powers of two.
 #[inline]
-fn is_nearest(digits: u64, row: u32, bits: u64) -> bool
+fn is_taken(digits: u64, row: u32, bits: u64) -> bool
     requires above_zero { IsAboveZero bits }
     requires sizes { (digits < 10 ^ 17) × (row < 650) }
     requires read { reads digits row bits }
@@ -80,6 +80,19 @@ fn is_nearest(digits: u64, row: u32, bits: u64) -> bool
     if is_surely_nearest(digits, row, bits) {
         return true;
     }
+    is_taken_exactly(digits, row, bits)
+}
+
+// The answer by exact comparison. It stands apart since a function pays at its start for the arrays
+// that it has.
+#[cold]
+#[inline(never)]
+fn is_taken_exactly(digits: u64, row: u32, bits: u64) -> bool
+    requires above_zero { IsAboveZero bits }
+    requires sizes { (digits < 10 ^ 17) × (row < 650) }
+    requires read { reads digits row bits }
+    ensures { IsTrue result → IsTaken digits row bits }
+{
     let ratio = Ratio::new(bits, row);
     if ratio.reaches(digits) {
         return !ratio.reaches(digits + 1);
@@ -90,6 +103,7 @@ fn is_nearest(digits: u64, row: u32, bits: u64) -> bool
 
 // Tries each power from the greatest down. This is slow, some ten milliseconds.
 #[cold]
+#[inline(never)]
 fn search_down(bits: u64) -> Digits
     requires { IsAboveZero bits }
     ensures exact { (result.digits, result.row) ≡ shortest bits }

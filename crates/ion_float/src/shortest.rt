@@ -101,7 +101,7 @@ fn is_taken_exactly(digits: u64, row: u32, bits: u64) -> bool
     ratio.reaches(below) && !reads_back(below, row, bits)
 }
 
-// Tries each power from the greatest down. This is slow, some ten milliseconds.
+// Tries each row from the greatest down. This is slow, about a millisecond.
 #[cold]
 #[inline(never)]
 fn search_down(bits: u64) -> Digits

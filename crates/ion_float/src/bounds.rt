@@ -17,10 +17,11 @@ pub(crate) fn is_surely_nearest(digits: u64, row: u32, bits: u64) -> bool
 {
     let (significand, exponent) = parts_of(bits);
     let power = power_of_ten(row as u64);
-    // 10^(row - 342) is power · 2^(scale - 1266), cut off, and twice the double is significand ·
-    // 2^shift in the same units.
+    // 10^(row - 342) is power · 2^(scale - 1266), cut off, where the scale is that of the table of
+    // powers. In the same units twice the double is significand · 2^shift.
     let scale = (row * 217_706 + 58_980) / 65_536 + 2;
     let shift = (exponent + 193).saturating_sub(scale);
+    // Of digits that read, significand · 2^shift has from 128 to 186 bits.
     if shift < 64 || shift > 138 {
         return false;
     }

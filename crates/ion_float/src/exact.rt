@@ -1,10 +1,9 @@
 //! Exact comparison of a double with the multiples of a power of ten.
 //!
-//! Natural numbers stand in limbs on the stack. The largest that occur have fewer than 2,176 bits.
-ghost use Rattle.std.specs.Prelude.{◌≡◌, ℕ, ◌+◌, ◌*◌, ◌^◌, ◌<◌, ◌≤◌, length, slice_index};
+//! Natural numbers stand in limbs of 64 bits on the stack, the lowest first.
+ghost use Rattle.std.specs.Prelude.{◌≡◌, ◌+◌, ◌*◌, ◌^◌, ◌<◌, ◌≤◌, ◌↔◌, false, from_bits, length, slice_index, IsTrue};
 ghost use Rattle.std.specs.Ordering.{nat_cmp};
 ghost use Rattle.std.specs.Float.{binary64};
-ghost use Rattle.std.specs.Prelude.{from_bits, IsTrue, ◌-◌, ◌↔◌, false};
 ghost use lib.Ieee.Exact.{HasValue};
 ghost use lib.Ieee.Nearest.{closest};
 ghost use Rattle.ion_float.specs.Limbs.{value};
@@ -14,6 +13,7 @@ use arrayvec::ArrayVec;
 use std::cmp::Ordering;
 use std::marker::Model;
 
+// They hold 2,176 bits, and the greatest number that occurs is below 2^54 · 2^971 · 10^342.
 const LIMBS: usize = 34;
 
 // The limb at this index, or 0 behind the last.
@@ -178,6 +178,7 @@ impl Ratio {
             Ordering::Greater => false,
         }
     }
+
     /// The multiple nearest to the double, the even one of two.
     pub(crate) fn nearest(&self) -> u64
         requires { closest self.now.twice (2 * self.now.unit) < 10 ^ 17 }

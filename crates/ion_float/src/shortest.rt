@@ -16,16 +16,6 @@ pub struct Digits {
     pub row: u32,
 }
 
-// Whether this decimal reads as the double with these bits.
-#[inline]
-fn reads_back(digits: u64, row: u32, bits: u64) -> bool
-    requires above_zero { IsAboveZero bits }
-    requires row { row < 651 }
-    ensures { IsTrue result ↔ reads digits row bits }
-{
-    digits > 0 && nearest_bits::<f64>(digits, row as u64) == bits
-}
-
 /// The shortest decimal that reads as a finite double above zero: the greatest power of ten at which
 /// the nearest multiple reads as it, or the one above, and that multiple.
 pub fn shortest(bits: u64) -> Digits
@@ -54,6 +44,16 @@ fn is_shortest(found: Digits, bits: u64) -> bool
         return false;
     }
     is_last_row(digits, row, bits) && is_taken(digits, row, bits)
+}
+
+// Whether this decimal reads as the double with these bits.
+#[inline]
+fn reads_back(digits: u64, row: u32, bits: u64) -> bool
+    requires above_zero { IsAboveZero bits }
+    requires row { row < 651 }
+    ensures { IsTrue result ↔ reads digits row bits }
+{
+    digits > 0 && nearest_bits::<f64>(digits, row as u64) == bits
 }
 
 // Whether no multiple of the next power of ten reads as the double, as these digits do.

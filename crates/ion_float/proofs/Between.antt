@@ -1,10 +1,9 @@
 -- Between two fractions that do not read as a float there is none that does.
-use Rattle.std.proofs.Common.{◌≡◌, ℕ, ◌+◌, ◌-◌, ◌*◌, ◌/◌, ◌^◌, ◌<◌, ◌≤◌, Bool, true, false, ◌⊎◌, T, cond, refl, sym, ap, ◌∙◌, subst, inl, inr, arith, mul-le-mul_right}
+use Rattle.std.proofs.Common.{◌≡◌, ℕ, ◌+◌, ◌-◌, ◌*◌, ◌/◌, ◌^◌, ◌<◌, ◌≤◌, true, false, ◌⊎◌, T, cond, refl, sym, ap, ◌∙◌, subst, inl, inr, arith, mul-le-mul_right}
 use Rattle.std.proofs.lemmas.Bool.{cases_lt}
 use native.Mathlib.Nat.{le_antisymm}
 use lib.Ieee.{Float, nan, inf, fin, Format, low, prec, hid, top, up, down, size, round, fits, le, to_bits, of_bits}
-use lib.Dec.{eqb}
-use lib.Ieee.Fits.{down_pos, round-fits, eq→eqb}
+use lib.Ieee.Fits.{down_pos, round-fits}
 use lib.Ieee.Bits.{of_bits-to_bits}
 use lib.Ieee.Order.{round_mono}
 use lib.Ieee.Nearest.{div_same}
@@ -119,10 +118,6 @@ same_float num den r bits p small fits near e =
     let q : T (positive (of_bits binary64 r)) = subst (λ x. T (positive x)) (sym same) p in
     sym (to_bits-of_bits binary64 r small (positive-number _ q)) ∙ ap (λ x. to_bits binary64 x) same ∙ to_bits-of_bits binary64 bits fits (positive-number _ p)
 
--- so other bits are of another float
-pub another : (num den r bits : ℕ) → IsPositive bits → r < 2 ^ 64 → bits < 2 ^ 64 → IsNearestBits binary64 num den r → ¬ (r ≡ bits) → ¬ (round binary64 false num den ≡ from_bits binary64 bits)
-another num den r bits p small fits near other e = other (same_float num den r bits p small fits near e)
-
 -- zero does not read as a float above zero
 pub zero-reads : (power bits : ℕ) → IsPositive bits → ¬ (reads 0 power bits)
 unfolding of_bits
@@ -130,10 +125,3 @@ zero-reads power bits p e =
     let none = nearest_of_zero binary64 (0 * 10 ^ (power - 342)) (10 ^ (342 - power)) (ten_to_pos _) (omega arith) in
     let q : T (positive (of_bits binary64 0)) = subst (λ x. T (positive x)) (sym (none.0 ∙ e)) p in
     absurd q
-
-pub unequal : (a b : ℕ) → not (eqb a b) ≡ true → ¬ (a ≡ b)
-unequal a b h e = clash (eqb a b) (eq→eqb e) (subst T (sym h) tt)
-  where
-    clash : (x : Bool) → T x → T (not x) → ⊥
-    clash true t f = f
-    clash false t f = t

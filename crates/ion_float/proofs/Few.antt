@@ -14,10 +14,10 @@ use Rattle.ion_float.proofs.Reading.{made}
 
 -- c * b / a is near n / d, which is m * p / l
 module _ (c n d m p a b l : ℕ) (D : 0 < d) (value : n * l ≡ m * p * d) where
-  under : 2 * (c * (d * b)) ≤ 2 * (n * a) + d * b → 2 * (c * b * l) ≤ 2 * (m * (a * p)) + b * l
+  pub under : 2 * (c * (d * b)) ≤ 2 * (n * a) + d * b → 2 * (c * b * l) ≤ 2 * (m * (a * p)) + b * l
   under h = le_of_mul-le-mul_right {k = d} (omega (arith, mul-le-mul_right l h, ap (λ z. z * a) value)) D
 
-  over : 2 * (n * a) ≤ 2 * (c * (d * b)) + d * b → 2 * (m * (a * p)) ≤ 2 * (c * b * l) + b * l
+  pub over : 2 * (n * a) ≤ 2 * (c * (d * b)) + d * b → 2 * (m * (a * p)) ≤ 2 * (c * b * l) + b * l
   over h = le_of_mul-le-mul_right {k = d} (omega (arith, mul-le-mul_right l h, ap (λ z. z * a) value)) D
 
 -- with c above 2 ^ 53, its unit is below the gap between doubles

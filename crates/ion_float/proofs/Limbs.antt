@@ -22,10 +22,6 @@ pub value-nil : value [] ≡ 0
 unfolding value
 value-nil = refl
 
-pub value-one : (x : ℕ) → value (x ∷ []) ≡ x
-unfolding value
-value-one x = omega arith
-
 pub value-append : (xs : List ℕ) (x : ℕ) → value (xs ++ x ∷ []) ≡ value xs + x * weight (length xs)
 unfolding value
 value-append [] x = omega arith

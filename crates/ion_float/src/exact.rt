@@ -1,10 +1,9 @@
 //! Exact comparison of a double with the multiples of a power of ten.
 //!
-//! Natural numbers stand in limbs on the stack. The largest that occur have fewer than 2,176 bits.
-ghost use Rattle.std.specs.Prelude.{◌≡◌, ℕ, ◌+◌, ◌*◌, ◌^◌, ◌<◌, ◌≤◌, length, slice_index};
+//! Natural numbers stand in limbs of 64 bits on the stack, the lowest first.
+ghost use Rattle.std.specs.Prelude.{◌≡◌, ◌+◌, ◌*◌, ◌^◌, ◌<◌, ◌≤◌, ◌↔◌, false, from_bits, length, slice_index, IsTrue};
 ghost use Rattle.std.specs.Ordering.{nat_cmp};
 ghost use Rattle.std.specs.Float.{binary64};
-ghost use Rattle.std.specs.Prelude.{from_bits, IsTrue, ◌-◌, ◌↔◌, false};
 ghost use lib.Ieee.Exact.{HasValue};
 ghost use lib.Ieee.Nearest.{closest};
 ghost use Rattle.ion_float.specs.Limbs.{value};
@@ -14,6 +13,7 @@ use arrayvec::ArrayVec;
 use std::cmp::Ordering;
 use std::marker::Model;
 
+// They hold 2,176 bits, and the greatest number that occurs is below 2^54 · 2^971 · 10^342.
 const LIMBS: usize = 34;
 
 // The limb at this index, or 0 behind the last.
@@ -42,7 +42,6 @@ fn multiply(limbs: &mut [u64], factor: u64) -> u64
 // limb for limb, and the last limbs that differ decide.
 #[inline]
 fn compare_multiple(limbs: &[u64], factor: u64, others: &[u64]) -> Ordering
-    requires { length limbs.now < 2 ^ 32 }
     ensures { result ≡ nat_cmp (value limbs.now * factor) (value others.now) }
 {
     let mut order = Ordering::Equal;
@@ -124,10 +123,10 @@ impl Natural {
     }
 }
 
-// The significand and the exponent of a finite double above zero, which is
-// significand · 2^exponent / 2^1074.
+/// The significand and the exponent of a finite double above zero, which is
+/// significand · 2^exponent / 2^1074.
 #[inline]
-fn parts_of(bits: u64) -> (u64, u32)
+pub(crate) fn parts_of(bits: u64) -> (u64, u32)
     requires { IsAboveZero bits }
     ensures fits { (result.0 < 2 ^ 53) × (result.1 < 2046) }
     ensures value { HasValue (from_bits binary64 bits) false (result.0 * 2 ^ result.1) (2 ^ 1074) }
@@ -179,6 +178,7 @@ impl Ratio {
             Ordering::Greater => false,
         }
     }
+
     /// The multiple nearest to the double, the even one of two.
     pub(crate) fn nearest(&self) -> u64
         requires { closest self.now.twice (2 * self.now.unit) < 10 ^ 17 }

@@ -4,6 +4,7 @@
 //! as its fewest octets. Nothing here takes memory.
 #![tactic(auto)]
 
+mod bounds;
 mod exact;
 pub mod float;
 mod guess;

@@ -2,27 +2,18 @@
 ghost use Rattle.std.specs.Prelude.{◌≡◌, ◌<◌, ◌≤◌, ◌^◌, ◌↔◌, IsTrue};
 ghost use Rattle.ion_float.specs.Shortest.{IsAboveZero, IsTaken, NoneAbove, reads, shortest};
 
+use crate::bounds::is_surely_nearest;
 use crate::exact::Ratio;
 use crate::guess::guess;
 use fast_float::nearest_bits;
 
 /// The decimal digits · 10^(row - 342), below 10^17 · 10^308.
-#[derive(Clone, Copy, Debug, Drop, PartialEq, Eq)]
+#[derive(Clone, Copy, Debug, PartialEq, Eq)]
 pub struct Digits {
     /// The digits as a number below 10^17, whose last is not 0.
     pub digits: u64,
     /// The power of ten and 342, below 651.
     pub row: u32,
-}
-
-// Whether this decimal reads as the double with these bits.
-#[inline]
-fn reads_back(digits: u64, row: u32, bits: u64) -> bool
-    requires above_zero { IsAboveZero bits }
-    requires row { row < 651 }
-    ensures { IsTrue result ↔ reads digits row bits }
-{
-    digits > 0 && nearest_bits::<f64>(digits, row as u64) == bits
 }
 
 /// The shortest decimal that reads as a finite double above zero: the greatest power of ten at which
@@ -52,7 +43,17 @@ fn is_shortest(found: Digits, bits: u64) -> bool
     if digits >= 100_000_000_000_000_000 || row >= 650 || !reads_back(digits, row, bits) {
         return false;
     }
-    is_last_row(digits, row, bits) && is_nearest(digits, row, bits)
+    is_last_row(digits, row, bits) && is_taken(digits, row, bits)
+}
+
+// Whether this decimal reads as the double with these bits.
+#[inline]
+fn reads_back(digits: u64, row: u32, bits: u64) -> bool
+    requires above_zero { IsAboveZero bits }
+    requires row { row < 651 }
+    ensures { IsTrue result ↔ reads digits row bits }
+{
+    digits > 0 && nearest_bits::<f64>(digits, row as u64) == bits
 }
 
 // Whether no multiple of the next power of ten reads as the double, as these digits do.
@@ -70,7 +71,23 @@ fn is_last_row(digits: u64, row: u32, bits: u64) -> bool
 // Whether the definition takes these digits, which read, in this row: they are the nearest multiple,
 // or the one above it where that doesn't read, as in some powers of two.
 #[inline]
-fn is_nearest(digits: u64, row: u32, bits: u64) -> bool
+fn is_taken(digits: u64, row: u32, bits: u64) -> bool
+    requires above_zero { IsAboveZero bits }
+    requires sizes { (digits < 10 ^ 17) × (row < 650) }
+    requires read { reads digits row bits }
+    ensures { IsTrue result → IsTaken digits row bits }
+{
+    if is_surely_nearest(digits, row, bits) {
+        return true;
+    }
+    is_taken_exactly(digits, row, bits)
+}
+
+// The answer by exact comparison. It stands apart since a function pays at its start for the arrays
+// that it has.
+#[cold]
+#[inline(never)]
+fn is_taken_exactly(digits: u64, row: u32, bits: u64) -> bool
     requires above_zero { IsAboveZero bits }
     requires sizes { (digits < 10 ^ 17) × (row < 650) }
     requires read { reads digits row bits }
@@ -84,8 +101,9 @@ fn is_nearest(digits: u64, row: u32, bits: u64) -> bool
     ratio.reaches(below) && !reads_back(below, row, bits)
 }
 
-// Tries each power from the greatest down. This is slow, some ten milliseconds.
+// Tries each row from the greatest down. This is slow, about a millisecond.
 #[cold]
+#[inline(never)]
 fn search_down(bits: u64) -> Digits
     requires { IsAboveZero bits }
     ensures exact { (result.digits, result.row) ≡ shortest bits }

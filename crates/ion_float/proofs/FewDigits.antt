@@ -5,7 +5,7 @@ use Rattle.std.proofs.lemmas.Bool.{cases_lt}
 use lib.Ieee.{binary64, of_bits}
 use Rattle.ion_float.specs.Shortest.{IsAboveZero, near, reads_as, search, shortest}
 use Rattle.ion_float.proofs.Few.{reads-many, next_near, first_near}
-use Rattle.ion_float.proofs.Reading.{is-positive, some_digits}
+use Rattle.ion_float.proofs.Reading.{is-positive}
 use Rattle.ion_float.proofs.Search.{reads_as-true}
 
 -- where the nearest multiple doesn't read, it is no more than 2 ^ 53
@@ -34,6 +34,3 @@ unfolding shortest
 few-digits bits h =
     let first = first_near bits h.1 in
     few-search bits 651 false false h (omega (arith, first)) (λ _. first)
-
-pub some-digits : (bits : ℕ) → IsAboveZero bits → 1 ≤ (shortest bits).0
-some-digits bits h = some_digits (shortest bits).0 (shortest bits).1 bits h refl

@@ -22,7 +22,7 @@ pub kept-number : (bits : ℕ) → bits < 2 ^ 64 → bits % 0x8000_0000_0000_000
 kept-number bits fits h =
     to_bits-of_bits binary64 bits fits (subst (λ (b : Bool). T (not b)) (nan_bits_is binary64 bits) (not_nan_f64_bits bits h))
 
-is_nan-nan : (x : Float) → is_nan x ≡ true → x ≡ nan
+pub is_nan-nan : (x : Float) → is_nan x ≡ true → x ≡ nan
 unfolding is_nan
 is_nan-nan nan h = refl
 is_nan-nan (inf s) h = cc

@@ -1,6 +1,7 @@
 -- A float in the narrower format.
-use Rattle.std.proofs.Common.{◌≡◌, ℕ, zero, suc, ◌+◌, ◌-◌, ◌*◌, ◌/◌, ◌%◌, ◌^◌, ◌<◌, ◌≤◌, ℤ, pos, negsuc, Bool, true, false, cond, if◌then◌else◌, ◌&&◌, T, not, inl, inr, refl, sym, ap, ◌∙◌, subst, arith, pow-add, pow_pos, Some, None, [], w32, w64, from_bits}
+use Rattle.std.proofs.Common.{◌≡◌, ℕ, zero, suc, ◌+◌, ◌-◌, ◌*◌, ◌/◌, ◌%◌, ◌^◌, ◌<◌, ◌≤◌, ℤ, pos, negsuc, Bool, true, false, cond, if◌then◌else◌, ◌&&◌, T, not, inl, inr, refl, sym, ap, ◌∙◌, subst, arith, pow-add, pow_pos, Some, None, w32, w64, from_bits}
 use Rattle.std.specs.Int.{to_be_bytes}
+use Rattle.ion_float.proofs.FloatBits.{is_nan-nan}
 use Rattle.ion_float.specs.Octets.{positive_zero, is_positive_zero, float_octets}
 use mathlib.Core.Bool.{true≢false}
 use Rattle.std.proofs.Math.Nat.{eq_of_mul-eq-mul_right}
@@ -9,7 +10,7 @@ use lib.Pow.{pow-lt}
 use native.Mathlib.Nat.{mul-lt-mul_of_pos_right}
 use lib.Dec.{lt→ltb, eqb, ltb, leb, ltb→lt, leb→le}
 use lib.Ieee.{Float, nan, inf, fin, Format, binary32, binary64, of_bits, nan_bits, prec, emax, low, up, down, size, top, hid, ones, odd, units, round, fits, is_nan, to_bits}
-use lib.Ieee.Fits.{down_pos, round_is, round-fits, fits_widens, and_i, and_l, and_r, nan-fits, inf-fits}
+use lib.Ieee.Fits.{down_pos, round_is, round-fits, fits_widens, and_i, and_l, and_r}
 use lib.Ieee.Bits.{of_bits-to_bits, of_bits-fits, nan_bits_is, nan_bits_above, is_true}
 use lib.Ieee.Exact.{HasValue, round_exact}
 use lib.Ieee.Nearest.{div_same}
@@ -38,12 +39,6 @@ unfolding round_to_format
 narrow_number f nan h = h
 narrow_number f (inf s) h = h
 narrow_number f (fin s m e) h = round_number f s (m * up e) (down e)
-
-pub narrow_fits : (f : Format) (x : Float) → T (fits f (round_to_format f x))
-unfolding round_to_format
-narrow_fits f nan = nan-fits f
-narrow_fits f (inf s) = inf-fits f s
-narrow_fits f (fin s m e) = round-fits f s (m * up e) (down e)
 
 -- values that are equal have the same bits
 same_bits : (f : Format) (x y : Float) (s : Bool) (a c : ℕ) → 0 < c → HasValue x s a c → HasValue y s a c → to_bits f x ≡ to_bits f y
@@ -157,17 +152,11 @@ narrowed_none x y bits e same other =
       | inr h ↦ rw h refl
     ]
 
-is_nan-nan : (x : Float) → is_nan x ≡ true → nan ≡ x
-unfolding is_nan
-is_nan-nan nan h = refl
-is_nan-nan (inf s) h = absurd (true≢false (sym h))
-is_nan-nan (fin s m e) h = absurd (true≢false (sym h))
-
 -- above the bits of infinity there is no number
 pub narrow_above : (bits : ℕ) → 2139095040 < bits % 2147483648 → nan ≡ from_bits binary32 bits
 narrow_above bits h =
-    is_nan-nan (of_bits binary32 bits)
-    (sym (nan_bits_is binary32 bits) ∙ nan_bits_above binary32 bits ∙ is_true _ (lt→ltb (ones binary32 * hid binary32) (bits % top binary32) h))
+    sym (is_nan-nan (of_bits binary32 bits)
+    (sym (nan_bits_is binary32 bits) ∙ nan_bits_above binary32 bits ∙ is_true _ (lt→ltb (ones binary32 * hid binary32) (bits % top binary32) h)))
 
 -- ---- octets
 
@@ -188,9 +177,6 @@ zero_bits = refl
 zero_value : from_bits binary64 0 ≡ positive_zero
 unfolding of_bits
 zero_value = refl
-
-pub no_octets : (x : Float) (bits : ℕ) → from_bits binary64 bits ≡ x → bits ≡ 0 → [] ≡ float_octets x
-no_octets x bits e z = ap float_octets (sym zero_value ∙ ap (from_bits binary64) (sym z) ∙ e)
 
 above_zero : (x : Float) (bits : ℕ) → bits ≡ to_bits binary64 x → from_bits binary64 bits ≡ x → ¬ (bits ≡ 0) → is_positive_zero x ≡ false
 above_zero x bits b e z =

@@ -1,11 +1,10 @@
 -- Laws of floats in octets.
-use Rattle.std.proofs.Common.{◌≡◌, ◌≤◌, ℕ, ◌==◌, if◌then◌else◌, Bool, true, false, T, Option, Some, None, IfSome, List, [], length, w32, w64, from_bits, inl, inr, refl, sym, ap, ◌∙◌, subst, arith}
+use Rattle.std.proofs.Common.{◌≡◌, ◌≤◌, ℕ, ◌==◌, if◌then◌else◌, Bool, true, false, T, Some, None, List, [], length, w32, w64, from_bits, inl, inr, refl, sym, ap, ◌∙◌, subst, arith}
 use Rattle.std.specs.Int.{from_be_bytes, to_be_bytes}
 use Rattle.std.proofs.lemmas.Bool.{cases_Bool, eqb-true}
 use Rattle.std.proofs.lemmas.Nat.{from_be_bytes-to_be_bytes_4, from_be_bytes-to_be_bytes_8}
 use lib.Ieee.{Float, binary32, binary64, fits, to_bits, of_bits}
 use lib.Ieee.Bits.{of_bits-to_bits, of_bits-fits, to_bits-lt, is_true}
-use lib.Ieee.Fits.{fits_widens}
 use Rattle.ion_float.specs.Float.{IsFloat}
 use Rattle.ion_float.specs.Octets.{positive_zero, is_positive_zero, float_of_octets, float_octets}
 use Rattle.ion_float.proofs.Narrow.{same_value, zero_fits, zero_or_not}
@@ -68,15 +67,3 @@ octets-fewest x octets h = elim (cases_Bool (length octets == 0)) [
     ]
   ]
 ]
-
-by-length : (a b c : Bool) (m n : ℕ) → IfSome (if a then Some positive_zero else (if b then Some (from_bits binary32 m) else (if c then Some (from_bits binary64 n) else None))) IsFloat
-by-length true b c m n = zero_fits binary64 false
-by-length false true c m n = fits_widens (of_bits binary32 m) (of_bits-fits binary32 m)
-by-length false false true m n = of_bits-fits binary64 n
-by-length false false false m n = tt
-
-pub octets-valid : (octets : List ℕ) → IfSome (float_of_octets octets) IsFloat
-octets-valid octets = by-length (length octets == 0) (length octets == 4) (length octets == 8) (from_be_bytes w32 octets) (from_be_bytes w64 octets)
-
-pub same-valid : (r : Option Float) (octets : List ℕ) → r ≡ float_of_octets octets → IfSome r IsFloat
-same-valid r octets e = subst (λ (o : Option Float). IfSome o IsFloat) (sym e) (octets-valid octets)

@@ -1,5 +1,5 @@
 -- The octets of some floats, as they are written and as they are read.
-use Rattle.std.proofs.Common.{◌≡◌, refl, [], ◌∷◌, Some, None, true, false, from_bits}
+use Rattle.std.proofs.Common.{◌≡◌, refl, [], ◌∷◌, Some, None, false, from_bits}
 use lib.Ieee.{nan, inf, binary64, to_bits, of_bits, fits}
 use Rattle.ion_float.specs.Octets.{float_of_octets, float_octets}
 

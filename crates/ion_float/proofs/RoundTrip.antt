@@ -7,7 +7,7 @@ use Rattle.std.proofs.lemmas.Bool.Decides.{nat_tests}
 use Rattle.std.proofs.lemmas.Int.{ints}
 use Rattle.fast_float.specs.Rounding.{nearest_to_decimal}
 use lib.Dec.{ltb}
-use lib.Ieee.{Float, nan, inf, fin, Format, binary64, prec, emax, low, odd, units, round, fits, to_bits}
+use lib.Ieee.{Float, nan, inf, fin, Format, binary64, prec, emax, low, units, round, fits, to_bits}
 use lib.Ieee.Fits.{round_is}
 use mathlib.Core.Bool.{true≢false}
 use lib.Ieee.Bits.{of_bits-to_bits, to_bits-lt}
@@ -21,7 +21,7 @@ use Rattle.ion_float.proofs.Parsing.{nearest-tens}
 use Rattle.ion_float.proofs.FewDigits.{few-digits}
 use Rattle.ion_float.proofs.Narrow.{same_value, zero_fits}
 use Rattle.ion_float.proofs.Reading.{shortest_reads, is-positive}
-use Rattle.ion_float.proofs.TextOfBits.{digits-short, above-zero, shortest-row}
+use Rattle.ion_float.proofs.TextOfBits.{digits-short, above-zero, shortest-row, odd_sign}
 
 -- ---- the parts of the text of a number
 
@@ -92,11 +92,6 @@ parts-read s d (f ∷ ds) t e h p =
 
 -- ---- the sign
 
-odd-sign : (d : ℕ) (s : Bool) (q k l : ℕ) → odd d s q k l ≡ float_with_sign s (odd d false q k l)
-unfolding odd float_with_sign
-odd-sign d s zero k l = refl
-odd-sign d s (suc q) k l = refl
-
 either-sign : (b s : Bool) (x y : Float) → x ≡ float_with_sign s y → cond b x (inf s) ≡ float_with_sign s (cond b y (inf false))
 unfolding float_with_sign
 either-sign true s x y h = h
@@ -104,7 +99,7 @@ either-sign false s x y h = refl
 
 units-sign : (f : Format) (s : Bool) (q k : ℕ) → units f s q k ≡ float_with_sign s (units f false q k)
 unfolding units
-units-sign f s q k = either-sign (ltb (q * 2 ^ k) (2 ^ (low f + suc (emax f)))) s _ _ (odd-sign (suc (prec f)) s q k (low f))
+units-sign f s q k = either-sign (ltb (q * 2 ^ k) (2 ^ (low f + suc (emax f)))) s _ _ (odd_sign (suc (prec f)) s q k (low f))
 
 round-sign : (f : Format) (s : Bool) (a b : ℕ) → round f s a b ≡ float_with_sign s (round f false a b)
 round-sign f s a b = round_is f s a b ∙ units-sign f s _ _ ∙ ap (float_with_sign s) (sym (round_is f false a b))

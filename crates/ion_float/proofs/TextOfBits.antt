@@ -46,15 +46,10 @@ finite-bits x bits e number fits a b =
 
 -- ---- the sign
 
-odd_sign : (d : ℕ) (s : Bool) (q k l : ℕ) → odd d s q k l ≡ float_with_sign s (odd d false q k l)
+pub odd_sign : (d : ℕ) (s : Bool) (q k l : ℕ) → odd d s q k l ≡ float_with_sign s (odd d false q k l)
 unfolding odd float_with_sign
 odd_sign d s zero k l = refl
 odd_sign d s (suc q) k l = refl
-
-top_sign : (a : Bool) (s : Bool) (x y : Float) → x ≡ float_with_sign s y → cond a (inf s) x ≡ float_with_sign s (cond a (inf false) y)
-unfolding float_with_sign
-top_sign true s x y h = refl
-top_sign false s x y h = h
 
 nan_sign : (a b s : Bool) (x y : Float) → x ≡ float_with_sign s y
     → cond a (cond b (inf s) nan) x ≡ float_with_sign s (cond a (cond b (inf false) nan) y)
@@ -113,10 +108,6 @@ minus_text bits l h finite =
     ])
 
 -- ---- magnitudes
-
-pub zero_text : (bits : ℕ) → bits ≡ 0 → codes "0e0" ≡ float_text (from_bits binary64 bits)
-unfolding of_bits
-zero_text bits e = rw e refl
 
 number_text : (x : Float) → T (positive x) → digits_text (shortest (to_bits binary64 x)) ≡ float_text x
 number_text nan p = absurd p

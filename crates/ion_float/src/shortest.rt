@@ -16,6 +16,9 @@ pub struct Digits {
     pub row: u32,
 }
 
+// Digits are below this.
+const MOST: u64 = 100_000_000_000_000_000;
+
 /// The shortest decimal that reads as a finite double above zero: the greatest power of ten at which
 /// the nearest multiple reads as it, or the one above, and that multiple.
 pub fn shortest(bits: u64) -> Digits
@@ -35,12 +38,12 @@ pub fn shortest(bits: u64) -> Digits
 #[inline]
 fn is_shortest(found: Digits, bits: u64) -> bool
     requires above_zero { IsAboveZero bits }
-    ensures exact { IsTrue result → (found.digits, found.row) ≡ shortest bits }
+    ensures exact { IsTrue result ↔ ((found.digits, found.row) ≡ shortest bits) }
     ensures few { IsTrue result → found.digits < 10 ^ 17 }
     ensures row { IsTrue result → found.row < 651 }
 {
     let Digits { digits, row } = found;
-    if digits >= 100_000_000_000_000_000 || row > 650 || !reads_back(digits, row, bits) {
+    if digits >= MOST || row > 650 || !reads_back(digits, row, bits) {
         return false;
     }
     is_last_row(digits, row, bits) && is_taken(digits, row, bits)

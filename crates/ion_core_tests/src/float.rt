@@ -31,6 +31,8 @@ const DOUBLES: &[(u64, u64, i32)] = &[
     (0x4480_f0cf_064d_d592, 1, 22),
     (0x44b5_2d02_c7e1_4af6, 1, 23),
     (0x3ee4_f8b5_88e3_68f1, 1, -5),
+    // The one whose power is the greatest.
+    (0x7fe1_ccf3_85eb_c8a0, 1, 308),
     // Powers of two: some take the multiple above the nearest.
     (0x3d30_0000_0000_0000, 5_684_341_886_080_802, -29),
     (0x43b0_0000_0000_0000, 1_152_921_504_606_847, 3),

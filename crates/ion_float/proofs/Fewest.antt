@@ -240,7 +240,7 @@ ends_above bits k (suc p) l h =
     ]
 
 -- nothing in a row above 650 reads
-too_great : (bits row c : ℕ) → IsAboveZero bits → 651 ≤ row → ¬ (reads c row bits)
+pub too_great : (bits row c : ℕ) → IsAboveZero bits → 651 ≤ row → ¬ (reads c row bits)
 too_great bits row zero p h read = zero-reads row bits (is-positive bits p) read
 too_great bits row (suc c) p h read =
     let none : 342 - row ≡ 0 = omega arith in

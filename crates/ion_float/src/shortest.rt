@@ -16,6 +16,9 @@ pub struct Digits {
     pub row: u32,
 }
 
+// Digits are below this.
+const MOST: u64 = 100_000_000_000_000_000;
+
 /// The shortest decimal that reads as a finite double above zero: the greatest power of ten at which
 /// the nearest multiple reads as it, or the one above, and that multiple.
 pub fn shortest(bits: u64) -> Digits
@@ -35,12 +38,12 @@ pub fn shortest(bits: u64) -> Digits
 #[inline]
 fn is_shortest(found: Digits, bits: u64) -> bool
     requires above_zero { IsAboveZero bits }
-    ensures exact { IsTrue result → (found.digits, found.row) ≡ shortest bits }
+    ensures exact { IsTrue result ↔ ((found.digits, found.row) ≡ shortest bits) }
     ensures few { IsTrue result → found.digits < 10 ^ 17 }
-    ensures row { IsTrue result → found.row < 650 }
+    ensures row { IsTrue result → found.row < 651 }
 {
     let Digits { digits, row } = found;
-    if digits >= 100_000_000_000_000_000 || row >= 650 || !reads_back(digits, row, bits) {
+    if digits >= MOST || row > 650 || !reads_back(digits, row, bits) {
         return false;
     }
     is_last_row(digits, row, bits) && is_taken(digits, row, bits)
@@ -60,10 +63,14 @@ fn reads_back(digits: u64, row: u32, bits: u64) -> bool
 #[inline]
 fn is_last_row(digits: u64, row: u32, bits: u64) -> bool
     requires above_zero { IsAboveZero bits }
-    requires row { row < 650 }
+    requires row { row < 651 }
     requires read { reads digits row bits }
-    ensures { IsTrue result → NoneAbove row bits }
+    ensures { IsTrue result ↔ NoneAbove row bits }
 {
+    // In row 651 all are above the greatest double.
+    if row == 650 {
+        return true;
+    }
     let front = digits / 10;
     !reads_back(front, row + 1, bits) && !reads_back(front + 1, row + 1, bits)
 }
@@ -73,9 +80,9 @@ fn is_last_row(digits: u64, row: u32, bits: u64) -> bool
 #[inline]
 fn is_taken(digits: u64, row: u32, bits: u64) -> bool
     requires above_zero { IsAboveZero bits }
-    requires sizes { (digits < 10 ^ 17) × (row < 650) }
+    requires sizes { (digits < 10 ^ 17) × (row < 651) }
     requires read { reads digits row bits }
-    ensures { IsTrue result → IsTaken digits row bits }
+    ensures { IsTrue result ↔ IsTaken digits row bits }
 {
     if is_surely_nearest(digits, row, bits) {
         return true;
@@ -89,9 +96,9 @@ fn is_taken(digits: u64, row: u32, bits: u64) -> bool
 #[inline(never)]
 fn is_taken_exactly(digits: u64, row: u32, bits: u64) -> bool
     requires above_zero { IsAboveZero bits }
-    requires sizes { (digits < 10 ^ 17) × (row < 650) }
+    requires sizes { (digits < 10 ^ 17) × (row < 651) }
     requires read { reads digits row bits }
-    ensures { IsTrue result → IsTaken digits row bits }
+    ensures { IsTrue result ↔ IsTaken digits row bits }
 {
     let ratio = Ratio::new(bits, row);
     if ratio.reaches(digits) {

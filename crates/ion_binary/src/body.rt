@@ -50,8 +50,6 @@ pub(crate) enum Body {
 // The type codes of strings and lobs, and the least of them.
 const STRING: u8 = 8;
 
-const CLOB: u8 = 9;
-
 /// An id as readers give it.
 #[inline]
 pub(crate) fn id_of(n: u64) -> u32
@@ -95,24 +93,36 @@ fn long_id(octets: &[u8]) -> u32
     }
 }
 
-// A number, a timestamp or a symbol of these octets.
-#[tactic(auto, unfolding(ion_value::specs::Scalar::scalar_of_body))]
+// An int of these octets.
 #[inline(always)]
-fn number(type_code: u8, octets: &[u8], body: &mut Body) -> Result<(), Reason>
-    requires type_code { IsNumberCode type_code }
-    ensures gives { MatchResult result
-        (λ _. (text : List ℕ) → scalar_of_body type_code octets.now ≡ Ok (as_scalar text body.new))
-        (λ r. scalar_of_body type_code octets.now ≡ Err r) }
-    ensures range { OnOk result ((text : List ℕ) → InRange (as_scalar text body.new)) }
-{
-    *body = match type_code {
-        2 => Body::Int(int_from_bytes(false, octets)?),
-        3 => Body::Int(int_from_bytes(true, octets)?),
-        5 => Body::Decimal(decimal_from_bytes(octets)?),
-        6 => Body::Timestamp(timestamp_from_bytes(octets)?),
-        _ => Body::Symbol(uint_id(octets)),
-    };
-    Ok(())
+fn int_of(negative: bool, octets: &[u8]) -> Result<Body, Reason> {
+    if octets.len() > 8 {
+        return Ok(Body::Int(int_from_bytes(negative, octets)?));
+    }
+    let value = few_value(octets);
+    if negative && value == 0 {
+        return Err(Reason::BadNumber);
+    }
+    Ok(Body::Int(Int {
+        negative,
+        magnitude: value as u128,
+    }))
+}
+
+/// A scalar of a type code and these octets.
+#[inline(always)]
+pub(crate) fn scalar_of(type_code: u8, octets: &[u8]) -> Result<Body, Reason> {
+    match type_code {
+        2 => int_of(false, octets),
+        3 => int_of(true, octets),
+        5 => Ok(Body::Decimal(decimal_from_bytes(octets)?)),
+        6 => Ok(Body::Timestamp(timestamp_from_bytes(octets)?)),
+        7 => Ok(Body::Symbol(uint_id(octets))),
+        8 if is_text(octets) => Ok(Body::String),
+        8 => Err(Reason::BadText),
+        9 => Ok(Body::Clob),
+        _ => Ok(Body::Blob),
+    }
 }
 
 /// Whether octets are UTF-8.
@@ -142,40 +152,11 @@ fn is_short_ascii(octets: &[u8]) -> bool
     true
 }
 
-// A string or a lob of these octets.
-#[tactic(auto, unfolding(ion_value::specs::Scalar::scalar_of_body))]
-#[inline]
-fn text_or_lob(type_code: u8, octets: &[u8], body: &mut Body) -> Result<(), Reason>
-    requires type_code { (8 ≤ type_code) × (type_code ≤ 10) }
-    ensures gives { MatchResult result
-        (λ _. scalar_of_body type_code octets.now ≡ Ok (as_scalar octets.now body.new))
-        (λ r. scalar_of_body type_code octets.now ≡ Err r) }
-    ensures range { OnOk result (InRange (as_scalar octets.now body.new)) }
-{
-    if type_code == STRING && !is_text(octets) {
-        return Err(Reason::BadText);
-    }
-    *body = match type_code {
-        STRING => Body::String,
-        CLOB => Body::Clob,
-        _ => Body::Blob,
-    };
-    Ok(())
-}
-
-// A scalar of these octets.
+// Puts a scalar of these octets into a body.
 #[inline(never)]
-fn scalar(type_code: u8, octets: &[u8], body: &mut Body) -> Result<(), Reason>
-    requires type_code { IsBodyTypeCode type_code }
-    ensures gives { MatchResult result
-        (λ _. scalar_of_body type_code octets.now ≡ Ok (as_scalar octets.now body.new))
-        (λ r. scalar_of_body type_code octets.now ≡ Err r) }
-    ensures range { OnOk result (InRange (as_scalar octets.now body.new)) }
-{
-    if type_code < STRING {
-        return number(type_code, octets, body);
-    }
-    text_or_lob(type_code, octets, body)
+fn put_scalar(type_code: u8, octets: &[u8], body: &mut Body) -> Result<(), Reason> {
+    *body = scalar_of(type_code, octets)?;
+    Ok(())
 }
 
 /// Passes over n octets; false where the input ends before.
@@ -245,74 +226,34 @@ fn gather<I: Input, A: Allocator + Copy>(
     Ok(true)
 }
 
-// A number, a timestamp or a symbol whose octets lie in the window.
-#[inline(always)]
-fn number_in_window<I: Input, A: Allocator + Copy>(
-    source: &mut Source<I, A>,
-    body: &mut Body,
-    type_code: u8,
-    count: usize,
-    limits: Limits,
-    place: u64,
-) -> Result<(), Fault>
-    requires stands { Stands source.old }
-    requires type_code { IsNumberCode type_code }
-    requires there { count ≤ length (lent source.old) }
-    requires small { count ≤ limits.scalar }
-    ensures gives { (text : List ℕ) → Answers (λ _. as_scalar text body.new) result
-        (cursor I.Input source.new) place
-        (body_here limits type_code count (cursor I.Input source.old)) }
-    ensures range { OnOk result ((text : List ℕ) → InRange (as_scalar text body.new)) }
-    ensures reads { Reads I.Input source.old source.new result }
-{
-    if let Err(reason) = number(type_code, &source.buffer()[..count], body) {
-        return Err(Fault::Refused(reason, place));
-    }
-    source.consume(count);
-    Ok(())
-}
-
 /// The scalar of a type code whose body has n octets, in a part that begins at a place.
 ///
 /// The octets of a string or lob are copied to `text`, once, and those of a number that does not lie
-/// whole in the window too. Answers `ScalarLimit`, then `Truncated` where the input ends before the
-/// body does, then what is wrong in the body.
-#[tactic(auto, unfolding(crate::specs::Parts::body_here))]
-#[inline(always)]
+/// whole in the window too. Answers `Truncated` where the input ends before the body does, then what is
+/// wrong in the body.
 pub(crate) fn next_body<I: Input, A: Allocator + Copy>(
     source: &mut Source<I, A>,
     text: &mut Buf<A>,
     body: &mut Body,
     type_code: u8,
-    count: u64,
+    count: usize,
     limits: Limits,
     place: u64,
     meter: &mut Meter<A>,
-) -> Result<(), Fault>
-    requires can_read { CanRead limits limits.scalar source.old text.old meter.old }
-    requires type_code { IsBodyTypeCode type_code }
-    ensures gives { AnswersBy I.Input (λ _. as_scalar text.new body.new)
-        source.old source.new place result (body_here limits type_code count) }
-    ensures range { OnOk result (InRange (as_scalar text.new body.new)) }
-    ensures reads { ReadsInto I.Input source.old source.new meter.old meter.new
-        (length text.old) (length text.new) limits.scalar result }
-    ensures goes { GrowsWithin meter.old meter.new (length text.old) (length text.new)
-        (16 * passed_over source.old source.new) }
-{
-    if limits.scalar < count {
-        return Err(Fault::Refused(Reason::ScalarLimit, place));
+) -> Result<(), Fault> {
+    let put = if type_code < STRING && count <= source.buffer().len() {
+        let put = put_scalar(type_code, &source.buffer()[..count], body);
+        source.consume(count);
+        put
+    } else {
+        match gather(source, text, count, limits, meter) {
+            Err(fault) => return Err(fault),
+            Ok(false) => return Err(Fault::Refused(Reason::Truncated, place)),
+            Ok(true) => put_scalar(type_code, text.as_slice(), body),
+        }
+    };
+    match put {
+        Err(reason) => Err(Fault::Refused(reason, place)),
+        Ok(()) => Ok(()),
     }
-    let count = count as usize;
-    if type_code < STRING && count <= source.buffer().len() {
-        return number_in_window(source, body, type_code, count, limits, place);
-    }
-    match gather(source, text, count, limits, meter) {
-        Err(fault) => return Err(fault),
-        Ok(false) => return Err(Fault::Refused(Reason::Truncated, place)),
-        Ok(true) => {}
-    }
-    if let Err(reason) = scalar(type_code, text.as_slice(), body) {
-        return Err(Fault::Refused(reason, place));
-    }
-    Ok(())
 }

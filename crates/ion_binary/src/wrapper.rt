@@ -11,7 +11,8 @@ ghost use Rattle.ion_value.specs.Shares.{GrowsWithin};
 ghost use Rattle.ion_binary.specs.Wrappers.{as_wrapped, as_annotations, as_field, innermost};
 
 use crate::body::id_of;
-use crate::octets::{next_length, next_var_uint};
+use crate::octets::next_var_uint;
+use crate::reader::front::{Around, Level};
 use ion_meter::device::Input;
 use ion_meter::fault::{Fault, Reason};
 use ion_meter::limits::Limits;
@@ -54,88 +55,59 @@ pub(crate) struct Wrapper {
 #[inline(always)]
 pub(crate) fn next_field<I: Input, A: Allocator + Copy>(
     source: &mut Source<I, A>,
-    frame: Option<Frame>,
-) -> Result<Option<Field>, Fault>
-    requires stands { Stands source.old }
-    ensures gives { AnswersBy I.Input as_field source.old source.new source.old.place result
-        (field_at (innermost frame)) }
-    ensures reads { Reads I.Input source.old source.new result }
-    ensures struct_alone { IfOk result
-        (λ field. is_some field ≡ in_struct (map (λ f. f.kind) (innermost frame))) }
-{
-    let Some(frame) = frame else {
-        return Ok(None);
-    };
-    if frame.kind != Kind::Struct {
-        return Ok(None);
-    }
-    let place = source.place();
-    match next_var_uint(source, Some(frame.end), place) {
-        Err(fault) => Err(fault),
-        Ok(id) => Ok(Some(Field {
-            id: id_of(id),
-            place,
-        })),
+    around: Around,
+) -> Result<Option<Field>, Fault> {
+    match around.level {
+        Level::Top | Level::List | Level::Sexp => Ok(None),
+        Level::Struct => {
+            let place = source.place();
+            let id = id_of(next_var_uint(source, place, around.end)?);
+            Ok(Some(Field { id, place }))
+        }
     }
 }
 
-// Whether n octets from a place on pass the region's end.
-#[inline]
-fn passes_end(region: Option<u64>, here: u64, count: u64) -> bool
-    requires { here + count < 2 ^ 64 }
-    ensures { result ≡ passes region here count }
-{
-    region.is_some_and(|end| end < here + count)
-}
-
-// Whether a wrapper of these lengths may not be: it has fewer than three octets, no annotation, or
-// no octet for a value. `behind` is the place behind the length of its annotations.
-#[inline]
-fn is_no_wrapper(count: u64, ids: u64, behind: u64, end: u64) -> bool
-    requires { behind + ids < 2 ^ 64 }
-    ensures { result ≡ (nat_lt count 3 || nat_eq ids 0 || nat_le end (behind + ids)) }
-{
-    count < 3 || ids == 0 || end <= behind + ids
-}
-
-/// The lengths of an annotation wrapper behind its descriptor octet.
+/// A wrapper of so many octets from a place on, in a region, the length of whose annotations is known,
+/// and the place behind that.
 ///
-/// All their octets come first, those of the annotations' length within what the wrapper's own length
-/// says. Then `Overrun` where that passes the region, and `BadAnnotation` where the wrapper has fewer
-/// than three octets, no annotation, or no octet for a value.
-pub(crate) fn next_wrapper<I: Input, A: Allocator + Copy>(
-    source: &mut Source<I, A>,
-    length_code: u8,
-    region: Option<u64>,
-    place: u64,
-) -> Result<Wrapper, Fault>
-    requires stands { Stands source.old }
-    requires length_code { length_code < 15 }
-    ensures gives { AnswersBy I.Input as_wrapped source.old source.new place result
-        (wrapper_at region length_code) }
-    ensures reads { Reads I.Input source.old source.new result }
-{
-    let count = match next_length(source, length_code, region, place) {
-        Err(fault) => return Err(fault),
-        Ok(count) => count,
-    };
-    let here = source.place();
+/// It is `Overrun` where it passes the region, and `BadAnnotation` where it has fewer than three octets,
+/// no annotation, or no octet for a value.
+#[inline(always)]
+pub(crate) fn wrapper_of(
+    here: u64,
+    count: u64,
+    behind: u64,
+    ids: u64,
+    region_end: u64,
+) -> Result<Wrapper, Reason> {
     let end = here + count;
-    let ids = match next_var_uint(source, Some(end), place) {
-        Err(fault) => return Err(fault),
-        Ok(ids) => ids,
-    };
-    if passes_end(region, here, count) {
-        return Err(Fault::Refused(Reason::Overrun, place));
+    if region_end < end {
+        return Err(Reason::Overrun);
     }
-    let behind = source.place();
-    if is_no_wrapper(count, ids, behind, end) {
-        return Err(Fault::Refused(Reason::BadAnnotation, place));
+    if count < 3 || ids == 0 || end <= behind + ids {
+        return Err(Reason::BadAnnotation);
     }
     Ok(Wrapper {
         ids: behind + ids,
         end,
     })
+}
+
+/// The length of the annotations of a wrapper that has so many octets more, and begins at a place.
+///
+/// Its octets come first, within the wrapper.
+pub(crate) fn next_wrapper<I: Input, A: Allocator + Copy>(
+    source: &mut Source<I, A>,
+    count: u64,
+    place: u64,
+    region_end: u64,
+) -> Result<Wrapper, Fault> {
+    let here = source.place();
+    let ids = next_var_uint(source, place, here + count)?;
+    match wrapper_of(here, count, source.place(), ids, region_end) {
+        Ok(wrapper) => Ok(wrapper),
+        Err(reason) => Err(Fault::Refused(reason, place)),
+    }
 }
 
 /// The annotations of a wrapper, up to the place where they end.
@@ -148,23 +120,10 @@ pub(crate) fn next_annotations<I: Input, A: Allocator + Copy>(
     end: u64,
     limits: Limits,
     meter: &mut Meter<A>,
-) -> Result<(), Fault>
-    requires can_read { CanRead limits limits.scalar source.old [] meter.old }
-    requires none { annotations.old ≡ [] }
-    ensures gives { I.observable source.old.device
-        → AnswersAt (λ _. as_annotations annotations.new) result
-        (cursor I.Input source.new) (ids_at end limits end 0 (cursor I.Input source.old)) }
-    ensures reads { ReadsInto I.Input source.old source.new meter.old meter.new
-        0 (16 * length annotations.new) limits.scalar result }
-    ensures goes { GrowsWithin meter.old meter.new 0 (16 * length annotations.new)
-        (16 * passed_over source.old source.new) }
-{
+) -> Result<(), Fault> {
     while source.place() < end {
         let place = source.place();
-        let id = match next_var_uint(source, Some(end), place) {
-            Err(fault) => return Err(fault),
-            Ok(id) => id_of(id),
-        };
+        let id = id_of(next_var_uint(source, place, end)?);
         if limits.scalar < 16 * (annotations.as_slice().len() as u64 + 1) {
             return Err(Fault::Refused(Reason::AnnotationLimit, place));
         }

@@ -8,8 +8,9 @@ ghost use Rattle.ion_value.specs.Value.{whole};
 
 use super::texts::{begins_with_dollar, shown_text};
 use crate::body::id_of;
-use crate::shown::{shown_note, shown_var};
-use crate::wrapper::Frame;
+use crate::descriptor::Shape;
+use crate::scan::{Region, Scanned, TOP, scan_length, scan_var};
+use crate::wrapper::{Frame, wrapper_of};
 use ion_meter::limits::Limits;
 use ion_value::ion_type::Kind;
 use ion_value::names::Names;
@@ -30,19 +31,19 @@ pub(crate) enum Level {
 // all places.
 #[derive(Clone, Copy)]
 pub(crate) struct Around {
-    pub(super) level: Level,
-    pub(super) end: u64,
+    pub(crate) level: Level,
+    pub(crate) end: u64,
 }
 
 // Where the members of the innermost container stand.
 #[inline(always)]
-pub(super) fn around_in(frames: &[Frame]) -> Around
+pub(crate) fn around_in(frames: &[Frame]) -> Around
     ensures { IsAround (as_frames frames.now) result }
 {
     match frames.last().copied() {
         None => Around {
             level: Level::Top,
-            end: u64::MAX,
+            end: TOP,
         },
         Some(frame) => inside(frame),
     }
@@ -81,7 +82,7 @@ pub(super) fn shown_field<'n, N: Names>(
     match around.level {
         Level::Top | Level::List | Level::Sexp => Some((None, 0)),
         Level::Struct => {
-            let Some((id, behind)) = shown_var(octets, 0) else {
+            let Scanned::Whole(id, behind) = scan_var(octets) else {
                 return None;
             };
             let Some(name) = shown_text(id_of(id), here, names, any) else {
@@ -94,7 +95,7 @@ pub(super) fn shown_field<'n, N: Names>(
 
 // Whether the innermost container ends at a place.
 #[inline(always)]
-pub(super) fn ends_here(around: Around, place: u64) -> bool
+pub(crate) fn ends_here(around: Around, place: u64) -> bool
     requires top { kind_around around.level ≡ None → place < around.end }
     ensures ends { result ≡ true → EndsHere (frame_in around) place }
     ensures goes_on { result ≡ false → GoesOn (frame_in around) place }
@@ -147,32 +148,44 @@ pub(super) fn noted_front<'n, N: Names>(
     at: usize,
     limits: Limits,
     names: &'n N,
-) -> Option<Front<'n>>
-    requires small { here + length octets.now < 2 ^ 63 }
-    requires field { ShowsField (N.text names.now) octets.now here
-        (innermost (frame_in around)) field at }
-    ensures { IfSome result (λ f. ShowsFront (N.text names.entry.now) limits octets.now here
-        (innermost (frame_in around)) f) }
-{
+) -> Option<Front<'n>> {
     if at >= octets.len() {
         return None;
     }
-    let Some(note) = shown_note(octets, here, at, around.end, limits) else {
+    let Shape::Wrapper(length_code) = Shape::of(octets[at]) else {
         return None;
     };
-    let Some(first) = noted_text(note.id, here + note.from as u64, names) else {
+    let lengths = at + 1;
+    let place = here + lengths as u64;
+    let Scanned::Whole(count, n) = scan_length(length_code, &octets[lengths..], place, around.end)
+    else {
         return None;
     };
-    let Some(second) = second_text(note.second, here, names) else {
+    let behind = lengths + n;
+    let Scanned::Whole(ids, n) = scan_var(&octets[behind..]) else {
         return None;
     };
+    let from = behind + n;
+    let Ok(wrapper) = wrapper_of(here + behind as u64, count, here + from as u64, ids, around.end)
+    else {
+        return None;
+    };
+    let Scanned::Whole(id, n) = scan_var(&octets[from..]) else {
+        return None;
+    };
+    let first = noted_text(id, here + from as u64, names)?;
+    let next = from + n;
+    let (second, head) = second_text(octets, here, next, wrapper.ids, names)?;
+    if limits.scalar < 32 {
+        return None;
+    }
     Some(Front {
         field,
         annotation: Some(first),
         second,
         at,
-        head: note.inner,
-        wrapper: Some(note.end),
+        head,
+        wrapper: Some(wrapper.end),
     })
 }
 
@@ -190,22 +203,24 @@ fn noted_text<'n, N: Names>(id: u64, place: u64, names: &'n N) -> Option<TextAt<
     Some(text)
 }
 
-// The text of the id of a second annotation, if there is one.
+// The text of a second annotation's id at an offset, unless the annotations end there, and where they end.
 #[inline(always)]
 fn second_text<'n, N: Names>(
-    second: Option<(u64, usize)>,
+    octets: &[u8],
     here: u64,
+    at: usize,
+    end: u64,
     names: &'n N,
-) -> Option<Option<TextAt<'n>>>
-    requires { IfSome second (λ s. here + s.1 < 2 ^ 64) }
-    ensures { IfSome result (IsSecondNote (N.text names.entry.now) here second) }
-{
-    let Some((id, at)) = second else {
-        return Some(None);
-    };
-    match noted_text(id, here + at as u64, names) {
-        Some(text) => Some(Some(text)),
-        None => None,
+) -> Option<(Option<TextAt<'n>>, usize)> {
+    let place = here + at as u64;
+    if place == end {
+        return Some((None, at));
+    }
+    match scan_var(&octets[at..]) {
+        Scanned::Whole(id, n) if place + n as u64 == end => {
+            Some((Some(noted_text(id, place, names)?), at + n))
+        }
+        _ => None,
     }
 }
 
@@ -218,25 +233,12 @@ pub(super) fn is_bare(name: Option<TextAt<'_>>) -> bool {
     }
 }
 
-// How far a value may go: to the end of the wrapper around it, or else of its container.
+// The region of a value behind a front, where so many containers are open.
 #[inline(always)]
-pub(super) fn inner_end(wrapper: Option<u64>, around: u64) -> u64
-    ensures { (region : Region) → Bounds region around
-        → Bounds (inner_region wrapper region) result }
-{
-    match wrapper {
-        Some(end) => end,
-        None => around,
-    }
-}
-
-// Whether what ends at a place fills the wrapper around it.
-#[inline(always)]
-pub(super) fn fills(wrapper: Option<u64>, place: u64) -> bool
-    ensures { result ≡ true → FillsTo wrapper place }
-{
-    match wrapper {
-        Some(end) => end == place,
-        None => true,
+pub(super) fn region_behind(front: Front<'_>, around: Around, depth: u32) -> Region {
+    Region {
+        wrapped: front.wrapper.is_some(),
+        end: front.wrapper.unwrap_or(around.end),
+        depth,
     }
 }

@@ -18,12 +18,13 @@ ghost use Rattle.ion_binary.specs.Wrappers.{as_frames, innermost};
 ghost use Rattle.ion_value.specs.Value.{Id, Text, map_head, symbol, whole};
 
 use super::front::{
-    Around, Front, Level, around_in, bare_front, ends_here, fills, inner_end, inside, is_bare,
+    Around, Front, Level, around_in, bare_front, ends_here, inside, is_bare, region_behind,
     shown_field,
 };
 use super::{BinReader, ItemKind};
 use crate::descriptor::Shape;
-use crate::shown::{Shown, ShownScalar, shown_value};
+use crate::body::{Body, scalar_of};
+use crate::scan::{Found, Scanned, scan_value};
 use crate::wrapper::Frame;
 use ion_meter::device::{Input, Output};
 use ion_meter::meter::Meter;
@@ -53,28 +54,42 @@ fn unspelled<'h>(head: Head<'h>) -> SpelledHead<'h>
     }
 }
 
-// A scalar as a head, where it is no symbol without a text.
+// A scalar as a head, where it is no symbol without a text and no lob; the octets of a string stand beside
+// it.
 #[inline(always)]
-fn shown_head<'h, N: Names>(
-    scalar: ShownScalar<'h>,
+fn scalar_head<'h, N: Names>(
+    scalar: Body,
+    text: &'h [u8],
     place: u64,
     names: &'h N,
-) -> Option<SpelledHead<'h>>
-    ensures head { IfSome result (λ h. raw_head h.head
-        ≡ map_head (named_at (N.text names.entry.now))
-        (whole (placed_scalar place (shown_scalar scalar.entry)))) }
-    ensures known { IfSome result (λ h. IsPlainHead (raw_head h.head)) }
-    ensures spelled { IfSome result
-        (λ h. IfSome h.spelled (λ t. IsWrittenAs t.quoting t.text.now (raw_head h.head))) }
-{
+) -> Option<SpelledHead<'h>> {
     match scalar {
-        ShownScalar::Null(of) => Some(unspelled(Head::Null(of))),
-        ShownScalar::Bool(truth) => Some(unspelled(Head::Bool(truth))),
-        ShownScalar::Int(int) => Some(unspelled(Head::Int(int))),
-        ShownScalar::Decimal(decimal) => Some(unspelled(Head::Decimal(decimal))),
-        ShownScalar::Timestamp(moment) => Some(unspelled(Head::Timestamp(moment))),
-        ShownScalar::String(text) => Some(unspelled(Head::String(text))),
-        ShownScalar::Symbol(id) => shown_symbol(id, place, names),
+        Body::Null(of) => Some(unspelled(Head::Null(of))),
+        Body::Bool(truth) => Some(unspelled(Head::Bool(truth))),
+        Body::Int(int) => Some(unspelled(Head::Int(int))),
+        Body::Decimal(decimal) => Some(unspelled(Head::Decimal(decimal))),
+        Body::Timestamp(moment) => Some(unspelled(Head::Timestamp(moment))),
+        Body::String => Some(unspelled(Head::String(text))),
+        Body::Symbol(id) => shown_symbol(id, place, names),
+        Body::Clob | Body::Blob => None,
+    }
+}
+
+// The scalar that was found, whose body these octets begin with, and the octets of its body; none where they do
+// not hold it, or it is none or refused.
+#[inline(always)]
+fn whole_scalar(found: Found, octets: &[u8]) -> Option<(Body, &[u8])> {
+    match found {
+        Found::Null(of) => Some((Body::Null(of), &[])),
+        Found::Bool(truth) => Some((Body::Bool(truth), &[])),
+        Found::Body(type_code, count) if count <= octets.len() as u64 => {
+            let body = &octets[..count as usize];
+            match scalar_of(type_code, body) {
+                Ok(scalar) => Some((scalar, body)),
+                Err(_) => None,
+            }
+        }
+        _ => None,
     }
 }
 
@@ -141,18 +156,6 @@ fn top_at(around: Around, top: u64, here: u64) -> u64
     match around.level {
         Level::Top => here,
         Level::List | Level::Sexp | Level::Struct => top,
-    }
-}
-
-// The place where what is shown ends, a container with its members.
-#[inline(always)]
-fn far_end(here: u64, behind: usize, found: Shown<'_>) -> u64
-    requires { here + behind < 2 ^ 64 }
-    ensures { result ≡ far_end here behind found.entry }
-{
-    match found {
-        Shown::Scalar(_) => here + behind as u64,
-        Shown::Begin(_, end) => end,
     }
 }
 
@@ -351,119 +354,49 @@ impl<I: Input, A: Allocator + Copy> BinReader<I, A> {
         }
         match Shape::of(octets[front.head]) {
             Shape::Null(of) => {
-                self.hand_shape(Shape::Null(of), around, front, meter, names, writer, sink)
+                let shape = Shape::Null(of);
+                self.hand_shape(shape, around, front, meter, names, writer, sink)
             }
             Shape::Bool(truth) => {
-                self.hand_shape(
-                    Shape::Bool(truth),
-                    around,
-                    front,
-                    meter,
-                    names,
-                    writer,
-                    sink,
-                )
+                let shape = Shape::Bool(truth);
+                self.hand_shape(shape, around, front, meter, names, writer, sink)
             }
-            Shape::Body {
-                type_code,
-                length_code,
-            } => self.hand_body::<N, W, O, OTHERS>(
-                type_code,
-                length_code,
-                around,
-                front,
-                meter,
-                names,
-                writer,
-                sink,
-            ),
             Shape::Container(kind, length_code) => {
                 let shape = Shape::Container(kind, length_code);
                 self.hand_shape(shape, around, front, meter, names, writer, sink)
             }
+            Shape::Body {
+                type_code,
+                length_code,
+            } => match type_code {
+                2 => {
+                    let shape = Shape::body(2, length_code);
+                    self.hand_shape(shape, around, front, meter, names, writer, sink)
+                }
+                3 => {
+                    let shape = Shape::body(3, length_code);
+                    self.hand_shape(shape, around, front, meter, names, writer, sink)
+                }
+                5 => {
+                    let shape = Shape::body(5, length_code);
+                    self.hand_shape(shape, around, front, meter, names, writer, sink)
+                }
+                6 => {
+                    let shape = Shape::body(6, length_code);
+                    self.hand_shape(shape, around, front, meter, names, writer, sink)
+                }
+                7 => {
+                    let shape = Shape::body(7, length_code);
+                    self.hand_shape(shape, around, front, meter, names, writer, sink)
+                }
+                8 => {
+                    let shape = Shape::body(8, length_code);
+                    self.hand_shape(shape, around, front, meter, names, writer, sink)
+                }
+                _ => false,
+            },
             _ => false,
         }
-    }
-
-    // Hands on a scalar with a body, by its type code. Lobs are not handed on.
-    #[inline(always)]
-    fn hand_body<N: Names, W: ValueWriter<O, A>, O: Output, const OTHERS: bool>(
-        &mut self,
-        type_code: u8,
-        length_code: u8,
-        around: &mut Around,
-        front: Front<'_>,
-        meter: &mut Meter<A>,
-        names: &N,
-        writer: &mut W,
-        sink: &mut Sink<O, A>,
-    ) -> bool
-        requires { CanHandShape W.ValueWriter (N.text names.now) self.old around.old front
-            (body type_code length_code) writer.old sink.old meter.old }
-        ensures { HandsAt I.Input W.ValueWriter (named_item (N.text names.now)) self.old self.new
-            writer.old writer.new sink.old sink.new meter.old meter.new around.new result }
-    {
-        match type_code {
-            2 => {
-                let shape = Shape::body(2, length_code);
-                self.hand_shape(shape, around, front, meter, names, writer, sink)
-            }
-            3 => {
-                let shape = Shape::body(3, length_code);
-                self.hand_shape(shape, around, front, meter, names, writer, sink)
-            }
-            5 => {
-                let shape = Shape::body(5, length_code);
-                self.hand_shape(shape, around, front, meter, names, writer, sink)
-            }
-            6 => {
-                let shape = Shape::body(6, length_code);
-                self.hand_shape(shape, around, front, meter, names, writer, sink)
-            }
-            7 => {
-                let shape = Shape::body(7, length_code);
-                self.hand_shape(shape, around, front, meter, names, writer, sink)
-            }
-            8 => {
-                let shape = Shape::body(8, length_code);
-                self.hand_shape(shape, around, front, meter, names, writer, sink)
-            }
-            _ => false,
-        }
-    }
-
-    // What is shown behind a front of a head of this shape, and how many octets the item has.
-    #[inline(always)]
-    fn shown_behind(
-        &self,
-        shape: Shape,
-        around: Around,
-        front: Front<'_>,
-    ) -> Option<(Shown<'_>, usize)>
-        requires stands { Stands self.now.source }
-        requires sized { IsSized self.now }
-        requires within { front.head < length (lent self.now.source) }
-        requires shape { as_shape shape ≡ shape_of (get_or (lent self.now.source) front.head 0) }
-        ensures shows { IfSome result (λ r. ShowsValue self.entry.now.limits
-            (lent self.entry.now.source) self.entry.now.source.place
-            (inner_region front.entry.wrapper (region_of (innermost (frame_in around))))
-            (length (as_frames self.entry.now.frames)) front.entry.head r.1 r.0) }
-        ensures fills { IfSome result (λ r. FillsTo front.entry.wrapper
-            (far_end self.entry.now.source.place r.1 r.0)) }
-    {
-        let here = self.source.place();
-        let octets = self.source.buffer();
-        let most = inner_end(front.wrapper, around.end);
-        let depth = self.frames.as_slice().len() as u32;
-        let at = front.head;
-        let Some((found, behind)) = shown_value(shape, octets, here, at, most, depth, self.limits)
-        else {
-            return None;
-        };
-        if !fills(front.wrapper, far_end(here, behind, found)) {
-            return None;
-        }
-        Some((found, behind))
     }
 
     // Passes over an item whose octets are so many.
@@ -500,25 +433,14 @@ impl<I: Input, A: Allocator + Copy> BinReader<I, A> {
         ensures { HandsAt I.Input W.ValueWriter (named_item (N.text names.now)) self.old self.new
             writer.old writer.new sink.old sink.new meter.old meter.new around.new result }
     {
-        let Some((found, behind)) = self.shown_behind(shape, *around, front) else {
-            return false;
-        };
         let here = self.source.place();
         let place = here + front.head as u64;
         let top = top_at(*around, self.top, here);
-        match found {
-            Shown::Scalar(scalar) => {
-                let Some(shown) = shown_head(scalar, place, names) else {
-                    return false;
-                };
-                let item = item_behind(front, shown, place, top);
-                if !writer.take_plain(meter, sink, item) {
-                    return false;
-                }
-                self.pass(*around, behind);
-                true
-            }
-            Shown::Begin(kind, end) => {
+        let depth = self.frames.as_slice().len() as u32;
+        let region = region_behind(front, *around, depth);
+        let octets = &self.source.buffer()[front.head..];
+        match scan_value(shape, octets, place, region, self.limits) {
+            Scanned::Whole(Found::Begin(kind, end), count) => {
                 let item = item_behind(front, unspelled(Head::Begin(kind)), place, top);
                 if !self.frames.push_within(meter, Frame { kind, end }) {
                     return false;
@@ -527,10 +449,25 @@ impl<I: Input, A: Allocator + Copy> BinReader<I, A> {
                     self.frames.pop(meter);
                     return false;
                 }
-                self.pass(*around, behind);
+                self.pass(*around, front.head + count);
                 *around = inside(Frame { kind, end });
                 true
             }
+            Scanned::Whole(found, count) => {
+                let Some((scalar, body)) = whole_scalar(found, &octets[count..]) else {
+                    return false;
+                };
+                let behind = front.head + count + body.len();
+                let Some(head) = scalar_head(scalar, body, place, names) else {
+                    return false;
+                };
+                if !writer.take_plain(meter, sink, item_behind(front, head, place, top)) {
+                    return false;
+                }
+                self.pass(*around, behind);
+                true
+            }
+            Scanned::Fault(_) | Scanned::Cut => false,
         }
     }
 }

@@ -1,0 +1,244 @@
+//! Scanners of what stands in a window: VarUInts, and descriptors with the length behind them (binary
+//! encoding, "Basic Field Formats" and "Typed Value Formats"). Each reads a slice alone.
+//!
+//! Every test of a region answers `Overrun`. So one test behind a length stands for those of the octets
+//! before it: where it holds they are in the region too, and where not, one of them is the first outside.
+
+use crate::descriptor::Shape;
+use ion_meter::fault::Reason;
+use ion_meter::limits::Limits;
+use ion_value::ion_type::{IonType, Kind};
+use ion_value::var::var_uint_read;
+
+/// What octets show of the part that begins at the front of them, whatever octets follow.
+#[derive(Clone, Copy)]
+pub(crate) enum Scanned<T> {
+    /// All of it: what it is, and how many octets it has.
+    Whole(T, usize),
+    /// A fault in it.
+    Fault(Reason),
+    /// Not all of it: at least one octet more is in its region.
+    Cut,
+}
+
+/// Where a value stands.
+#[derive(Clone, Copy)]
+pub(crate) struct Region {
+    /// Whether an annotation wrapper is around it.
+    pub(crate) wrapped: bool,
+    /// The place where the innermost container or wrapper ends, `TOP` at top level.
+    pub(crate) end: u64,
+    /// How many containers are open.
+    pub(crate) depth: u32,
+}
+
+/// The end of the top level, which is behind all places.
+pub(crate) const TOP: u64 = u64::MAX;
+
+/// What a descriptor and the length behind it begin.
+#[derive(Clone, Copy)]
+pub(crate) enum Found {
+    /// A NOP pad, of which so many octets follow.
+    NopPad(u64),
+    /// A version marker.
+    Marker,
+    /// The null of a type.
+    Null(IonType),
+    /// A truth value.
+    Bool(bool),
+    /// A scalar of this type code whose body of so many octets follows.
+    Body(u8, u64),
+    /// A container's beginning, and the place of its end.
+    Begin(Kind, u64),
+    /// An annotation wrapper, of which so many octets follow.
+    Wrapper(u64),
+}
+
+// The most octets that a VarUInt has.
+const LONGEST: usize = 9;
+
+/// The VarUInt here.
+#[inline(always)]
+pub(crate) fn scan_var(octets: &[u8]) -> Scanned<u64> {
+    if octets.len() >= 2 {
+        let first = octets[0] as u64;
+        if first >= 128 {
+            return Scanned::Whole(first - 128, 1);
+        }
+        let second = octets[1] as u64;
+        if second >= 128 {
+            return Scanned::Whole(first * 128 + (second - 128), 2);
+        }
+    }
+    scan_long_var(octets)
+}
+
+// A VarUInt of any number of octets.
+#[cold]
+#[inline(never)]
+fn scan_long_var(octets: &[u8]) -> Scanned<u64> {
+    match var_uint_read(octets) {
+        Ok((number, count)) => Scanned::Whole(number, count),
+        Err(_) if octets.len() < LONGEST => Scanned::Cut,
+        Err(reason) => Scanned::Fault(reason),
+    }
+}
+
+/// The VarUInt at a place, in a region that ends at another.
+#[inline(always)]
+pub(crate) fn scan_var_in(octets: &[u8], place: u64, end: u64) -> Scanned<u64> {
+    let scanned = scan_var(octets);
+    let count = match scanned {
+        Scanned::Whole(_, count) => count,
+        Scanned::Fault(_) | Scanned::Cut => LONGEST.min(octets.len() + 1),
+    };
+    if end < place + count as u64 {
+        return Scanned::Fault(Reason::Overrun);
+    }
+    scanned
+}
+
+/// The length that a descriptor with these low four bits has: 14 says that a VarUInt follows.
+#[inline(always)]
+pub(crate) fn scan_length(length_code: u8, octets: &[u8], place: u64, end: u64) -> Scanned<u64> {
+    if length_code < 14 {
+        return Scanned::Whole(length_code as u64, 0);
+    }
+    scan_var_in(octets, place, end)
+}
+
+impl Region {
+    // So many octets from a place on do not pass the region, and fill it where it is a wrapper.
+    #[inline(always)]
+    fn check_fits(self, here: u64, count: u64) -> Result<(), Reason> {
+        if self.end < here + count {
+            return Err(Reason::Overrun);
+        }
+        if self.wrapped && here + count < self.end {
+            return Err(Reason::BadAnnotation);
+        }
+        Ok(())
+    }
+}
+
+/// What stands at a place in a region: a descriptor, and the length behind it.
+///
+/// Refuses, in this order, what a wrapper may not hold, lengths that do not end, a length above the
+/// region, a wrapped value that ends before its wrapper, too many open containers or too long a scalar.
+#[inline(always)]
+pub(crate) fn scan_part(octets: &[u8], place: u64, region: Region, limits: Limits) -> Scanned<Found> {
+    if region.end <= place {
+        return Scanned::Fault(Reason::Overrun);
+    }
+    if octets.is_empty() {
+        return Scanned::Cut;
+    }
+    scan_value(Shape::of(octets[0]), octets, place, region, limits)
+}
+
+/// What begins with a descriptor of this shape.
+#[inline(always)]
+pub(crate) fn scan_value(
+    shape: Shape,
+    octets: &[u8],
+    place: u64,
+    region: Region,
+    limits: Limits,
+) -> Scanned<Found> {
+    let length_code = match shape {
+        Shape::Null(_) | Shape::Bool(_) => 0,
+        Shape::Body {
+            type_code: _,
+            length_code,
+        } => length_code,
+        Shape::Container(_, length_code) => length_code,
+        _ => return scan_rare(octets, place, region, limits),
+    };
+    let behind = place + 1;
+    match scan_length(length_code, &octets[1..], behind, region.end) {
+        Scanned::Cut => Scanned::Cut,
+        Scanned::Fault(reason) => Scanned::Fault(reason),
+        Scanned::Whole(count, n) => {
+            match found_of(shape, behind + n as u64, count, region, limits) {
+                Ok(found) => Scanned::Whole(found, n + 1),
+                Err(reason) => Scanned::Fault(reason),
+            }
+        }
+    }
+}
+
+// What a shape and the length behind it begin.
+#[inline(always)]
+fn found_of(
+    shape: Shape,
+    here: u64,
+    count: u64,
+    region: Region,
+    limits: Limits,
+) -> Result<Found, Reason> {
+    region.check_fits(here, count)?;
+    match shape {
+        Shape::Null(of) => Ok(Found::Null(of)),
+        Shape::Bool(truth) => Ok(Found::Bool(truth)),
+        Shape::NopPad(_) => Ok(Found::NopPad(count)),
+        Shape::Container(kind, _) if region.depth < limits.depth => {
+            Ok(Found::Begin(kind, here + count))
+        }
+        Shape::Sorted if region.depth < limits.depth => {
+            Ok(Found::Begin(Kind::Struct, here + count))
+        }
+        Shape::Body {
+            type_code,
+            length_code: _,
+        } if count <= limits.scalar => Ok(Found::Body(type_code, count)),
+        Shape::Body { .. } => Err(Reason::ScalarLimit),
+        _ => Err(Reason::DepthLimit),
+    }
+}
+
+// What is no frequent value: NOP pads, structs with their fields in order, wrappers, markers, and all
+// that is refused.
+#[inline(never)]
+fn scan_rare(octets: &[u8], place: u64, region: Region, limits: Limits) -> Scanned<Found> {
+    let octet = octets[0];
+    if region.end <= place {
+        return Scanned::Fault(Reason::Overrun);
+    }
+    if region.wrapped && (octet / 16 == 14 || octet < 15) {
+        return Scanned::Fault(Reason::BadAnnotation);
+    }
+    let shape = Shape::of(octet);
+    let length_code = match shape {
+        Shape::Marker => return scan_marker(octets, region.end),
+        Shape::Float => return Scanned::Fault(Reason::Float),
+        Shape::Sorted => 14,
+        Shape::NopPad(length_code) | Shape::Wrapper(length_code) => length_code,
+        _ => return Scanned::Fault(Reason::BadDescriptor),
+    };
+    match scan_length(length_code, &octets[1..], place + 1, region.end) {
+        Scanned::Cut => Scanned::Cut,
+        Scanned::Fault(reason) => Scanned::Fault(reason),
+        Scanned::Whole(count, n) => match shape {
+            Shape::Wrapper(_) => Scanned::Whole(Found::Wrapper(count), n + 1),
+            Shape::Sorted if count == 0 => Scanned::Fault(Reason::BadDescriptor),
+            _ => match found_of(shape, place + 1 + n as u64, count, region, limits) {
+                Ok(found) => Scanned::Whole(found, n + 1),
+                Err(reason) => Scanned::Fault(reason),
+            },
+        },
+    }
+}
+
+// A version marker, which stands at top level alone.
+fn scan_marker(octets: &[u8], end: u64) -> Scanned<Found> {
+    if end != TOP {
+        return Scanned::Fault(Reason::BadDescriptor);
+    }
+    if octets.len() < 4 {
+        return Scanned::Cut;
+    }
+    if octets[1..4] != [0x01, 0x00, 0xEA] {
+        return Scanned::Fault(Reason::BadVersion);
+    }
+    Scanned::Whole(Found::Marker, 4)
+}

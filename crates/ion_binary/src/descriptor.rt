@@ -49,6 +49,21 @@ impl Shape {
         }
     }
 
+    /// The length code by which a length goes, and 0 where none does.
+    #[inline(always)]
+    pub(crate) fn length_code(self) -> u8 {
+        match self {
+            Shape::NopPad(length_code) | Shape::Wrapper(length_code) => length_code,
+            Shape::Container(_, length_code) => length_code,
+            Shape::Body {
+                type_code: _,
+                length_code,
+            } => length_code,
+            Shape::Sorted => 14,
+            Shape::Null(_) | Shape::Bool(_) | Shape::Marker | Shape::Float | Shape::Illegal => 0,
+        }
+    }
+
     // Where the low four bits are 15.
     #[inline]
     fn null(type_code: u8) -> Shape

@@ -57,26 +57,39 @@ pub(crate) enum Found {
 // The most octets that a VarUInt has.
 const LONGEST: usize = 9;
 
-/// The VarUInt here.
+/// The number that a VarUInt of one octet or two spells, and how many octets it has.
+///
+/// It calls nothing, so that a loop in which it stands keeps its values in registers.
 #[inline(always)]
-pub(crate) fn scan_var(octets: &[u8]) -> Scanned<u64> {
-    if octets.len() >= 2 {
-        let first = octets[0] as u64;
-        if first >= 128 {
-            return Scanned::Whole(first - 128, 1);
-        }
-        let second = octets[1] as u64;
-        if second >= 128 {
-            return Scanned::Whole(first * 128 + (second - 128), 2);
-        }
+pub(crate) fn few_var(octets: &[u8]) -> Option<(u64, usize)> {
+    if octets.len() < 2 {
+        return None;
     }
-    scan_long_var(octets)
+    let first = octets[0] as u64;
+    if first >= 128 {
+        return Some((first - 128, 1));
+    }
+    let second = octets[1] as u64;
+    if second >= 128 {
+        return Some((first * 128 + (second - 128), 2));
+    }
+    None
 }
 
-// A VarUInt of any number of octets.
-#[cold]
-#[inline(never)]
-fn scan_long_var(octets: &[u8]) -> Scanned<u64> {
+/// The length that a descriptor with these low four bits has, where it has two octets at most.
+#[inline(always)]
+pub(crate) fn few_length(length_code: u8, octets: &[u8]) -> Option<(u64, usize)> {
+    if length_code < 14 {
+        return Some((length_code as u64, 0));
+    }
+    few_var(octets)
+}
+
+/// The VarUInt here.
+pub(crate) fn scan_var(octets: &[u8]) -> Scanned<u64> {
+    if let Some((number, count)) = few_var(octets) {
+        return Scanned::Whole(number, count);
+    }
     match var_uint_read(octets) {
         Ok((number, count)) => Scanned::Whole(number, count),
         Err(_) if octets.len() < LONGEST => Scanned::Cut,
@@ -133,77 +146,7 @@ pub(crate) fn scan_part(octets: &[u8], place: u64, region: Region, limits: Limit
     if octets.is_empty() {
         return Scanned::Cut;
     }
-    scan_value(Shape::of(octets[0]), octets, place, region, limits)
-}
-
-/// What begins with a descriptor of this shape.
-#[inline(always)]
-pub(crate) fn scan_value(
-    shape: Shape,
-    octets: &[u8],
-    place: u64,
-    region: Region,
-    limits: Limits,
-) -> Scanned<Found> {
-    let length_code = match shape {
-        Shape::Null(_) | Shape::Bool(_) => 0,
-        Shape::Body {
-            type_code: _,
-            length_code,
-        } => length_code,
-        Shape::Container(_, length_code) => length_code,
-        _ => return scan_rare(octets, place, region, limits),
-    };
-    let behind = place + 1;
-    match scan_length(length_code, &octets[1..], behind, region.end) {
-        Scanned::Cut => Scanned::Cut,
-        Scanned::Fault(reason) => Scanned::Fault(reason),
-        Scanned::Whole(count, n) => {
-            match found_of(shape, behind + n as u64, count, region, limits) {
-                Ok(found) => Scanned::Whole(found, n + 1),
-                Err(reason) => Scanned::Fault(reason),
-            }
-        }
-    }
-}
-
-// What a shape and the length behind it begin.
-#[inline(always)]
-fn found_of(
-    shape: Shape,
-    here: u64,
-    count: u64,
-    region: Region,
-    limits: Limits,
-) -> Result<Found, Reason> {
-    region.check_fits(here, count)?;
-    match shape {
-        Shape::Null(of) => Ok(Found::Null(of)),
-        Shape::Bool(truth) => Ok(Found::Bool(truth)),
-        Shape::NopPad(_) => Ok(Found::NopPad(count)),
-        Shape::Container(kind, _) if region.depth < limits.depth => {
-            Ok(Found::Begin(kind, here + count))
-        }
-        Shape::Sorted if region.depth < limits.depth => {
-            Ok(Found::Begin(Kind::Struct, here + count))
-        }
-        Shape::Body {
-            type_code,
-            length_code: _,
-        } if count <= limits.scalar => Ok(Found::Body(type_code, count)),
-        Shape::Body { .. } => Err(Reason::ScalarLimit),
-        _ => Err(Reason::DepthLimit),
-    }
-}
-
-// What is no frequent value: NOP pads, structs with their fields in order, wrappers, markers, and all
-// that is refused.
-#[inline(never)]
-fn scan_rare(octets: &[u8], place: u64, region: Region, limits: Limits) -> Scanned<Found> {
     let octet = octets[0];
-    if region.end <= place {
-        return Scanned::Fault(Reason::Overrun);
-    }
     if region.wrapped && (octet / 16 == 14 || octet < 15) {
         return Scanned::Fault(Reason::BadAnnotation);
     }
@@ -211,22 +154,61 @@ fn scan_rare(octets: &[u8], place: u64, region: Region, limits: Limits) -> Scann
     let length_code = match shape {
         Shape::Marker => return scan_marker(octets, region.end),
         Shape::Float => return Scanned::Fault(Reason::Float),
-        Shape::Sorted => 14,
-        Shape::NopPad(length_code) | Shape::Wrapper(length_code) => length_code,
-        _ => return Scanned::Fault(Reason::BadDescriptor),
+        Shape::Illegal => return Scanned::Fault(Reason::BadDescriptor),
+        _ => shape.length_code(),
     };
-    match scan_length(length_code, &octets[1..], place + 1, region.end) {
-        Scanned::Cut => Scanned::Cut,
-        Scanned::Fault(reason) => Scanned::Fault(reason),
-        Scanned::Whole(count, n) => match shape {
-            Shape::Wrapper(_) => Scanned::Whole(Found::Wrapper(count), n + 1),
-            Shape::Sorted if count == 0 => Scanned::Fault(Reason::BadDescriptor),
-            _ => match found_of(shape, place + 1 + n as u64, count, region, limits) {
-                Ok(found) => Scanned::Whole(found, n + 1),
-                Err(reason) => Scanned::Fault(reason),
-            },
-        },
+    let (count, n) = match scan_length(length_code, &octets[1..], place + 1, region.end) {
+        Scanned::Cut => return Scanned::Cut,
+        Scanned::Fault(reason) => return Scanned::Fault(reason),
+        Scanned::Whole(count, n) => (count, n + 1),
+    };
+    match found_of(shape, place + n as u64, count, region, limits) {
+        Ok(found) => Scanned::Whole(found, n),
+        Err(reason) => Scanned::Fault(reason),
     }
+}
+
+/// What a shape and a length begin, behind which a place is.
+#[inline(always)]
+pub(crate) fn found_of(
+    shape: Shape,
+    here: u64,
+    count: u64,
+    region: Region,
+    limits: Limits,
+) -> Result<Found, Reason> {
+    match shape {
+        Shape::Wrapper(_) => return Ok(Found::Wrapper(count)),
+        Shape::Sorted if count == 0 => return Err(Reason::BadDescriptor),
+        _ => {}
+    }
+    region.check_fits(here, count)?;
+    match shape {
+        Shape::Null(of) => Ok(Found::Null(of)),
+        Shape::Bool(truth) => Ok(Found::Bool(truth)),
+        Shape::NopPad(_) => Ok(Found::NopPad(count)),
+        Shape::Body {
+            type_code,
+            length_code: _,
+        } => {
+            if limits.scalar < count {
+                return Err(Reason::ScalarLimit);
+            }
+            Ok(Found::Body(type_code, count))
+        }
+        Shape::Container(kind, _) => begin(kind, here + count, region, limits),
+        Shape::Sorted => begin(Kind::Struct, here + count, region, limits),
+        _ => Err(Reason::BadDescriptor),
+    }
+}
+
+// A container's beginning, which ends at a place.
+#[inline(always)]
+fn begin(kind: Kind, end: u64, region: Region, limits: Limits) -> Result<Found, Reason> {
+    if limits.depth <= region.depth {
+        return Err(Reason::DepthLimit);
+    }
+    Ok(Found::Begin(kind, end))
 }
 
 // A version marker, which stands at top level alone.

@@ -9,7 +9,7 @@ ghost use Rattle.ion_value.specs.Value.{whole};
 use super::texts::{begins_with_dollar, shown_text};
 use crate::body::id_of;
 use crate::descriptor::Shape;
-use crate::scan::{Region, Scanned, TOP, scan_length, scan_var};
+use crate::scan::{Region, TOP, few_length, few_var};
 use crate::wrapper::{Frame, wrapper_of};
 use ion_meter::limits::Limits;
 use ion_value::ion_type::Kind;
@@ -82,7 +82,7 @@ pub(super) fn shown_field<'n, N: Names>(
     match around.level {
         Level::Top | Level::List | Level::Sexp => Some((None, 0)),
         Level::Struct => {
-            let Scanned::Whole(id, behind) = scan_var(octets) else {
+            let Some((id, behind)) = few_var(octets) else {
                 return None;
             };
             let Some(name) = shown_text(id_of(id), here, names, any) else {
@@ -155,24 +155,15 @@ pub(super) fn noted_front<'n, N: Names>(
     let Shape::Wrapper(length_code) = Shape::of(octets[at]) else {
         return None;
     };
-    let lengths = at + 1;
-    let place = here + lengths as u64;
-    let Scanned::Whole(count, n) = scan_length(length_code, &octets[lengths..], place, around.end)
-    else {
-        return None;
-    };
-    let behind = lengths + n;
-    let Scanned::Whole(ids, n) = scan_var(&octets[behind..]) else {
-        return None;
-    };
+    let (count, n) = few_length(length_code, &octets[at + 1..])?;
+    let behind = at + 1 + n;
+    let (ids, n) = few_var(&octets[behind..])?;
     let from = behind + n;
     let Ok(wrapper) = wrapper_of(here + behind as u64, count, here + from as u64, ids, around.end)
     else {
         return None;
     };
-    let Scanned::Whole(id, n) = scan_var(&octets[from..]) else {
-        return None;
-    };
+    let (id, n) = few_var(&octets[from..])?;
     let first = noted_text(id, here + from as u64, names)?;
     let next = from + n;
     let (second, head) = second_text(octets, here, next, wrapper.ids, names)?;
@@ -216,12 +207,11 @@ fn second_text<'n, N: Names>(
     if place == end {
         return Some((None, at));
     }
-    match scan_var(&octets[at..]) {
-        Scanned::Whole(id, n) if place + n as u64 == end => {
-            Some((Some(noted_text(id, place, names)?), at + n))
-        }
-        _ => None,
+    let (id, n) = few_var(&octets[at..])?;
+    if place + n as u64 != end {
+        return None;
     }
+    Some((Some(noted_text(id, place, names)?), at + n))
 }
 
 // Whether a name, where there is one, is known to be written as it stands.

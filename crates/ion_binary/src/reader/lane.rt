@@ -24,7 +24,7 @@ use super::front::{
 use super::{BinReader, ItemKind};
 use crate::descriptor::Shape;
 use crate::body::{Body, scalar_of};
-use crate::scan::{Found, Scanned, scan_value};
+use crate::scan::{Found, few_length, found_of};
 use crate::wrapper::Frame;
 use ion_meter::device::{Input, Output};
 use ion_meter::meter::Meter;
@@ -439,8 +439,13 @@ impl<I: Input, A: Allocator + Copy> BinReader<I, A> {
         let depth = self.frames.as_slice().len() as u32;
         let region = region_behind(front, *around, depth);
         let octets = &self.source.buffer()[front.head..];
-        match scan_value(shape, octets, place, region, self.limits) {
-            Scanned::Whole(Found::Begin(kind, end), count) => {
+        let Some((count, n)) = few_length(shape.length_code(), &octets[1..]) else {
+            return false;
+        };
+        let header = n + 1;
+        match found_of(shape, place + header as u64, count, region, self.limits) {
+            Err(_) => false,
+            Ok(Found::Begin(kind, end)) => {
                 let item = item_behind(front, unspelled(Head::Begin(kind)), place, top);
                 if !self.frames.push_within(meter, Frame { kind, end }) {
                     return false;
@@ -449,15 +454,15 @@ impl<I: Input, A: Allocator + Copy> BinReader<I, A> {
                     self.frames.pop(meter);
                     return false;
                 }
-                self.pass(*around, front.head + count);
+                self.pass(*around, front.head + header);
                 *around = inside(Frame { kind, end });
                 true
             }
-            Scanned::Whole(found, count) => {
-                let Some((scalar, body)) = whole_scalar(found, &octets[count..]) else {
+            Ok(found) => {
+                let Some((scalar, body)) = whole_scalar(found, &octets[header..]) else {
                     return false;
                 };
-                let behind = front.head + count + body.len();
+                let behind = front.head + header + body.len();
                 let Some(head) = scalar_head(scalar, body, place, names) else {
                     return false;
                 };
@@ -467,7 +472,6 @@ impl<I: Input, A: Allocator + Copy> BinReader<I, A> {
                 self.pass(*around, behind);
                 true
             }
-            Scanned::Fault(_) | Scanned::Cut => false,
         }
     }
 }

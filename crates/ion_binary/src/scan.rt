@@ -57,37 +57,38 @@ pub(crate) enum Found {
 // The most octets that a VarUInt has.
 const LONGEST: usize = 9;
 
-/// The number that a VarUInt of one octet or two spells, and how many octets it has.
+/// The number that a VarUInt of one octet or two spells from an offset on, and the offset after it.
 ///
 /// It calls nothing, so that a loop in which it stands keeps its values in registers.
 #[inline(always)]
-pub(crate) fn few_var(octets: &[u8]) -> Option<(u64, usize)> {
-    if octets.len() < 2 {
+pub(crate) fn few_var(octets: &[u8], at: usize) -> Option<(u64, usize)> {
+    if octets.len() - at < 2 {
         return None;
     }
-    let first = octets[0] as u64;
+    let first = octets[at] as u64;
     if first >= 128 {
-        return Some((first - 128, 1));
+        return Some((first - 128, at + 1));
     }
-    let second = octets[1] as u64;
+    let second = octets[at + 1] as u64;
     if second >= 128 {
-        return Some((first * 128 + (second - 128), 2));
+        return Some((first * 128 + (second - 128), at + 2));
     }
     None
 }
 
-/// The length that a descriptor with these low four bits has, where it has two octets at most.
+/// The length that a descriptor with these low four bits has, where it has two octets at most, and the
+/// offset after it.
 #[inline(always)]
-pub(crate) fn few_length(length_code: u8, octets: &[u8]) -> Option<(u64, usize)> {
+pub(crate) fn few_length(length_code: u8, octets: &[u8], at: usize) -> Option<(u64, usize)> {
     if length_code < 14 {
-        return Some((length_code as u64, 0));
+        return Some((length_code as u64, at));
     }
-    few_var(octets)
+    few_var(octets, at)
 }
 
 /// The VarUInt here.
 pub(crate) fn scan_var(octets: &[u8]) -> Scanned<u64> {
-    if let Some((number, count)) = few_var(octets) {
+    if let Some((number, count)) = few_var(octets, 0) {
         return Scanned::Whole(number, count);
     }
     match var_uint_read(octets) {

@@ -82,7 +82,7 @@ pub(super) fn shown_field<'n, N: Names>(
     match around.level {
         Level::Top | Level::List | Level::Sexp => Some((None, 0)),
         Level::Struct => {
-            let Some((id, behind)) = few_var(octets) else {
+            let Some((id, behind)) = few_var(octets, 0) else {
                 return None;
             };
             let Some(name) = shown_text(id_of(id), here, names, any) else {
@@ -155,17 +155,14 @@ pub(super) fn noted_front<'n, N: Names>(
     let Shape::Wrapper(length_code) = Shape::of(octets[at]) else {
         return None;
     };
-    let (count, n) = few_length(length_code, &octets[at + 1..])?;
-    let behind = at + 1 + n;
-    let (ids, n) = few_var(&octets[behind..])?;
-    let from = behind + n;
+    let (count, behind) = few_length(length_code, octets, at + 1)?;
+    let (ids, from) = few_var(octets, behind)?;
     let Ok(wrapper) = wrapper_of(here + behind as u64, count, here + from as u64, ids, around.end)
     else {
         return None;
     };
-    let (id, n) = few_var(&octets[from..])?;
+    let (id, next) = few_var(octets, from)?;
     let first = noted_text(id, here + from as u64, names)?;
-    let next = from + n;
     let (second, head) = second_text(octets, here, next, wrapper.ids, names)?;
     if limits.scalar < 32 {
         return None;
@@ -207,11 +204,11 @@ fn second_text<'n, N: Names>(
     if place == end {
         return Some((None, at));
     }
-    let (id, n) = few_var(&octets[at..])?;
-    if place + n as u64 != end {
+    let (id, inner) = few_var(octets, at)?;
+    if here + inner as u64 != end {
         return None;
     }
-    Some((Some(noted_text(id, place, names)?), at + n))
+    Some((Some(noted_text(id, place, names)?), inner))
 }
 
 // Whether a name, where there is one, is known to be written as it stands.

@@ -75,20 +75,13 @@ fn scalar_head<'h, N: Names>(
     }
 }
 
-// The scalar that was found, whose body these octets begin with, and the octets of its body; none where they do
-// not hold it, or it is none or refused.
+// The scalar that was found, by the octets of its body; none where these are refused.
 #[inline(always)]
-fn whole_scalar(found: Found, octets: &[u8]) -> Option<(Body, &[u8])> {
+fn scalar_by(found: Found, octets: &[u8]) -> Option<Body> {
     match found {
-        Found::Null(of) => Some((Body::Null(of), &[])),
-        Found::Bool(truth) => Some((Body::Bool(truth), &[])),
-        Found::Body(type_code, count) if count <= octets.len() as u64 => {
-            let body = &octets[..count as usize];
-            match scalar_of(type_code, body) {
-                Ok(scalar) => Some((scalar, body)),
-                Err(_) => None,
-            }
-        }
+        Found::Null(of) => Some(Body::Null(of)),
+        Found::Bool(truth) => Some(Body::Bool(truth)),
+        Found::Body(type_code, _) => scalar_of(type_code, octets).ok(),
         _ => None,
     }
 }
@@ -369,11 +362,11 @@ impl<I: Input, A: Allocator + Copy> BinReader<I, A> {
                 type_code,
                 length_code,
             } => match type_code {
-                2 => {
+                2 if length_code <= 8 => {
                     let shape = Shape::body(2, length_code);
                     self.hand_shape(shape, around, front, meter, names, writer, sink)
                 }
-                3 => {
+                3 if length_code <= 8 => {
                     let shape = Shape::body(3, length_code);
                     self.hand_shape(shape, around, front, meter, names, writer, sink)
                 }
@@ -427,51 +420,91 @@ impl<I: Input, A: Allocator + Copy> BinReader<I, A> {
         names: &N,
         writer: &mut W,
         sink: &mut Sink<O, A>,
-    ) -> bool
-        requires { CanHandShape W.ValueWriter (N.text names.now) self.old around.old front
-            (as_shape shape) writer.old sink.old meter.old }
-        ensures { HandsAt I.Input W.ValueWriter (named_item (N.text names.now)) self.old self.new
-            writer.old writer.new sink.old sink.new meter.old meter.new around.new result }
-    {
-        let here = self.source.place();
-        let place = here + front.head as u64;
-        let top = top_at(*around, self.top, here);
-        let depth = self.frames.as_slice().len() as u32;
-        let region = region_behind(front, *around, depth);
-        let octets = &self.source.buffer()[front.head..];
-        let Some((count, n)) = few_length(shape.length_code(), &octets[1..]) else {
+    ) -> bool {
+        match shape {
+            Shape::Container(_, _) => {
+                self.hand_begin(shape, around, front, meter, names, writer, sink)
+            }
+            _ => self.hand_scalar(shape, *around, front, meter, names, writer, sink),
+        }
+    }
+
+    // Hands on a scalar whose octets are in the window.
+    #[inline(always)]
+    fn hand_scalar<N: Names, W: ValueWriter<O, A>, O: Output>(
+        &mut self,
+        shape: Shape,
+        around: Around,
+        front: Front<'_>,
+        meter: &mut Meter<A>,
+        names: &N,
+        writer: &mut W,
+        sink: &mut Sink<O, A>,
+    ) -> bool {
+        let octets = self.source.buffer();
+        let Some((count, from)) = few_length(shape.length_code(), octets, front.head + 1) else {
             return false;
         };
-        let header = n + 1;
-        match found_of(shape, place + header as u64, count, region, self.limits) {
-            Err(_) => false,
-            Ok(Found::Begin(kind, end)) => {
-                let item = item_behind(front, unspelled(Head::Begin(kind)), place, top);
-                if !self.frames.push_within(meter, Frame { kind, end }) {
-                    return false;
-                }
-                if !writer.take_plain(meter, sink, item) {
-                    self.frames.pop(meter);
-                    return false;
-                }
-                self.pass(*around, front.head + header);
-                *around = inside(Frame { kind, end });
-                true
-            }
-            Ok(found) => {
-                let Some((scalar, body)) = whole_scalar(found, &octets[header..]) else {
-                    return false;
-                };
-                let behind = front.head + header + body.len();
-                let Some(head) = scalar_head(scalar, body, place, names) else {
-                    return false;
-                };
-                if !writer.take_plain(meter, sink, item_behind(front, head, place, top)) {
-                    return false;
-                }
-                self.pass(*around, behind);
-                true
-            }
+        if octets.len() - from < count as usize {
+            return false;
         }
+        let here = self.source.place();
+        let region = region_behind(front, around, 0);
+        let Ok(found) = found_of(shape, here + from as u64, count, region, self.limits) else {
+            return false;
+        };
+        let behind = from + count as usize;
+        let body = &octets[from..behind];
+        let Some(scalar) = scalar_by(found, body) else {
+            return false;
+        };
+        let place = here + front.head as u64;
+        let Some(head) = scalar_head(scalar, body, place, names) else {
+            return false;
+        };
+        let item = item_behind(front, head, place, top_at(around, self.top, here));
+        if !writer.take_plain(meter, sink, item) {
+            return false;
+        }
+        self.pass(around, behind);
+        true
+    }
+
+    // Hands on a container's beginning.
+    #[inline(always)]
+    fn hand_begin<N: Names, W: ValueWriter<O, A>, O: Output>(
+        &mut self,
+        shape: Shape,
+        around: &mut Around,
+        front: Front<'_>,
+        meter: &mut Meter<A>,
+        _names: &N,
+        writer: &mut W,
+        sink: &mut Sink<O, A>,
+    ) -> bool {
+        let octets = self.source.buffer();
+        let Some((count, behind)) = few_length(shape.length_code(), octets, front.head + 1) else {
+            return false;
+        };
+        let here = self.source.place();
+        let region = region_behind(front, *around, self.frames.as_slice().len() as u32);
+        let Ok(Found::Begin(kind, end)) =
+            found_of(shape, here + behind as u64, count, region, self.limits)
+        else {
+            return false;
+        };
+        if !self.frames.push_within(meter, Frame { kind, end }) {
+            return false;
+        }
+        let place = here + front.head as u64;
+        let head = unspelled(Head::Begin(kind));
+        let item = item_behind(front, head, place, top_at(*around, self.top, here));
+        if !writer.take_plain(meter, sink, item) {
+            self.frames.pop(meter);
+            return false;
+        }
+        self.pass(*around, behind);
+        *around = inside(Frame { kind, end });
+        true
     }
 }

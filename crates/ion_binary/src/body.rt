@@ -97,7 +97,7 @@ fn long_id(octets: &[u8]) -> u32
 #[inline(always)]
 fn int_of(negative: bool, octets: &[u8]) -> Result<Body, Reason> {
     if octets.len() > 8 {
-        return long_int(negative, octets);
+        return Ok(Body::Int(int_from_bytes(negative, octets)?));
     }
     let value = few_value(octets);
     if negative && value == 0 {
@@ -107,13 +107,6 @@ fn int_of(negative: bool, octets: &[u8]) -> Result<Body, Reason> {
         negative,
         magnitude: value as u128,
     }))
-}
-
-// An int of any number of octets.
-#[cold]
-#[inline(never)]
-fn long_int(negative: bool, octets: &[u8]) -> Result<Body, Reason> {
-    Ok(Body::Int(int_from_bytes(negative, octets)?))
 }
 
 /// A scalar of a type code and these octets.
@@ -238,6 +231,7 @@ fn gather<I: Input, A: Allocator + Copy>(
 /// The octets of a string or lob are copied to `text`, once, and those of a number that does not lie
 /// whole in the window too. Answers `Truncated` where the input ends before the body does, then what is
 /// wrong in the body.
+#[inline(always)]
 pub(crate) fn next_body<I: Input, A: Allocator + Copy>(
     source: &mut Source<I, A>,
     text: &mut Buf<A>,
@@ -248,18 +242,20 @@ pub(crate) fn next_body<I: Input, A: Allocator + Copy>(
     place: u64,
     meter: &mut Meter<A>,
 ) -> Result<(), Fault> {
-    let put = if type_code < STRING && count <= source.buffer().len() {
-        let put = put_scalar(type_code, &source.buffer()[..count], body);
-        source.consume(count);
-        put
-    } else {
-        match gather(source, text, count, limits, meter) {
-            Err(fault) => return Err(fault),
-            Ok(false) => return Err(Fault::Refused(Reason::Truncated, place)),
-            Ok(true) => put_scalar(type_code, text.as_slice(), body),
+    if type_code < STRING && count <= source.buffer().len() {
+        match scalar_of(type_code, &source.buffer()[..count]) {
+            Err(reason) => return Err(Fault::Refused(reason, place)),
+            Ok(scalar) => *body = scalar,
         }
-    };
-    match put {
+        source.consume(count);
+        return Ok(());
+    }
+    match gather(source, text, count, limits, meter) {
+        Err(fault) => return Err(fault),
+        Ok(false) => return Err(Fault::Refused(Reason::Truncated, place)),
+        Ok(true) => {}
+    }
+    match put_scalar(type_code, text.as_slice(), body) {
         Err(reason) => Err(Fault::Refused(reason, place)),
         Ok(()) => Ok(()),
     }

@@ -9,6 +9,8 @@ use ion_meter::source::Source;
 use std::alloc::Allocator;
 
 // Reads until the window has an octet more than now, in a part that begins at a place.
+#[cold]
+#[inline(never)]
 fn refill<I: Input, A: Allocator + Copy>(
     source: &mut Source<I, A>,
     place: u64,
@@ -21,6 +23,7 @@ fn refill<I: Input, A: Allocator + Copy>(
 }
 
 /// The VarUInt here, in a part that begins at a place, where the region ends at another.
+#[inline]
 pub(crate) fn next_var_uint<I: Input, A: Allocator + Copy>(
     source: &mut Source<I, A>,
     place: u64,
@@ -39,6 +42,7 @@ pub(crate) fn next_var_uint<I: Input, A: Allocator + Copy>(
 }
 
 /// What the descriptor here and the length behind it begin.
+#[inline(always)]
 pub(crate) fn next_part<I: Input, A: Allocator + Copy>(
     source: &mut Source<I, A>,
     region: Region,

@@ -87,6 +87,7 @@ pub(crate) fn few_length(length_code: u8, octets: &[u8], at: usize) -> Option<(u
 }
 
 /// The VarUInt here.
+#[inline(always)]
 pub(crate) fn scan_var(octets: &[u8]) -> Scanned<u64> {
     if let Some((number, count)) = few_var(octets, 0) {
         return Scanned::Whole(number, count);

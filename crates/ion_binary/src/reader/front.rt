@@ -144,11 +144,11 @@ pub(super) fn noted_front<'n, N: Names>(
     octets: &[u8],
     here: u64,
     around: Around,
-    field: Option<TextAt<'n>>,
-    at: usize,
+    bare: Front<'n>,
     limits: Limits,
     names: &'n N,
 ) -> Option<Front<'n>> {
+    let at = bare.at;
     if at >= octets.len() {
         return None;
     }
@@ -168,7 +168,7 @@ pub(super) fn noted_front<'n, N: Names>(
         return None;
     }
     Some(Front {
-        field,
+        field: bare.field,
         annotation: Some(first),
         second,
         at,

@@ -18,8 +18,8 @@ ghost use Rattle.ion_binary.specs.Wrappers.{as_frames, innermost};
 ghost use Rattle.ion_value.specs.Value.{Id, Text, map_head, symbol, whole};
 
 use super::front::{
-    Around, Front, Level, around_in, bare_front, ends_here, inside, is_bare, region_behind,
-    shown_field,
+    Around, Front, Level, around_in, bare_front, ends_here, inside, is_bare, noted_front,
+    region_behind, shown_field,
 };
 use super::{BinReader, ItemKind};
 use crate::descriptor::Shape;
@@ -217,6 +217,20 @@ impl<I: Input, A: Allocator + Copy> BinReader<I, A> {
         count
     }
 
+    // Hands on items that the loop over most leaves: with an annotation or two, or with names that are not known
+    // to be written as they stand. It is a call of its own, so that the loop over most is compiled without it.
+    #[inline(never)]
+    pub(super) fn hand_others<N: Names, W: ValueWriter<O, A>, O: Output>(
+        &mut self,
+        values: u64,
+        meter: &mut Meter<A>,
+        names: &N,
+        writer: &mut W,
+        sink: &mut Sink<O, A>,
+    ) -> u64 {
+        self.hand_all::<N, W, O, true>(values, meter, names, writer, sink)
+    }
+
     // Hands the next item on, where that is possible and it is one of those that `OTHERS` asks for: the
     // members with a name that is not known to be written as it stands, or else all but these. It answers
     // false where it is not, and nothing is changed.
@@ -316,10 +330,14 @@ impl<I: Input, A: Allocator + Copy> BinReader<I, A> {
         let Some((field, at)) = shown_field(octets, here, *around, names, OTHERS) else {
             return false;
         };
-        if OTHERS && is_bare(field) {
-            return false;
+        let mut front = bare_front(field, at);
+        if OTHERS {
+            match noted_front(octets, here, *around, front, self.limits, names) {
+                Some(noted) => front = noted,
+                None if is_bare(field) => return false,
+                None => {}
+            }
         }
-        let front = bare_front(field, at);
         self.hand_head::<N, W, O, OTHERS>(around, front, meter, names, writer, sink)
     }
 
@@ -348,15 +366,15 @@ impl<I: Input, A: Allocator + Copy> BinReader<I, A> {
         match Shape::of(octets[front.head]) {
             Shape::Null(of) => {
                 let shape = Shape::Null(of);
-                self.hand_shape(shape, around, front, meter, names, writer, sink)
+                self.hand_scalar(shape, *around, front, meter, names, writer, sink)
             }
             Shape::Bool(truth) => {
                 let shape = Shape::Bool(truth);
-                self.hand_shape(shape, around, front, meter, names, writer, sink)
+                self.hand_scalar(shape, *around, front, meter, names, writer, sink)
             }
             Shape::Container(kind, length_code) => {
                 let shape = Shape::Container(kind, length_code);
-                self.hand_shape(shape, around, front, meter, names, writer, sink)
+                self.hand_begin(shape, around, front, meter, names, writer, sink)
             }
             Shape::Body {
                 type_code,
@@ -364,27 +382,27 @@ impl<I: Input, A: Allocator + Copy> BinReader<I, A> {
             } => match type_code {
                 2 if length_code <= 8 => {
                     let shape = Shape::body(2, length_code);
-                    self.hand_shape(shape, around, front, meter, names, writer, sink)
+                    self.hand_scalar(shape, *around, front, meter, names, writer, sink)
                 }
                 3 if length_code <= 8 => {
                     let shape = Shape::body(3, length_code);
-                    self.hand_shape(shape, around, front, meter, names, writer, sink)
+                    self.hand_scalar(shape, *around, front, meter, names, writer, sink)
                 }
                 5 => {
                     let shape = Shape::body(5, length_code);
-                    self.hand_shape(shape, around, front, meter, names, writer, sink)
+                    self.hand_scalar(shape, *around, front, meter, names, writer, sink)
                 }
                 6 => {
                     let shape = Shape::body(6, length_code);
-                    self.hand_shape(shape, around, front, meter, names, writer, sink)
+                    self.hand_scalar(shape, *around, front, meter, names, writer, sink)
                 }
                 7 => {
                     let shape = Shape::body(7, length_code);
-                    self.hand_shape(shape, around, front, meter, names, writer, sink)
+                    self.hand_scalar(shape, *around, front, meter, names, writer, sink)
                 }
                 8 => {
                     let shape = Shape::body(8, length_code);
-                    self.hand_shape(shape, around, front, meter, names, writer, sink)
+                    self.hand_scalar(shape, *around, front, meter, names, writer, sink)
                 }
                 _ => false,
             },
@@ -407,26 +425,6 @@ impl<I: Input, A: Allocator + Copy> BinReader<I, A> {
             Level::List | Level::Sexp | Level::Struct => {}
         }
         self.source.consume(count);
-    }
-
-    // Hands on an item whose descriptor has this shape.
-    #[inline(always)]
-    pub(super) fn hand_shape<N: Names, W: ValueWriter<O, A>, O: Output>(
-        &mut self,
-        shape: Shape,
-        around: &mut Around,
-        front: Front<'_>,
-        meter: &mut Meter<A>,
-        names: &N,
-        writer: &mut W,
-        sink: &mut Sink<O, A>,
-    ) -> bool {
-        match shape {
-            Shape::Container(_, _) => {
-                self.hand_begin(shape, around, front, meter, names, writer, sink)
-            }
-            _ => self.hand_scalar(shape, *around, front, meter, names, writer, sink),
-        }
     }
 
     // Hands on a scalar whose octets are in the window.

@@ -97,7 +97,7 @@ fn long_id(octets: &[u8]) -> u32
 #[inline(always)]
 fn int_of(negative: bool, octets: &[u8]) -> Result<Body, Reason> {
     if octets.len() > 8 {
-        return Ok(Body::Int(int_from_bytes(negative, octets)?));
+        return long_int(negative, octets);
     }
     let value = few_value(octets);
     if negative && value == 0 {
@@ -107,6 +107,12 @@ fn int_of(negative: bool, octets: &[u8]) -> Result<Body, Reason> {
         negative,
         magnitude: value as u128,
     }))
+}
+
+// An int of any number of octets.
+#[inline(never)]
+fn long_int(negative: bool, octets: &[u8]) -> Result<Body, Reason> {
+    Ok(Body::Int(int_from_bytes(negative, octets)?))
 }
 
 /// A scalar of a type code and these octets.

@@ -330,22 +330,23 @@ impl<I: Input, A: Allocator + Copy> BinReader<I, A> {
         let Some((field, at)) = shown_field(octets, here, *around, names, OTHERS) else {
             return false;
         };
-        let mut front = bare_front(field, at);
+        let front = bare_front(field, at);
         if OTHERS {
-            match noted_front(octets, here, *around, front, self.limits, names) {
-                Some(noted) => front = noted,
-                None if is_bare(field) => return false,
-                None => {}
+            if let Some(noted) = noted_front(octets, here, *around, front, self.limits, names) {
+                return self.hand_head::<N, W, O>(around, noted, meter, names, writer, sink);
+            }
+            if is_bare(field) {
+                return false;
             }
         }
-        self.hand_head::<N, W, O, OTHERS>(around, front, meter, names, writer, sink)
+        self.hand_head::<N, W, O>(around, front, meter, names, writer, sink)
     }
 
     // Hands on an item with this front. Each frequent shape of a head has a call of its own, so that
     // it is compiled for that shape alone; and each of the two loops has this function for itself, by
     // `OTHERS`, so that it has one caller, in which it is put in line.
     #[inline(always)]
-    fn hand_head<N: Names, W: ValueWriter<O, A>, O: Output, const OTHERS: bool>(
+    fn hand_head<N: Names, W: ValueWriter<O, A>, O: Output>(
         &mut self,
         around: &mut Around,
         front: Front<'_>,

@@ -333,20 +333,20 @@ impl<I: Input, A: Allocator + Copy> BinReader<I, A> {
         let front = bare_front(field, at);
         if OTHERS {
             if let Some(noted) = noted_front(octets, here, *around, front, self.limits, names) {
-                return self.hand_head::<N, W, O>(around, noted, meter, names, writer, sink);
+                return self.hand_head::<N, W, O, OTHERS, true>(around, noted, meter, names, writer, sink);
             }
             if is_bare(field) {
                 return false;
             }
         }
-        self.hand_head::<N, W, O>(around, front, meter, names, writer, sink)
+        self.hand_head::<N, W, O, OTHERS, false>(around, front, meter, names, writer, sink)
     }
 
     // Hands on an item with this front. Each frequent shape of a head has a call of its own, so that
     // it is compiled for that shape alone; and each of the two loops has this function for itself, by
     // `OTHERS`, so that it has one caller, in which it is put in line.
     #[inline(always)]
-    fn hand_head<N: Names, W: ValueWriter<O, A>, O: Output>(
+    fn hand_head<N: Names, W: ValueWriter<O, A>, O: Output, const OTHERS: bool, const NOTED: bool>(
         &mut self,
         around: &mut Around,
         front: Front<'_>,

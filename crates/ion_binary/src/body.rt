@@ -95,7 +95,12 @@ fn long_id(octets: &[u8]) -> u32
 
 // An int of these octets.
 #[inline(always)]
-fn int_of(negative: bool, octets: &[u8]) -> Result<Body, Reason> {
+fn int_of(negative: bool, octets: &[u8]) -> Result<Body, Reason>
+    ensures gives { MatchResult result
+        (λ b. (text : List ℕ) → with_value int (int_of_bytes negative octets.now) ≡ Ok (as_scalar text b))
+        (λ r. with_value int (int_of_bytes negative octets.now) ≡ Err r) }
+    ensures range { IfOk result (λ b. (text : List ℕ) → InRange (as_scalar text b)) }
+{
     if octets.len() > 8 {
         return long_int(negative, octets);
     }
@@ -111,13 +116,24 @@ fn int_of(negative: bool, octets: &[u8]) -> Result<Body, Reason> {
 
 // An int of any number of octets.
 #[inline(never)]
-fn long_int(negative: bool, octets: &[u8]) -> Result<Body, Reason> {
+fn long_int(negative: bool, octets: &[u8]) -> Result<Body, Reason>
+    ensures gives { MatchResult result
+        (λ b. (text : List ℕ) → with_value int (int_of_bytes negative octets.now) ≡ Ok (as_scalar text b))
+        (λ r. with_value int (int_of_bytes negative octets.now) ≡ Err r) }
+    ensures range { IfOk result (λ b. (text : List ℕ) → InRange (as_scalar text b)) }
+{
     Ok(Body::Int(int_from_bytes(negative, octets)?))
 }
 
 /// A scalar of a type code and these octets.
 #[inline(always)]
-pub(crate) fn scalar_of(type_code: u8, octets: &[u8]) -> Result<Body, Reason> {
+pub(crate) fn scalar_of(type_code: u8, octets: &[u8]) -> Result<Body, Reason>
+    requires type_code { IsBodyTypeCode type_code }
+    ensures gives { MatchResult result
+        (λ b. scalar_of_body type_code octets.now ≡ Ok (as_scalar octets.now b))
+        (λ r. scalar_of_body type_code octets.now ≡ Err r) }
+    ensures range { IfOk result (λ b. InRange (as_scalar octets.now b)) }
+{
     match type_code {
         2 => int_of(false, octets),
         3 => int_of(true, octets),
@@ -160,7 +176,13 @@ fn is_short_ascii(octets: &[u8]) -> bool
 
 // Puts a scalar of these octets into a body.
 #[inline(never)]
-fn put_scalar(type_code: u8, octets: &[u8], body: &mut Body) -> Result<(), Reason> {
+fn put_scalar(type_code: u8, octets: &[u8], body: &mut Body) -> Result<(), Reason>
+    requires type_code { IsBodyTypeCode type_code }
+    ensures gives { MatchResult result
+        (λ _. scalar_of_body type_code octets.now ≡ Ok (as_scalar octets.now body.new))
+        (λ r. scalar_of_body type_code octets.now ≡ Err r) }
+    ensures range { OnOk result (InRange (as_scalar octets.now body.new)) }
+{
     *body = scalar_of(type_code, octets)?;
     Ok(())
 }
@@ -247,7 +269,18 @@ pub(crate) fn next_body<I: Input, A: Allocator + Copy>(
     limits: Limits,
     place: u64,
     meter: &mut Meter<A>,
-) -> Result<(), Fault> {
+) -> Result<(), Fault>
+    requires can_read { CanRead limits limits.scalar source.old text.old meter.old }
+    requires type_code { IsBodyTypeCode type_code }
+    requires few { count ≤ limits.scalar }
+    ensures gives { AnswersBy I.Input (λ _. as_scalar text.new body.new)
+        source.old source.new place result (body_here limits type_code count) }
+    ensures range { OnOk result (InRange (as_scalar text.new body.new)) }
+    ensures reads { ReadsInto I.Input source.old source.new meter.old meter.new
+        (length text.old) (length text.new) limits.scalar result }
+    ensures goes { GrowsWithin meter.old meter.new (length text.old) (length text.new)
+        (16 * passed_over source.old source.new) }
+{
     if type_code < STRING && count <= source.buffer().len() {
         match scalar_of(type_code, &source.buffer()[..count]) {
             Err(reason) => return Err(Fault::Refused(reason, place)),

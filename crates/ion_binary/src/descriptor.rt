@@ -51,7 +51,9 @@ impl Shape {
 
     /// The length code by which a length goes, and 0 where none does.
     #[inline(always)]
-    pub(crate) fn length_code(self) -> u8 {
+    pub(crate) fn length_code(self) -> u8
+        ensures { result ≡ length_code_of (as_shape self) }
+    {
         match self {
             Shape::NopPad(length_code) | Shape::Wrapper(length_code) => length_code,
             Shape::Container(_, length_code) => length_code,

@@ -4,6 +4,15 @@
 //! Every test of a region answers `Overrun`. So one test behind a length stands for those of the octets
 //! before it: where it holds they are in the region too, and where not, one of them is the first outside.
 
+ghost use Rattle.std.specs.Prelude.{◌≡◌, ◌+◌, ◌^◌, ◌<◌, ◌≤◌, ℕ, length, None, MatchResult, IfSome};
+ghost use Rattle.ion_value.specs.Answers.{itself};
+ghost use Rattle.ion_binary.specs.Descriptor.{Region as region, var_uint_at, length_at};
+ghost use Rattle.ion_binary.specs.Finds.{IsOfDescriptor};
+ghost use Rattle.ion_binary.specs.Reading.{fits, marker_at, a_marker};
+ghost use Rattle.ion_binary.specs.Scanned.{EndsAt, Shows, around_by, found_by, part_at};
+ghost use Rattle.ion_binary.specs.Shapes.{as_shape};
+ghost use Rattle.ion_binary.specs.Shown.{ShowsVar, ShowsLength};
+
 use crate::descriptor::Shape;
 use ion_meter::fault::Reason;
 use ion_meter::limits::Limits;
@@ -61,7 +70,11 @@ const LONGEST: usize = 9;
 ///
 /// It calls nothing, so that a loop in which it stands keeps its values in registers.
 #[inline(always)]
-pub(crate) fn few_var(octets: &[u8], at: usize) -> Option<(u64, usize)> {
+pub(crate) fn few_var(octets: &[u8], at: usize) -> Option<(u64, usize)>
+    requires { at ≤ length octets.now }
+    ensures shows { IfSome result (λ r. ShowsVar octets.now at r.1 r.0) }
+    ensures small { IfSome result (λ r. r.0 < 2 ^ 14) }
+{
     if octets.len() - at < 2 {
         return None;
     }
@@ -79,7 +92,12 @@ pub(crate) fn few_var(octets: &[u8], at: usize) -> Option<(u64, usize)> {
 /// The length that a descriptor with these low four bits has, where it has two octets at most, and the
 /// offset after it.
 #[inline(always)]
-pub(crate) fn few_length(length_code: u8, octets: &[u8], at: usize) -> Option<(u64, usize)> {
+pub(crate) fn few_length(length_code: u8, octets: &[u8], at: usize) -> Option<(u64, usize)>
+    requires within { at ≤ length octets.now }
+    requires length_code { length_code < 15 }
+    ensures shows { IfSome result (λ r. ShowsLength octets.now length_code at r.1 r.0) }
+    ensures small { IfSome result (λ r. r.0 < 2 ^ 14) }
+{
     if length_code < 14 {
         return Some((length_code as u64, at));
     }
@@ -88,7 +106,10 @@ pub(crate) fn few_length(length_code: u8, octets: &[u8], at: usize) -> Option<(u
 
 /// The VarUInt here.
 #[inline(always)]
-pub(crate) fn scan_var(octets: &[u8]) -> Scanned<u64> {
+pub(crate) fn scan_var(octets: &[u8]) -> Scanned<u64>
+    ensures shows { (place : ℕ) → Shows itself place octets.now result (var_uint_at None) }
+    ensures fits { IfWhole result (λ n. n < 2 ^ 63) }
+{
     if let Some((number, count)) = few_var(octets, 0) {
         return Scanned::Whole(number, count);
     }
@@ -101,7 +122,12 @@ pub(crate) fn scan_var(octets: &[u8]) -> Scanned<u64> {
 
 /// The VarUInt at a place, in a region that ends at another.
 #[inline(always)]
-pub(crate) fn scan_var_in(octets: &[u8], place: u64, end: u64) -> Scanned<u64> {
+pub(crate) fn scan_var_in(octets: &[u8], place: u64, end: u64) -> Scanned<u64>
+    requires { place ≤ 2 ^ 48 }
+    ensures shows { (r : region) → EndsAt r end
+        → Shows itself place octets.now result (var_uint_at r) }
+    ensures fits { IfWhole result (λ n. n < 2 ^ 63) }
+{
     let scanned = scan_var(octets);
     let count = match scanned {
         Scanned::Whole(_, count) => count,
@@ -115,7 +141,13 @@ pub(crate) fn scan_var_in(octets: &[u8], place: u64, end: u64) -> Scanned<u64> {
 
 /// The length that a descriptor with these low four bits has: 14 says that a VarUInt follows.
 #[inline(always)]
-pub(crate) fn scan_length(length_code: u8, octets: &[u8], place: u64, end: u64) -> Scanned<u64> {
+pub(crate) fn scan_length(length_code: u8, octets: &[u8], place: u64, end: u64) -> Scanned<u64>
+    requires small { place ≤ 2 ^ 48 }
+    requires length_code { length_code < 15 }
+    ensures shows { (r : region) → EndsAt r end
+        → Shows itself place octets.now result (length_at length_code r) }
+    ensures fits { IfWhole result (λ n. n < 2 ^ 63) }
+{
     if length_code < 14 {
         return Scanned::Whole(length_code as u64, 0);
     }
@@ -125,7 +157,10 @@ pub(crate) fn scan_length(length_code: u8, octets: &[u8], place: u64, end: u64) 
 impl Region {
     // So many octets from a place on do not pass the region, and fill it where it is a wrapper.
     #[inline(always)]
-    fn check_fits(self, here: u64, count: u64) -> Result<(), Reason> {
+    fn check_fits(self, here: u64, count: u64) -> Result<(), Reason>
+        requires { here + count < 2 ^ 64 - 1 }
+        ensures { (r : region) → EndsAt r self.end → result ≡ fits (around_by r self) here count }
+    {
         if self.end < here + count {
             return Err(Reason::Overrun);
         }
@@ -141,7 +176,11 @@ impl Region {
 /// Refuses, in this order, what a wrapper may not hold, lengths that do not end, a length above the
 /// region, a wrapped value that ends before its wrapper, too many open containers or too long a scalar.
 #[inline(always)]
-pub(crate) fn scan_part(octets: &[u8], place: u64, region: Region, limits: Limits) -> Scanned<Found> {
+pub(crate) fn scan_part(octets: &[u8], place: u64, region: Region, limits: Limits) -> Scanned<Found>
+    requires { place ≤ 2 ^ 48 }
+    ensures { (r : region) → EndsAt r region.end
+        → Shows (λ f. f) place octets.now result (part_at limits (around_by r region)) }
+{
     if region.end <= place {
         return Scanned::Fault(Reason::Overrun);
     }
@@ -154,7 +193,7 @@ pub(crate) fn scan_part(octets: &[u8], place: u64, region: Region, limits: Limit
     }
     let shape = Shape::of(octet);
     let length_code = match shape {
-        Shape::Marker => return scan_marker(octets, region.end),
+        Shape::Marker => return scan_marker(octets, place, region.end),
         Shape::Float => return Scanned::Fault(Reason::Float),
         Shape::Illegal => return Scanned::Fault(Reason::BadDescriptor),
         _ => shape.length_code(),
@@ -178,7 +217,11 @@ pub(crate) fn found_of(
     count: u64,
     region: Region,
     limits: Limits,
-) -> Result<Found, Reason> {
+) -> Result<Found, Reason>
+    requires { here + count < 2 ^ 64 - 1 }
+    ensures { (r : region) → EndsAt r region.end
+        → result ≡ found_by limits (around_by r region) (as_shape shape) here count }
+{
     match shape {
         Shape::Wrapper(_) => return Ok(Found::Wrapper(count)),
         Shape::Sorted if count == 0 => return Err(Reason::BadDescriptor),
@@ -206,7 +249,9 @@ pub(crate) fn found_of(
 
 // A container's beginning, which ends at a place.
 #[inline(always)]
-fn begin(kind: Kind, end: u64, region: Region, limits: Limits) -> Result<Found, Reason> {
+fn begin(kind: Kind, end: u64, region: Region, limits: Limits) -> Result<Found, Reason>
+    ensures { (r : region) → result ≡ begun limits (around_by r region) kind end }
+{
     if limits.depth <= region.depth {
         return Err(Reason::DepthLimit);
     }
@@ -214,7 +259,10 @@ fn begin(kind: Kind, end: u64, region: Region, limits: Limits) -> Result<Found, 
 }
 
 // A version marker, which stands at top level alone.
-fn scan_marker(octets: &[u8], end: u64) -> Scanned<Found> {
+fn scan_marker(octets: &[u8], place: u64, end: u64) -> Scanned<Found>
+    ensures { (r : region) → EndsAt r end → Shows (λ _. a_marker) place octets.now result
+        (λ c. octet_at r c >>= λ b. marker_at r b.1) }
+{
     if end != TOP {
         return Scanned::Fault(Reason::BadDescriptor);
     }

@@ -56,7 +56,14 @@ pub(crate) struct Wrapper {
 pub(crate) fn next_field<I: Input, A: Allocator + Copy>(
     source: &mut Source<I, A>,
     around: Around,
-) -> Result<Option<Field>, Fault> {
+) -> Result<Option<Field>, Fault>
+    requires stands { Stands source.old }
+    ensures gives { AnswersBy I.Input as_field source.old source.new source.old.place result
+        (field_at (innermost (frame_in around))) }
+    ensures reads { Reads I.Input source.old source.new result }
+    ensures struct_alone { IfOk result
+        (λ field. is_some field ≡ in_struct (map (λ f. f.kind) (innermost (frame_in around)))) }
+{
     match around.level {
         Level::Top | Level::List | Level::Sexp => Ok(None),
         Level::Struct => {
@@ -79,7 +86,12 @@ pub(crate) fn wrapper_of(
     behind: u64,
     ids: u64,
     region_end: u64,
-) -> Result<Wrapper, Reason> {
+) -> Result<Wrapper, Reason>
+    requires { (here + count < 2 ^ 64 - 1) × (behind + ids < 2 ^ 64 - 1) }
+    ensures { (r : region) → EndsAt r region_end → MatchResult result
+        (λ w. wrapper_by r here count behind ids ≡ Ok (as_wrapped w))
+        (λ reason. wrapper_by r here count behind ids ≡ Err reason) }
+{
     let end = here + count;
     if region_end < end {
         return Err(Reason::Overrun);
@@ -101,7 +113,13 @@ pub(crate) fn next_wrapper<I: Input, A: Allocator + Copy>(
     count: u64,
     place: u64,
     region_end: u64,
-) -> Result<Wrapper, Fault> {
+) -> Result<Wrapper, Fault>
+    requires stands { Stands source.old }
+    requires small { count < 2 ^ 63 }
+    ensures gives { (r : region) → EndsAt r region_end → AnswersBy I.Input as_wrapped
+        source.old source.new place result (wrapper_behind r count) }
+    ensures reads { Reads I.Input source.old source.new result }
+{
     let here = source.place();
     let ids = next_var_uint(source, place, here + count)?;
     match wrapper_of(here, count, source.place(), ids, region_end) {
@@ -120,7 +138,17 @@ pub(crate) fn next_annotations<I: Input, A: Allocator + Copy>(
     end: u64,
     limits: Limits,
     meter: &mut Meter<A>,
-) -> Result<(), Fault> {
+) -> Result<(), Fault>
+    requires can_read { CanRead limits limits.scalar source.old [] meter.old }
+    requires none { annotations.old ≡ [] }
+    ensures gives { I.observable source.old.device
+        → AnswersAt (λ _. as_annotations annotations.new) result
+        (cursor I.Input source.new) (ids_at end limits end 0 (cursor I.Input source.old)) }
+    ensures reads { ReadsInto I.Input source.old source.new meter.old meter.new
+        0 (16 * length annotations.new) limits.scalar result }
+    ensures goes { GrowsWithin meter.old meter.new 0 (16 * length annotations.new)
+        (16 * passed_over source.old source.new) }
+{
     while source.place() < end {
         let place = source.place();
         let id = id_of(next_var_uint(source, place, end)?);

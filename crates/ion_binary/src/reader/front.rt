@@ -147,7 +147,13 @@ pub(super) fn noted_front<'n, N: Names>(
     bare: Front<'n>,
     limits: Limits,
     names: &'n N,
-) -> Option<Front<'n>> {
+) -> Option<Front<'n>>
+    requires small { here + length octets.now < 2 ^ 63 }
+    requires field { ShowsField (N.text names.now) octets.now here
+        (innermost (frame_in around)) bare.field bare.at }
+    ensures { IfSome result (λ f. ShowsFront (N.text names.entry.now) limits octets.now here
+        (innermost (frame_in around)) f) }
+{
     let at = bare.at;
     if at >= octets.len() {
         return None;
@@ -157,8 +163,13 @@ pub(super) fn noted_front<'n, N: Names>(
     };
     let (count, behind) = few_length(length_code, octets, at + 1)?;
     let (ids, from) = few_var(octets, behind)?;
-    let Ok(wrapper) = wrapper_of(here + behind as u64, count, here + from as u64, ids, around.end)
-    else {
+    let Ok(wrapper) = wrapper_of(
+        here + behind as u64,
+        count,
+        here + from as u64,
+        ids,
+        around.end,
+    ) else {
         return None;
     };
     let (id, next) = few_var(octets, from)?;
@@ -199,7 +210,11 @@ fn second_text<'n, N: Names>(
     at: usize,
     end: u64,
     names: &'n N,
-) -> Option<(Option<TextAt<'n>>, usize)> {
+) -> Option<(Option<TextAt<'n>>, usize)>
+    requires small { here + length octets.now < 2 ^ 63 }
+    requires within { at ≤ length octets.now }
+    ensures { IfSome result (λ r. ShowsLast (N.text names.entry.now) octets.now here at end r.0 r.1) }
+{
     let place = here + at as u64;
     if place == end {
         return Some((None, at));
@@ -222,7 +237,9 @@ pub(super) fn is_bare(name: Option<TextAt<'_>>) -> bool {
 
 // The region of a value behind a front, where so many containers are open.
 #[inline(always)]
-pub(super) fn region_behind(front: Front<'_>, around: Around, depth: u32) -> Region {
+pub(super) fn region_behind(front: Front<'_>, around: Around, depth: u32) -> Region
+    ensures { result ≡ region_by front.entry around depth }
+{
     Region {
         wrapped: front.wrapper.is_some(),
         end: front.wrapper.unwrap_or(around.end),

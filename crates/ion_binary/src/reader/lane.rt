@@ -22,8 +22,8 @@ use super::front::{
     region_behind, shown_field,
 };
 use super::{BinReader, ItemKind};
-use crate::descriptor::Shape;
 use crate::body::{Body, scalar_of};
+use crate::descriptor::Shape;
 use crate::scan::{Found, few_length, found_of};
 use crate::wrapper::Frame;
 use ion_meter::device::{Input, Output};
@@ -62,7 +62,14 @@ fn scalar_head<'h, N: Names>(
     text: &'h [u8],
     place: u64,
     names: &'h N,
-) -> Option<SpelledHead<'h>> {
+) -> Option<SpelledHead<'h>>
+    ensures head { IfSome result (λ h. raw_head h.head
+        ≡ map_head (named_at (N.text names.entry.now))
+        (whole (placed_scalar place (as_scalar text.now scalar)))) }
+    ensures known { IfSome result (λ h. IsPlainHead (raw_head h.head)) }
+    ensures spelled { IfSome result
+        (λ h. IfSome h.spelled (λ t. IsWrittenAs t.quoting t.text.now (raw_head h.head))) }
+{
     match scalar {
         Body::Null(of) => Some(unspelled(Head::Null(of))),
         Body::Bool(truth) => Some(unspelled(Head::Bool(truth))),
@@ -77,7 +84,14 @@ fn scalar_head<'h, N: Names>(
 
 // The scalar that was found, by the octets of its body; none where these are refused.
 #[inline(always)]
-fn scalar_by(found: Found, octets: &[u8]) -> Option<Body> {
+fn scalar_by(found: Found, octets: &[u8]) -> Option<Body>
+    requires { IsFound found }
+    ensures gives { IfSome result (λ b. (place : ℕ) (more : List ℕ) (limits : Limits)
+        → IsOfLength found (length octets.now) → length octets.now ≤ limits.scalar
+        → rest_at limits found (window place octets.now more)
+        ≡ Ok (a_scalar (as_scalar octets.now b), skip (length octets.now) (window place octets.now more))) }
+    ensures range { IfSome result (λ b. InRange (as_scalar octets.now b)) }
+{
     match found {
         Found::Null(of) => Some(Body::Null(of)),
         Found::Bool(truth) => Some(Body::Bool(truth)),
@@ -227,7 +241,11 @@ impl<I: Input, A: Allocator + Copy> BinReader<I, A> {
         names: &N,
         writer: &mut W,
         sink: &mut Sink<O, A>,
-    ) -> u64 {
+    ) -> u64
+        requires { CanHandOn W.ValueWriter self.old writer.old sink.old meter.old values }
+        ensures { HandsOn I.Input W.ValueWriter (named_item (N.text names.now)) self.old self.new
+            writer.old writer.new sink.old sink.new meter.old meter.new values result }
+    {
         self.hand_all::<N, W, O, true>(values, meter, names, writer, sink)
     }
 
@@ -333,7 +351,9 @@ impl<I: Input, A: Allocator + Copy> BinReader<I, A> {
         let front = bare_front(field, at);
         if OTHERS {
             if let Some(noted) = noted_front(octets, here, *around, front, self.limits, names) {
-                return self.hand_head::<N, W, O, OTHERS, true>(around, noted, meter, names, writer, sink);
+                return self.hand_head::<N, W, O, OTHERS, true>(
+                    around, noted, meter, names, writer, sink,
+                );
             }
             if is_bare(field) {
                 return false;
@@ -439,7 +459,12 @@ impl<I: Input, A: Allocator + Copy> BinReader<I, A> {
         names: &N,
         writer: &mut W,
         sink: &mut Sink<O, A>,
-    ) -> bool {
+    ) -> bool
+        requires { CanHandShape W.ValueWriter (N.text names.now) self.old around front
+            (as_shape shape) writer.old sink.old meter.old }
+        ensures { HandsAt I.Input W.ValueWriter (named_item (N.text names.now)) self.old self.new
+            writer.old writer.new sink.old sink.new meter.old meter.new around result }
+    {
         let octets = self.source.buffer();
         let Some((count, from)) = few_length(shape.length_code(), octets, front.head + 1) else {
             return false;
@@ -480,16 +505,25 @@ impl<I: Input, A: Allocator + Copy> BinReader<I, A> {
         _names: &N,
         writer: &mut W,
         sink: &mut Sink<O, A>,
-    ) -> bool {
+    ) -> bool
+        requires { CanHandShape W.ValueWriter (N.text _names.now) self.old around.old front
+            (as_shape shape) writer.old sink.old meter.old }
+        ensures { HandsAt I.Input W.ValueWriter (named_item (N.text _names.now)) self.old self.new
+            writer.old writer.new sink.old sink.new meter.old meter.new around.new result }
+    {
         let octets = self.source.buffer();
         let Some((count, behind)) = few_length(shape.length_code(), octets, front.head + 1) else {
             return false;
         };
         let here = self.source.place();
         let region = region_behind(front, *around, self.frames.as_slice().len() as u32);
-        let Ok(Found::Begin(kind, end)) =
-            found_of(shape, here + behind as u64, count, region, self.limits)
-        else {
+        let Ok(Found::Begin(kind, end)) = found_of(
+            shape,
+            here + behind as u64,
+            count,
+            region,
+            self.limits,
+        ) else {
             return false;
         };
         if !self.frames.push_within(meter, Frame { kind, end }) {

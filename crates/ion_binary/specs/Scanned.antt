@@ -113,3 +113,9 @@ rest_at limits (found.Bool truth) c = Ok (a_scalar (value.bool truth), c)
 rest_at limits (found.Body type_code n) c = body_here limits type_code n c >>= λ v. Ok (a_scalar v.0, v.1)
 rest_at limits (found.Begin k end) c = Ok (a_container k end, c)
 rest_at limits (found.Wrapper n) c = Err BadAnnotation
+
+-- it holds of what is whole
+abbrev pub IfWhole : {T : Type 0} → Scanned T → (T → Type 0) → Type 0
+IfWhole (Whole x n) holds = holds x
+IfWhole (Fault reason) holds = Unit {0}
+IfWhole Cut holds = Unit {0}

@@ -115,6 +115,7 @@ fn int_of(negative: bool, octets: &[u8]) -> Result<Body, Reason>
 }
 
 // An int of any number of octets.
+#[cold]
 #[inline(never)]
 fn long_int(negative: bool, octets: &[u8]) -> Result<Body, Reason>
     ensures gives { MatchResult result

@@ -394,12 +394,12 @@ impl<I: Input, A: Allocator + Copy> BinReader<I, A> {
         let Some((field, at)) = shown_field(octets, here, *around, names, RUN != MOST) else {
             return false;
         };
-        let mut front = bare_front(field, at);
+        let front = bare_front(field, at);
         if RUN == NOTED {
-            match noted_front(octets, here, *around, front, self.limits, names) {
-                None => return false,
-                Some(noted) => front = noted,
-            }
+            let Some(noted) = noted_front(octets, here, *around, front, self.limits, names) else {
+                return false;
+            };
+            return self.hand_head::<N, W, O, RUN>(around, noted, meter, names, writer, sink);
         }
         if RUN == QUOTED && is_bare(field) {
             return false;

@@ -19,7 +19,7 @@ ghost use Rattle.ion_value.specs.Value.{Id, Text, map_head, symbol, whole};
 
 use super::front::{
     Around, Front, Level, around_in, bare_front, ends_here, fills, inner_end, inside, is_bare,
-    shown_field,
+    noted_front, shown_field,
 };
 use super::{BinReader, ItemKind};
 use crate::descriptor::Shape;
@@ -221,9 +221,27 @@ impl<I: Input, A: Allocator + Copy> BinReader<I, A> {
         count
     }
 
+    // Hands on items that the loop over most leaves, behind so many values at top level. It is a call of its own, so
+    // that the loop over most is compiled without them.
+    #[inline(never)]
+    pub(super) fn hand_others<N: Names, W: ValueWriter<O, A>, O: Output>(
+        &mut self,
+        values: u64,
+        meter: &mut Meter<A>,
+        names: &N,
+        writer: &mut W,
+        sink: &mut Sink<O, A>,
+    ) -> u64
+        requires { CanHandOn W.ValueWriter self.old writer.old sink.old meter.old values }
+        ensures { HandsOn I.Input W.ValueWriter (named_item (N.text names.now)) self.old self.new
+            writer.old writer.new sink.old sink.new meter.old meter.new values result }
+    {
+        self.hand_all::<N, W, O, true>(values, meter, names, writer, sink)
+    }
+
     // Hands the next item on, where that is possible and it is one of those that `OTHERS` asks for: the
-    // members with a name that is not known to be written as it stands, or else all but these. It answers
-    // false where it is not, and nothing is changed.
+    // members with an annotation or two, or with a name that is not known to be written as it stands, or else
+    // all but these. It answers false where it is not, and nothing is changed.
     #[inline(always)]
     fn hand<N: Names, W: ValueWriter<O, A>, O: Output, const OTHERS: bool>(
         &mut self,
@@ -320,11 +338,41 @@ impl<I: Input, A: Allocator + Copy> BinReader<I, A> {
         let Some((field, at)) = shown_field(octets, here, *around, names, OTHERS) else {
             return false;
         };
-        if OTHERS && is_bare(field) {
-            return false;
+        if OTHERS {
+            let limits = self.limits;
+            if let Some(front) = noted_front(octets, here, *around, field, at, limits, names) {
+                return self.hand_noted(around, front, meter, names, writer, sink);
+            }
+            if is_bare(field) {
+                return false;
+            }
         }
         let front = bare_front(field, at);
         self.hand_head::<N, W, O, OTHERS>(around, front, meter, names, writer, sink)
+    }
+
+    // Hands on an item with this front, which has an annotation. All shapes of a head share a call here.
+    #[inline(always)]
+    fn hand_noted<N: Names, W: ValueWriter<O, A>, O: Output>(
+        &mut self,
+        around: &mut Around,
+        front: Front<'_>,
+        meter: &mut Meter<A>,
+        names: &N,
+        writer: &mut W,
+        sink: &mut Sink<O, A>,
+    ) -> bool
+        requires { CanHandFront W.ValueWriter (N.text names.now) self.old around.old front
+            writer.old sink.old meter.old }
+        ensures { HandsAt I.Input W.ValueWriter (named_item (N.text names.now)) self.old self.new
+            writer.old writer.new sink.old sink.new meter.old meter.new around.new result }
+    {
+        let octets = self.source.buffer();
+        if front.head >= octets.len() {
+            return false;
+        }
+        let shape = Shape::of(octets[front.head]);
+        self.hand_shape(shape, around, front, meter, names, writer, sink)
     }
 
     // Hands on an item with this front. Each frequent shape of a head has a call of its own, so that
@@ -354,29 +402,16 @@ impl<I: Input, A: Allocator + Copy> BinReader<I, A> {
                 self.hand_shape(Shape::Null(of), around, front, meter, names, writer, sink)
             }
             Shape::Bool(truth) => {
-                self.hand_shape(
-                    Shape::Bool(truth),
-                    around,
-                    front,
-                    meter,
-                    names,
-                    writer,
-                    sink,
-                )
+                let shape = Shape::Bool(truth);
+                self.hand_shape(shape, around, front, meter, names, writer, sink)
             }
             Shape::Body {
                 type_code,
                 length_code,
-            } => self.hand_body::<N, W, O, OTHERS>(
-                type_code,
-                length_code,
-                around,
-                front,
-                meter,
-                names,
-                writer,
-                sink,
-            ),
+            } => {
+                let shape = Shape::body(type_code, length_code);
+                self.hand_body::<N, W, O, OTHERS>(shape, around, front, meter, names, writer, sink)
+            }
             Shape::Container(kind, length_code) => {
                 let shape = Shape::Container(kind, length_code);
                 self.hand_shape(shape, around, front, meter, names, writer, sink)
@@ -389,8 +424,7 @@ impl<I: Input, A: Allocator + Copy> BinReader<I, A> {
     #[inline(always)]
     fn hand_body<N: Names, W: ValueWriter<O, A>, O: Output, const OTHERS: bool>(
         &mut self,
-        type_code: u8,
-        length_code: u8,
+        shape: Shape,
         around: &mut Around,
         front: Front<'_>,
         meter: &mut Meter<A>,
@@ -399,10 +433,17 @@ impl<I: Input, A: Allocator + Copy> BinReader<I, A> {
         sink: &mut Sink<O, A>,
     ) -> bool
         requires { CanHandShape W.ValueWriter (N.text names.now) self.old around.old front
-            (body type_code length_code) writer.old sink.old meter.old }
+            (as_shape shape) writer.old sink.old meter.old }
         ensures { HandsAt I.Input W.ValueWriter (named_item (N.text names.now)) self.old self.new
             writer.old writer.new sink.old sink.new meter.old meter.new around.new result }
     {
+        let Shape::Body {
+            type_code,
+            length_code,
+        } = shape
+        else {
+            return false;
+        };
         match type_code {
             2 => {
                 let shape = Shape::body(2, length_code);

@@ -35,6 +35,16 @@ use ion_value::quoting::{NameText, Quoting, bare};
 use ion_value::writer::ValueWriter;
 use std::alloc::Allocator;
 
+// What a run is over: members without an annotation whose name is known to be written as it stands, and all values
+// without name and annotation;
+pub(super) const MOST: u8 = 0;
+
+// members without an annotation that have another name;
+const QUOTED: u8 = 1;
+
+// and members with an annotation or two.
+const NOTED: u8 = 2;
+
 // A head, and its text where it is a symbol whose quoting is known.
 #[derive(Clone, Copy)]
 struct SpelledHead<'h> {
@@ -201,7 +211,7 @@ pub(super) fn values_behind(values: u64, frames: &[Frame]) -> u64
 impl<I: Input, A: Allocator + Copy> BinReader<I, A> {
     // Hands items on, behind so many values at top level, as long as `hand` can: how many values ended.
     #[inline(always)]
-    pub(super) fn hand_all<N: Names, W: ValueWriter<O, A>, O: Output, const OTHERS: bool>(
+    pub(super) fn hand_all<N: Names, W: ValueWriter<O, A>, O: Output, const RUN: u8>(
         &mut self,
         values: u64,
         meter: &mut Meter<A>,
@@ -215,15 +225,15 @@ impl<I: Input, A: Allocator + Copy> BinReader<I, A> {
     {
         let mut count = values;
         let mut around = around_in(self.frames.as_slice());
-        'items: while self.hand::<N, W, O, OTHERS>(&mut around, meter, names, writer, sink) {
+        'items: while self.hand::<N, W, O, RUN>(&mut around, meter, names, writer, sink) {
             count = values_behind(count, self.frames.as_slice());
         }
         count
     }
 
-    // Hands on items that the loop over most leaves, behind so many values at top level. It is a call of its own, so
-    // that the loop over most is compiled without them.
-    #[inline(never)]
+    // Hands on items that the loop over most leaves, behind so many values at top level: those with annotations, and
+    // then those whose names are not known to be written as they stand. It answers how many values ended.
+    #[inline(always)]
     pub(super) fn hand_others<N: Names, W: ValueWriter<O, A>, O: Output>(
         &mut self,
         values: u64,
@@ -236,14 +246,50 @@ impl<I: Input, A: Allocator + Copy> BinReader<I, A> {
         ensures { HandsOn I.Input W.ValueWriter (named_item (N.text names.now)) self.old self.new
             writer.old writer.new sink.old sink.new meter.old meter.new values result }
     {
-        self.hand_all::<N, W, O, true>(values, meter, names, writer, sink)
+        let values = self.hand_noted(values, meter, names, writer, sink);
+        self.hand_quoted(values, meter, names, writer, sink)
     }
 
-    // Hands the next item on, where that is possible and it is one of those that `OTHERS` asks for: the
-    // members with an annotation or two, or with a name that is not known to be written as it stands, or else
-    // all but these. It answers false where it is not, and nothing is changed.
+    // Hands on items with an annotation or two. It is a loop and a call of its own, so that those over all others are
+    // compiled without them.
+    #[inline(never)]
+    fn hand_noted<N: Names, W: ValueWriter<O, A>, O: Output>(
+        &mut self,
+        values: u64,
+        meter: &mut Meter<A>,
+        names: &N,
+        writer: &mut W,
+        sink: &mut Sink<O, A>,
+    ) -> u64
+        requires { CanHandOn W.ValueWriter self.old writer.old sink.old meter.old values }
+        ensures { HandsOn I.Input W.ValueWriter (named_item (N.text names.now)) self.old self.new
+            writer.old writer.new sink.old sink.new meter.old meter.new values result }
+    {
+        self.hand_all::<N, W, O, NOTED>(values, meter, names, writer, sink)
+    }
+
+    // Hands on items that each have a name that is not known to be written as it stands, and no annotation. It is a
+    // loop and a call of its own too.
+    #[inline(never)]
+    fn hand_quoted<N: Names, W: ValueWriter<O, A>, O: Output>(
+        &mut self,
+        values: u64,
+        meter: &mut Meter<A>,
+        names: &N,
+        writer: &mut W,
+        sink: &mut Sink<O, A>,
+    ) -> u64
+        requires { CanHandOn W.ValueWriter self.old writer.old sink.old meter.old values }
+        ensures { HandsOn I.Input W.ValueWriter (named_item (N.text names.now)) self.old self.new
+            writer.old writer.new sink.old sink.new meter.old meter.new values result }
+    {
+        self.hand_all::<N, W, O, QUOTED>(values, meter, names, writer, sink)
+    }
+
+    // Hands the next item on, where that is possible and it is of those that this run is over. It answers false where
+    // it is not, and nothing is changed.
     #[inline(always)]
-    fn hand<N: Names, W: ValueWriter<O, A>, O: Output, const OTHERS: bool>(
+    fn hand<N: Names, W: ValueWriter<O, A>, O: Output, const RUN: u8>(
         &mut self,
         around: &mut Around,
         meter: &mut Meter<A>,
@@ -257,12 +303,12 @@ impl<I: Input, A: Allocator + Copy> BinReader<I, A> {
             writer.old writer.new sink.old sink.new meter.old meter.new around.new result }
     {
         if ends_here(*around, self.source.place()) {
-            if OTHERS {
+            if RUN != MOST {
                 return false;
             }
             return self.hand_end(around, meter, names, writer, sink);
         }
-        self.hand_member::<N, W, O, OTHERS>(around, meter, names, writer, sink)
+        self.hand_member::<N, W, O, RUN>(around, meter, names, writer, sink)
     }
 
     // The end of the innermost container, which stands here.
@@ -321,7 +367,7 @@ impl<I: Input, A: Allocator + Copy> BinReader<I, A> {
 
     // The next member of the innermost container, or a value at top level.
     #[inline(always)]
-    fn hand_member<N: Names, W: ValueWriter<O, A>, O: Output, const OTHERS: bool>(
+    fn hand_member<N: Names, W: ValueWriter<O, A>, O: Output, const RUN: u8>(
         &mut self,
         around: &mut Around,
         meter: &mut Meter<A>,
@@ -335,51 +381,28 @@ impl<I: Input, A: Allocator + Copy> BinReader<I, A> {
     {
         let here = self.source.place();
         let octets = self.source.buffer();
-        let Some((field, at)) = shown_field(octets, here, *around, names, OTHERS) else {
+        let Some((field, at)) = shown_field(octets, here, *around, names, RUN != MOST) else {
             return false;
         };
-        if OTHERS {
+        if RUN == NOTED {
             let limits = self.limits;
-            if let Some(front) = noted_front(octets, here, *around, field, at, limits, names) {
-                return self.hand_noted(around, front, meter, names, writer, sink);
-            }
-            if is_bare(field) {
+            let Some(front) = noted_front(octets, here, *around, field, at, limits, names) else {
                 return false;
-            }
+            };
+            return self.hand_head::<N, W, O, RUN>(around, front, meter, names, writer, sink);
         }
-        let front = bare_front(field, at);
-        self.hand_head::<N, W, O, OTHERS>(around, front, meter, names, writer, sink)
-    }
-
-    // Hands on an item with this front, which has an annotation. All shapes of a head share a call here.
-    #[inline(always)]
-    fn hand_noted<N: Names, W: ValueWriter<O, A>, O: Output>(
-        &mut self,
-        around: &mut Around,
-        front: Front<'_>,
-        meter: &mut Meter<A>,
-        names: &N,
-        writer: &mut W,
-        sink: &mut Sink<O, A>,
-    ) -> bool
-        requires { CanHandFront W.ValueWriter (N.text names.now) self.old around.old front
-            writer.old sink.old meter.old }
-        ensures { HandsAt I.Input W.ValueWriter (named_item (N.text names.now)) self.old self.new
-            writer.old writer.new sink.old sink.new meter.old meter.new around.new result }
-    {
-        let octets = self.source.buffer();
-        if front.head >= octets.len() {
+        if RUN == QUOTED && is_bare(field) {
             return false;
         }
-        let shape = Shape::of(octets[front.head]);
-        self.hand_shape(shape, around, front, meter, names, writer, sink)
+        let front = bare_front(field, at);
+        self.hand_head::<N, W, O, RUN>(around, front, meter, names, writer, sink)
     }
 
     // Hands on an item with this front. Each frequent shape of a head has a call of its own, so that
-    // it is compiled for that shape alone; and each of the two loops has this function for itself, by
-    // `OTHERS`, so that it has one caller, in which it is put in line.
+    // it is compiled for that shape alone; and each of the three runs has this function for itself, by
+    // `RUN`, so that it has one caller, in which it is put in line.
     #[inline(always)]
-    fn hand_head<N: Names, W: ValueWriter<O, A>, O: Output, const OTHERS: bool>(
+    fn hand_head<N: Names, W: ValueWriter<O, A>, O: Output, const RUN: u8>(
         &mut self,
         around: &mut Around,
         front: Front<'_>,
@@ -410,7 +433,7 @@ impl<I: Input, A: Allocator + Copy> BinReader<I, A> {
                 length_code,
             } => {
                 let shape = Shape::body(type_code, length_code);
-                self.hand_body::<N, W, O, OTHERS>(shape, around, front, meter, names, writer, sink)
+                self.hand_body::<N, W, O, RUN>(shape, around, front, meter, names, writer, sink)
             }
             Shape::Container(kind, length_code) => {
                 let shape = Shape::Container(kind, length_code);
@@ -422,7 +445,7 @@ impl<I: Input, A: Allocator + Copy> BinReader<I, A> {
 
     // Hands on a scalar with a body, by its type code. Lobs are not handed on.
     #[inline(always)]
-    fn hand_body<N: Names, W: ValueWriter<O, A>, O: Output, const OTHERS: bool>(
+    fn hand_body<N: Names, W: ValueWriter<O, A>, O: Output, const RUN: u8>(
         &mut self,
         shape: Shape,
         around: &mut Around,

@@ -13,11 +13,11 @@ noted_front-requires-clause-field g c = c.in-Some.ensures
 pub noted_front-requires-clause-small : goal.noted_front-requires-clause-small
 noted_front-requires-clause-small g c = grind (arith, common_steps)
 
-pub hand_head-requires-in-Some-noted_front : goal.hand_head-requires-in-Some-noted_front
-hand_head-requires-in-Some-noted_front g c = record { member = c.requires; front = rw (c.buffer-octets.ensures, c.place-here.ensures) at c.in-Some-noted_front.ensures }
-
 pub hand_head-requires : goal.hand_head-requires
-hand_head-requires g c =
+hand_head-requires g c = record { member = c.requires; front = rw (c.buffer-octets.ensures, c.place-here.ensures) at c.in-Some-noted_front.ensures }
+
+pub hand_head-requires-2 : goal.hand_head-requires-2
+hand_head-requires-2 g c =
     let r = c.args.self.now in
     let name = rw (c.buffer-octets.ensures, c.place-here.ensures) at c.in-Some.ensures in
     record { member = c.requires; front = rw c.bare_front-front.ensures (front_bare (g.N.Names.text c.args.names.now) r.limits (lent r.source) r.source.place (innermost (frame_in c.args.around.now)) c.in-Some.field c.in-Some.at name) }
@@ -28,11 +28,11 @@ returns-in_default g c = hands-none g.W.ValueWriter c.requires.can_hand (g.met.W
 pub returns-in_default-noted_front : goal.returns-in_default-noted_front
 returns-in_default-noted_front g c = hands-none g.W.ValueWriter c.requires.can_hand (g.met.W.ValueWriter.within c.args.writer.now c.requires.can_hand.writer.sound)
 
-pub returns-in-Some-noted_front : goal.returns-in-Some-noted_front
-returns-in-Some-noted_front g c = c.hand_head-in-Some-noted_front.ensures
+pub returns-then-this-eq-NOTED : goal.returns-then-this-eq-NOTED
+returns-then-this-eq-NOTED g c = c.hand_head.ensures
 
 pub returns-then-is_bare : goal.returns-then-is_bare
 returns-then-is_bare g c = hands-none g.W.ValueWriter c.requires.can_hand (g.met.W.ValueWriter.within c.args.writer.now c.requires.can_hand.writer.sound)
 
 pub returns : goal.returns
-returns g c = c.hand_head.ensures
+returns g c = c.hand_head-2.ensures

@@ -1,4 +1,5 @@
 mod Rows
+mod ScannedParts
 mod Elements
 mod Termination
 mod VarLoop

@@ -21,6 +21,7 @@ mod opening;
 mod put;
 pub mod reader;
 mod scalar;
+mod scan;
 mod shown;
 mod typed_value;
 mod value;

@@ -8,7 +8,7 @@ ghost use Rattle.ion_value.specs.Outcome.{one_if_closed};
 ghost use Rattle.ion_binary.specs.Steps.{IsSized, opened_in};
 ghost use Rattle.ion_binary.specs.Positions.{placed_scalar};
 ghost use Rattle.ion_binary.specs.Reading.{region_of, top_of};
-ghost use Rattle.ion_binary.specs.Descriptor.{body, shape_of};
+ghost use Rattle.ion_binary.specs.Descriptor.{shape_of};
 ghost use Rattle.ion_binary.specs.Shapes.{as_shape};
 ghost use Rattle.ion_binary.specs.Shown.{ShowsValue, far_end, shown_scalar};
 ghost use Rattle.ion_meter.specs.Counts.{Shrinks};
@@ -19,7 +19,7 @@ ghost use Rattle.ion_value.specs.Value.{Id, Text, map_head, symbol, whole};
 
 use super::front::{
     Around, Front, Level, around_in, bare_front, ends_here, fills, inner_end, inside, is_bare,
-    shown_field,
+    noted_front, shown_field,
 };
 use super::{BinReader, ItemKind};
 use crate::descriptor::Shape;
@@ -34,6 +34,16 @@ use ion_value::plain_item::PlainItem;
 use ion_value::quoting::{NameText, Quoting, bare};
 use ion_value::writer::ValueWriter;
 use std::alloc::Allocator;
+
+// What a run is over: members without an annotation whose name is known to be written as it stands, and all values
+// without name and annotation;
+pub(super) const MOST: u8 = 0;
+
+// members without an annotation that have another name;
+const QUOTED: u8 = 1;
+
+// and members with an annotation or two.
+const NOTED: u8 = 2;
 
 // A head, and its text where it is a symbol whose quoting is known.
 #[derive(Clone, Copy)]
@@ -201,7 +211,7 @@ pub(super) fn values_behind(values: u64, frames: &[Frame]) -> u64
 impl<I: Input, A: Allocator + Copy> BinReader<I, A> {
     // Hands items on, after so many values at top level, as long as `hand` can: how many values ended.
     #[inline(always)]
-    pub(super) fn hand_all<N: Names, W: ValueWriter<O, A>, O: Output, const OTHERS: bool>(
+    pub(super) fn hand_all<N: Names, W: ValueWriter<O, A>, O: Output, const RUN: u8>(
         &mut self,
         values: u64,
         meter: &mut Meter<A>,
@@ -215,17 +225,52 @@ impl<I: Input, A: Allocator + Copy> BinReader<I, A> {
     {
         let mut count = values;
         let mut around = around_in(self.frames.as_slice());
-        'items: while self.hand::<N, W, O, OTHERS>(&mut around, meter, names, writer, sink) {
+        'items: while self.hand::<N, W, O, RUN>(&mut around, meter, names, writer, sink) {
             count = values_behind(count, self.frames.as_slice());
         }
         count
     }
 
-    // Hands the next item on, where that is possible and it is one of those that `OTHERS` asks for: the
-    // members with a name that is not known to be written as it stands, or else all but these. It answers
-    // false where it is not, and nothing is changed.
+    // Hands on items that the loop over most leaves, behind so many values at top level. It answers how many values
+    // ended.
     #[inline(always)]
-    fn hand<N: Names, W: ValueWriter<O, A>, O: Output, const OTHERS: bool>(
+    pub(super) fn hand_others<N: Names, W: ValueWriter<O, A>, O: Output>(
+        &mut self,
+        values: u64,
+        meter: &mut Meter<A>,
+        names: &N,
+        writer: &mut W,
+        sink: &mut Sink<O, A>,
+    ) -> u64
+        requires { CanHandOn W.ValueWriter self.old writer.old sink.old meter.old values }
+        ensures { HandsOn I.Input W.ValueWriter (named_item (N.text names.now)) self.old self.new
+            writer.old writer.new sink.old sink.new meter.old meter.new values result }
+    {
+        let values = self.hand_run::<N, W, O, NOTED>(values, meter, names, writer, sink);
+        self.hand_run::<N, W, O, QUOTED>(values, meter, names, writer, sink)
+    }
+
+    // Hands on items of one run. It is a call of its own, so that the loop over most is compiled without it.
+    #[inline(never)]
+    fn hand_run<N: Names, W: ValueWriter<O, A>, O: Output, const RUN: u8>(
+        &mut self,
+        values: u64,
+        meter: &mut Meter<A>,
+        names: &N,
+        writer: &mut W,
+        sink: &mut Sink<O, A>,
+    ) -> u64
+        requires { CanHandOn W.ValueWriter self.old writer.old sink.old meter.old values }
+        ensures { HandsOn I.Input W.ValueWriter (named_item (N.text names.now)) self.old self.new
+            writer.old writer.new sink.old sink.new meter.old meter.new values result }
+    {
+        self.hand_all::<N, W, O, RUN>(values, meter, names, writer, sink)
+    }
+
+    // Hands the next item on, where that is possible and it is of those that this run is over. It answers false where
+    // it is not, and nothing is changed.
+    #[inline(always)]
+    fn hand<N: Names, W: ValueWriter<O, A>, O: Output, const RUN: u8>(
         &mut self,
         around: &mut Around,
         meter: &mut Meter<A>,
@@ -239,12 +284,12 @@ impl<I: Input, A: Allocator + Copy> BinReader<I, A> {
             writer.old writer.new sink.old sink.new meter.old meter.new around.new result }
     {
         if ends_here(*around, self.source.place()) {
-            if OTHERS {
+            if RUN != MOST {
                 return false;
             }
             return self.hand_end(around, meter, names, writer, sink);
         }
-        self.hand_member::<N, W, O, OTHERS>(around, meter, names, writer, sink)
+        self.hand_member::<N, W, O, RUN>(around, meter, names, writer, sink)
     }
 
     // The end of the innermost container, which stands here.
@@ -303,7 +348,7 @@ impl<I: Input, A: Allocator + Copy> BinReader<I, A> {
 
     // The next member of the innermost container, or a value at top level.
     #[inline(always)]
-    fn hand_member<N: Names, W: ValueWriter<O, A>, O: Output, const OTHERS: bool>(
+    fn hand_member<N: Names, W: ValueWriter<O, A>, O: Output, const RUN: u8>(
         &mut self,
         around: &mut Around,
         meter: &mut Meter<A>,
@@ -317,21 +362,28 @@ impl<I: Input, A: Allocator + Copy> BinReader<I, A> {
     {
         let here = self.source.place();
         let octets = self.source.buffer();
-        let Some((field, at)) = shown_field(octets, here, *around, names, OTHERS) else {
+        let Some((field, at)) = shown_field(octets, here, *around, names, RUN != MOST) else {
             return false;
         };
-        if OTHERS && is_bare(field) {
+        if RUN == NOTED {
+            let limits = self.limits;
+            let Some(front) = noted_front(octets, here, *around, field, at, limits, names) else {
+                return false;
+            };
+            return self.hand_head::<N, W, O, RUN>(around, front, meter, names, writer, sink);
+        }
+        if RUN == QUOTED && is_bare(field) {
             return false;
         }
         let front = bare_front(field, at);
-        self.hand_head::<N, W, O, OTHERS>(around, front, meter, names, writer, sink)
+        self.hand_head::<N, W, O, RUN>(around, front, meter, names, writer, sink)
     }
 
     // Hands on an item with this front. Each frequent shape of a head has a call of its own, so that
-    // it is compiled for that shape alone; and each of the two loops has this function for itself, by
-    // `OTHERS`, so that it has one caller, in which it is put in line.
+    // it is compiled for that shape alone; and each of the three runs has this function for itself, by
+    // `RUN`, so that it has one caller, in which it is put in line.
     #[inline(always)]
-    fn hand_head<N: Names, W: ValueWriter<O, A>, O: Output, const OTHERS: bool>(
+    fn hand_head<N: Names, W: ValueWriter<O, A>, O: Output, const RUN: u8>(
         &mut self,
         around: &mut Around,
         front: Front<'_>,
@@ -354,29 +406,16 @@ impl<I: Input, A: Allocator + Copy> BinReader<I, A> {
                 self.hand_shape(Shape::Null(of), around, front, meter, names, writer, sink)
             }
             Shape::Bool(truth) => {
-                self.hand_shape(
-                    Shape::Bool(truth),
-                    around,
-                    front,
-                    meter,
-                    names,
-                    writer,
-                    sink,
-                )
+                let shape = Shape::Bool(truth);
+                self.hand_shape(shape, around, front, meter, names, writer, sink)
             }
             Shape::Body {
                 type_code,
                 length_code,
-            } => self.hand_body::<N, W, O, OTHERS>(
-                type_code,
-                length_code,
-                around,
-                front,
-                meter,
-                names,
-                writer,
-                sink,
-            ),
+            } => {
+                let shape = Shape::body(type_code, length_code);
+                self.hand_body::<N, W, O, RUN>(shape, around, front, meter, names, writer, sink)
+            }
             Shape::Container(kind, length_code) => {
                 let shape = Shape::Container(kind, length_code);
                 self.hand_shape(shape, around, front, meter, names, writer, sink)
@@ -387,10 +426,9 @@ impl<I: Input, A: Allocator + Copy> BinReader<I, A> {
 
     // Hands on a scalar with a body, by its type code. Lobs are not handed on.
     #[inline(always)]
-    fn hand_body<N: Names, W: ValueWriter<O, A>, O: Output, const OTHERS: bool>(
+    fn hand_body<N: Names, W: ValueWriter<O, A>, O: Output, const RUN: u8>(
         &mut self,
-        type_code: u8,
-        length_code: u8,
+        shape: Shape,
         around: &mut Around,
         front: Front<'_>,
         meter: &mut Meter<A>,
@@ -399,10 +437,17 @@ impl<I: Input, A: Allocator + Copy> BinReader<I, A> {
         sink: &mut Sink<O, A>,
     ) -> bool
         requires { CanHandShape W.ValueWriter (N.text names.now) self.old around.old front
-            (body type_code length_code) writer.old sink.old meter.old }
+            (as_shape shape) writer.old sink.old meter.old }
         ensures { HandsAt I.Input W.ValueWriter (named_item (N.text names.now)) self.old self.new
             writer.old writer.new sink.old sink.new meter.old meter.new around.new result }
     {
+        let Shape::Body {
+            type_code,
+            length_code,
+        } = shape
+        else {
+            return false;
+        };
         match type_code {
             2 => {
                 let shape = Shape::body(2, length_code);

@@ -6,8 +6,8 @@ use Rattle.ion_binary.proofs.reader.BinReader.hand.Goals as goal
 pub ends_here-requires : goal.ends_here-requires
 ends_here-requires g c = record { top = λ none. omega (arith, c.place.ensures, c.requires.around.top none, c.requires.can_hand.stands.within, c.requires.can_hand.stands.small) }
 
-pub returns-then-this-ne0 : goal.returns-then-this-ne0
-returns-then-this-ne0 g c = hands-none g.W.ValueWriter c.requires.can_hand (g.met.W.ValueWriter.within c.args.writer.now c.requires.can_hand.writer.sound)
+pub returns-then-this-ne-MOST : goal.returns-then-this-ne-MOST
+returns-then-this-ne-MOST g c = hands-none g.W.ValueWriter c.requires.can_hand (g.met.W.ValueWriter.within c.args.writer.now c.requires.can_hand.writer.sound)
 
 pub hand_member-requires : goal.hand_member-requires
 hand_member-requires g c = record { can_hand = c.requires.can_hand; around = c.requires.around; goes_on = grind (arith, common_steps) steps 400000 }

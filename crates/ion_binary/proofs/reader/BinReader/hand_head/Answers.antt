@@ -22,7 +22,7 @@ pub hand_body-requires : goal.hand_body-requires
 hand_body-requires g c = record {
   item = c.requires;
   within = grind (arith, common_steps) steps 400000;
-  is = rw c.buffer-octets.ensures at (sym (ap as_shape c.in-Body.is) ∙ c.of.ensures);
+  is = c.body-shape.ensures ∙ (rw c.buffer-octets.ensures at (sym (ap as_shape c.in-Body.is) ∙ c.of.ensures));
 }
 
 pub hand_shape-requires-in-Container : goal.hand_shape-requires-in-Container

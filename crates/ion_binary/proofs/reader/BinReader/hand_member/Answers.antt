@@ -1,3 +1,5 @@
+use Rattle.std.proofs.Common.{arith}
+use Rattle.std.proofs.lemmas.Grind.{common_steps}
 use Rattle.ion_binary.specs.Lane.{frame_in}
 use Rattle.ion_binary.specs.Wrappers.{innermost}
 use Rattle.ion_binary.proofs.Handing.{front_bare}
@@ -5,8 +7,17 @@ use Rattle.ion_meter.specs.Windows.{lent}
 use Rattle.ion_binary.proofs.HandingKeeps.{hands-none}
 use Rattle.ion_binary.proofs.reader.BinReader.hand_member.Goals as goal
 
+pub noted_front-requires-clause-field : goal.noted_front-requires-clause-field
+noted_front-requires-clause-field g c = c.in-Some.ensures
+
+pub noted_front-requires-clause-small : goal.noted_front-requires-clause-small
+noted_front-requires-clause-small g c = grind (arith, common_steps)
+
 pub hand_head-requires : goal.hand_head-requires
-hand_head-requires g c =
+hand_head-requires g c = record { member = c.requires; front = rw (c.buffer-octets.ensures, c.place-here.ensures) at c.in-Some-noted_front.ensures }
+
+pub hand_head-requires-2 : goal.hand_head-requires-2
+hand_head-requires-2 g c =
     let r = c.args.self.now in
     let name = rw (c.buffer-octets.ensures, c.place-here.ensures) at c.in-Some.ensures in
     record { member = c.requires; front = rw c.bare_front-front.ensures (front_bare (g.N.Names.text c.args.names.now) r.limits (lent r.source) r.source.place (innermost (frame_in c.args.around.now)) c.in-Some.field c.in-Some.at name) }
@@ -14,8 +25,14 @@ hand_head-requires g c =
 pub returns-in_default : goal.returns-in_default
 returns-in_default g c = hands-none g.W.ValueWriter c.requires.can_hand (g.met.W.ValueWriter.within c.args.writer.now c.requires.can_hand.writer.sound)
 
+pub returns-in_default-noted_front : goal.returns-in_default-noted_front
+returns-in_default-noted_front g c = hands-none g.W.ValueWriter c.requires.can_hand (g.met.W.ValueWriter.within c.args.writer.now c.requires.can_hand.writer.sound)
+
+pub returns-then-this-eq-NOTED : goal.returns-then-this-eq-NOTED
+returns-then-this-eq-NOTED g c = c.hand_head.ensures
+
 pub returns-then-is_bare : goal.returns-then-is_bare
 returns-then-is_bare g c = hands-none g.W.ValueWriter c.requires.can_hand (g.met.W.ValueWriter.within c.args.writer.now c.requires.can_hand.writer.sound)
 
 pub returns : goal.returns
-returns g c = c.hand_head.ensures
+returns g c = c.hand_head-2.ensures

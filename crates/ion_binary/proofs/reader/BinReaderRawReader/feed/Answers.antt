@@ -20,8 +20,8 @@ hand_all-values-requires g c =
     let q = c.requires in
     hands-again g.I.Input w see (hands-begin w q.room q.held q.countable q.sound.0 q.fresh q.writer) c.runs.invariant
 
-pub hand_rare-values-requires : goal.hand_rare-values-requires
-hand_rare-values-requires g c =
+pub hand_others-values-requires : goal.hand_others-values-requires
+hand_others-values-requires g c =
     let w = g.W.ValueWriter in
     let see = named_item (g.N.Names.text c.args.names.now) in
     let q = c.requires in
@@ -29,7 +29,7 @@ hand_rare-values-requires g c =
 
 pub runs-smaller : goal.runs-smaller
 runs-smaller g c =
-    omega (arith, c.place-place.ensures, c.place.ensures, c.hand_all-values.ensures.total, c.hand_all-values.ensures.further, c.hand_rare-values.ensures.total, c.hand_rare-values.ensures.further, c.if-place.false)
+    omega (arith, c.place-place.ensures, c.place.ensures, c.hand_all-values.ensures.total, c.hand_all-values.ensures.further, c.hand_others-values.ensures.total, c.hand_others-values.ensures.further, c.if-place.false)
 
 pub runs-preserved : goal.runs-preserved
 runs-preserved g c =
@@ -39,8 +39,8 @@ runs-preserved g c =
     let r = c.args.self.now in
     let run = hands_on-then input w see r c.runs.self c.hand_all-values.new.self c.args.writer.now c.runs.writer c.hand_all-values.new.writer c.args.sink.now c.runs.sink c.hand_all-values.new.sink c.args.meter.now
     c.runs.meter c.hand_all-values.new.meter 0 c.runs.values c.hand_all-values.result c.requires.held c.runs.invariant c.hand_all-values.ensures in
-    hands_on-then input w see r c.hand_all-values.new.self c.hand_rare-values.new.self c.args.writer.now c.hand_all-values.new.writer c.hand_rare-values.new.writer c.args.sink.now c.hand_all-values.new.sink
-    c.hand_rare-values.new.sink c.args.meter.now c.hand_all-values.new.meter c.hand_rare-values.new.meter 0 c.hand_all-values.result c.hand_rare-values.result c.requires.held run c.hand_rare-values.ensures
+    hands_on-then input w see r c.hand_all-values.new.self c.hand_others-values.new.self c.args.writer.now c.hand_all-values.new.writer c.hand_others-values.new.writer c.args.sink.now c.hand_all-values.new.sink
+    c.hand_others-values.new.sink c.args.meter.now c.hand_all-values.new.meter c.hand_others-values.new.meter 0 c.hand_all-values.result c.hand_others-values.result c.requires.held run c.hand_others-values.ensures
 
 pub returns : goal.returns
 returns g c =
@@ -50,8 +50,8 @@ returns g c =
     let r = c.args.self.now in
     let run = hands_on-then input w see r c.runs.self c.hand_all-values.new.self c.args.writer.now c.runs.writer c.hand_all-values.new.writer c.args.sink.now c.runs.sink c.hand_all-values.new.sink c.args.meter.now
     c.runs.meter c.hand_all-values.new.meter 0 c.runs.values c.hand_all-values.result c.requires.held c.runs.invariant c.hand_all-values.ensures in
-    let h = hands_on-then input w see r c.hand_all-values.new.self c.hand_rare-values.new.self c.args.writer.now c.hand_all-values.new.writer c.hand_rare-values.new.writer c.args.sink.now c.hand_all-values.new.sink
-    c.hand_rare-values.new.sink c.args.meter.now c.hand_all-values.new.meter c.hand_rare-values.new.meter 0 c.hand_all-values.result c.hand_rare-values.result c.requires.held run c.hand_rare-values.ensures in
+    let h = hands_on-then input w see r c.hand_all-values.new.self c.hand_others-values.new.self c.args.writer.now c.hand_all-values.new.writer c.hand_others-values.new.writer c.args.sink.now c.hand_all-values.new.sink
+    c.hand_others-values.new.sink c.args.meter.now c.hand_all-values.new.meter c.hand_others-values.new.meter 0 c.hand_all-values.result c.hand_others-values.result c.requires.held run c.hand_others-values.ensures in
     record {
       sound = (
         record { sized = h.keeps.sized; small = h.keeps.stands.small; stands = λ _. h.keeps.stands; one_ending = λ _. h.keeps.failed ∙ c.requires.fresh },
@@ -59,8 +59,8 @@ returns g c =
             let observable = subst input.observable h.keeps.device o in
             let over = c.requires.sound.1 (sym h.keeps.done ∙ d) observable in (
               finished-feeds w see (input.observable r.source.device) (joint input r c.args.writer.now c.args.sink.now 0)
-                  (joint input c.hand_rare-values.new.self c.hand_rare-values.new.writer c.hand_rare-values.new.sink c.hand_rare-values.result) h.feeds observable over.0,
-              nothing-left input r.source c.hand_rare-values.new.self.source h.further h.total over.1,
+                  (joint input c.hand_others-values.new.self c.hand_others-values.new.writer c.hand_others-values.new.sink c.hand_others-values.result) h.feeds observable over.0,
+              nothing-left input r.source c.hand_others-values.new.self.source h.further h.total over.1,
             ),
       );
       observable = (λ o. subst input.observable h.keeps.device o, λ o. subst input.observable (sym h.keeps.device) o);
@@ -69,7 +69,7 @@ returns g c =
       falls = omega (arith, h.falls);
       same = (h.keeps.failed, ap (λ (l : Limits). l.depth) h.keeps.limits, ap most_of h.keeps.limits, ap input.failure_count h.keeps.device);
       ended = λ over. h.keeps.done ∙ over;
-      exceeds = exceeds-same input r.source c.hand_rare-values.new.self.source h.keeps.device h.keeps.limit h.total;
+      exceeds = exceeds-same input r.source c.hand_others-values.new.self.source h.keeps.device h.keeps.limit h.total;
       bytes_left = h.bytes_left;
       writer = h.keeps.writer;
       charges = h.keeps.charges;

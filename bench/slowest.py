@@ -7,7 +7,7 @@ CRATE is the folder of a crate in which `rt check --jobs 1` proved it from nothi
 it has checked, one after the other, so the time between two of them is what the second took: `Proof` has the goals of a function
 that have no answer, `Answers` those that have one, `Lts` follows its code. N modules are shown, 30 by default.
 
-Between the last function and what is checked behind it the check rests for some seconds, which fall to the first module there: the 7 s
+Between the last function and what is checked after it the check rests for some seconds, which fall to the first module there: the 7 s
 of `specs.Standing` of `ion_value` are none of its own. How many steps a module took stands in its file under `records/`."""
 import collections, glob, os, sys
 

@@ -44,7 +44,7 @@ FEW = 3
 WIDTH = 140
 NUMBERS = "no one two three four five six seven eight nine ten eleven twelve".split()
 
-# A name, and what stands behind its dot: a field, or a name in the module that it names.
+# A name, and what stands after its dot: a field, or a name in the module that it names.
 NAME = re.compile(r"(?<![\w.'-])([^\W\d][\w'-]*)(?:\.(\w+))?")
 USE = re.compile(r"(?:pub |ghost )?use ([\w.]+?)(?:\.\{(.*)\}| as (\w+))?;?")
 SILENT = re.compile(r'"(?:\\.|[^"\\])*"|--[^\n]*')
@@ -79,8 +79,8 @@ class Scope:
 
     def meant_in(self, text):
         """What all names in a text mean."""
-        found = [meaning_in(self.modules[name], behind) if behind and name in self.modules else self.meaning(name)
-                 for name, behind in NAME.findall(text)]
+        found = [meaning_in(self.modules[name], after) if after and name in self.modules else self.meaning(name)
+                 for name, after in NAME.findall(text)]
         words = set(text.split())
         for operator in filter(lambda name: "◌" in name, [*self.own, *self.imports]):
             parts = set(filter(None, operator.split("◌")))
@@ -182,7 +182,7 @@ class Item(collections.namedtuple("Item", "home name")):
 
 
 def closing(text, at):
-    """The place behind the brace that closes the one at a place."""
+    """The place after the brace that closes the one at a place."""
     depth = 0
     for at in range(at, len(text)):
         depth += {"{": 1, "}": -1}.get(text[at], 0)
@@ -196,7 +196,7 @@ code_in = functools.lru_cache(None)(Code)
 
 
 def code_of(crate, parts):
-    """The file of the code that a path in a crate leads to, and what of the path goes on behind it."""
+    """The file of the code that a path in a crate leads to, and what of the path goes on after it."""
     for count in range(len(parts), -1, -1):
         stem = "/".join([f"crates/{crate}/src", *parts[:count]])
         for path in [stem + ".rt", stem + "/mod.rt"] if count else [stem + "/main.rt", stem + "/lib.rt"]:
@@ -217,8 +217,8 @@ def meaning_in(path, name):
         return None
     words = path.split(".")
     if words[3] == "declared":
-        code, behind = code_of(words[1], [word for word in words[4:] if word != "TheVariants"])
-        return Item(code, behind[0] if behind else name)
+        code, after = code_of(words[1], [word for word in words[4:] if word != "TheVariants"])
+        return Item(code, after[0] if after else name)
     return specs_of(words[1], words[3]).meaning(name)
 
 
@@ -396,7 +396,7 @@ def written(page, places):
     """The page with what each place has to be."""
     for _, begin, end, right in sorted((place for place in places if place[2]), key=lambda place: place[1:3], reverse=True):
         page = page[:begin] + right + page[end:]
-    # a comma that stood behind a file that is there no more
+    # a comma that stood after a file that is there no more
     page = page.replace(" , ", " ")
     page = "\n\n".join(map(filled, page.split("\n\n")))
     with open(PAGE, "w", encoding="utf-8") as file:

@@ -35,7 +35,7 @@ def texts(sizes):
 
 
 def octets(sizes):
-    """Behind a version marker a string for each size, from 131 to 16,386 octets, and its line."""
+    """After a version marker a string for each size, from 131 to 16,386 octets, and its line."""
     pairs = [(MARKER, b"")]
     for n, size in enumerate(sizes):
         inside = (b"%d " % n).ljust(size - 3, b"x")
@@ -54,7 +54,7 @@ def ints_to_binary(length):
 
 
 def long_in_text(length):
-    """By name: what is so long in text, each with what has to be written of it. Where it is no value, one stands behind it."""
+    """By name: what is so long in text, each with what has to be written of it. Where it is no value, one stands after it."""
     x = b"x" * length
     segments = length // 10
     return {
@@ -74,7 +74,7 @@ def long_in_text(length):
 
 
 def sized(descriptor, inside):
-    """What has this descriptor and these octets, fewer than 2^21, behind a length of three."""
+    """What has this descriptor and these octets, fewer than 2^21, after a length of three."""
     length = len(inside)
     return bytes([descriptor, length >> 14, length >> 7 & 0x7F, 0x80 | length & 0x7F]) + inside
 
@@ -94,14 +94,14 @@ def long_in_binary(length):
 
 
 def cut_in_long_ones():
-    """Rows: values that are whole, and one more that is longer than all windows, or stands behind what is, cut there."""
+    """Rows: values that are whole, and one more that is longer than all windows, or stands after what is, cut there."""
     for form, make, long_ones in (("text", texts, long_in_text), ("binary", octets, long_in_binary)):
         for name, pair in long_ones(50000).items():
             # few bytes at once, many, and many that end where a window does
-            for values, behind in ((5, 200), (110, 9000), (20, 45056)):
+            for values, after in ((5, 200), (110, 9000), (20, 45056)):
                 some = make([200] * values)
-                size = sum(len(sent) for sent, _ in some) + behind
-                yield f"{form}, {name} behind {values}", "show", some + [pair] + make([150])[-1:], [size]
+                size = sum(len(sent) for sent, _ in some) + after
+                yield f"{form}, {name} after {values}", "show", some + [pair] + make([150])[-1:], [size]
 
 
 # Values of many kinds, with what is passed over before them, and their lines: each is whole without a byte more.
@@ -145,14 +145,14 @@ OCTETS_OF_MANY_KINDS = [
 
 
 def cut_in_each(pairs):
-    """Rows: each value is cut behind so many bytes, and what stands before it comes at once with these."""
-    for behind in range(1, max(len(sent) for sent, _ in pairs)):
+    """Rows: each value is cut after so many bytes, and what stands before it comes at once with these."""
+    for after in range(1, max(len(sent) for sent, _ in pairs)):
         at, cuts = 0, [0]
         for sent, _ in pairs:
-            if behind < len(sent):
-                cuts.append(at + behind)
+            if after < len(sent):
+                cuts.append(at + after)
             at += len(sent)
-        yield f"many kinds cut behind {behind}", "show", pairs, [cut - before for before, cut in zip(cuts, cuts[1:])]
+        yield f"many kinds cut after {after}", "show", pairs, [cut - before for before, cut in zip(cuts, cuts[1:])]
 
 
 def whole_and_cut(make, size, most):

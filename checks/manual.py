@@ -77,7 +77,7 @@ def read_until(terminal, wanted):
 
 
 def completed_by_zsh(folder, at, line):
-    """The line that stands where the tabulator was pressed behind this one, in a zsh at a terminal of its own."""
+    """The line that stands where the tabulator was pressed after this one, in a zsh at a terminal of its own."""
     child, terminal = pty.fork()
     if child == 0:
         os.chdir(at)

@@ -2,7 +2,7 @@
 `checks/run` calls it.
 
 In a page a block that begins with ```console is one session of a shell: a line `$ COMMAND`, lines `> MORE` that
-continue it, and what it prints, standard error among it, up to the next command. `$ echo $?` behind a command shows its
+continue it, and what it prints, standard error among it, up to the next command. `$ echo $?` after a command shows its
 status, which is 0 where nothing shows it. Each command runs in a shell of its own, which begins in the folder where the
 one before it ended, so that a `cd` holds to the end of the page; the first begins in the root, where no command may
 leave anything. In a table that has a column `Input` and next to it a column `Answer`, a row has an
@@ -131,7 +131,7 @@ def spans(cell):
 
 
 def octets_of(text):
-    """The bytes of an input: octets behind `hex` or `M`, and else the text itself."""
+    """The bytes of an input: octets after `hex` or `M`, and else the text itself."""
     if text == "M" or text.startswith("M "):
         return bytes.fromhex(MARKER + text[1:])
     if text.startswith("hex "):

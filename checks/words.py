@@ -20,7 +20,7 @@ import tty
 
 
 def binary(octets):
-    """A version marker, and these octets behind it."""
+    """A version marker, and these octets after it."""
     return bytes.fromhex("E00100EA" + octets)
 
 
@@ -35,7 +35,7 @@ LINE = b"{name:[1,-1.50]}\n"
 CUT = b"5 [6, x"
 IMPORT = b'$ion_symbol_table::{imports:[{name:"x",version:1,max_id:2}]} $10 $11'
 IMPORT_AND_A = b'$ion_symbol_table::{imports:[{name:"x",version:1,max_id:2}],symbols:["a"]} $12 $10'
-# each value behind the declaration of its new text
+# each value after the declaration of its new text
 P_AND_Q = bytes.fromhex("EA 81 83 D7 86 71 03 87 B2 81 70 71 0A EA 81 83 D7 86 71 03 87 B2 81 71 71 0B")
 FILES = {
     "six.10n": SIX,
@@ -69,7 +69,7 @@ ROWS = [
     ("show, a binary file", "show six.10n", b"not read", 0, LINES, b""),
     ("show, a text file", "show six.ion", b"", 0, LINES, b""),
     ("show, an empty file", "show empty", b"", 0, b"", b""),
-    ("show, behind --", "show -- -dashed", b"", 0, b"7\n", b""),
+    ("show, after --", "show -- -dashed", b"", 0, b"7\n", b""),
     ("a name that ends in a blank", ["show", "ends in a blank "], b"", 0, b"8\n", b""),
     ("a name that ends in a line's end", ["show", "ends in a line\n"], b"", 0, b"9\n", b""),
     ("a catalogue's name in blanks", ["show", "--catalog", "\ttables ", "imports.ion"], b"", 0, b"r\ns\n", b""),
@@ -114,7 +114,7 @@ ROWS = [
     ("a folder", "check .", b"", 3, b"", b"read fault\n"),
     ("a folder as a catalogue", "show --catalog . five.10n", b"", 3, b"", b"read fault\n"),
     ("a folder, with a catalogue", "check --catalog empty .", b"", 3, b"", b"read fault\n"),
-    ("a folder behind a catalogue that is none", "show --catalog five.10n .", b"", 1, b"", b"catalog refused CatalogEntry at 4\n"),
+    ("a folder after a catalogue that is none", "show --catalog five.10n .", b"", 1, b"", b"catalog refused CatalogEntry at 4\n"),
     ("--version", "--version", b"", 0, b"ion 0.2.0, canonical text 2\n", b""),
     ("--version, over an input", "--version", IMPORT_AND_A, 0, b"ion 0.2.0, canonical text 2\n", b""),
     ("no such command", "frobnicate", b"1", 2, b"",
@@ -166,7 +166,7 @@ CONVERTED = [
     (binary("71 04 21 05"), 0, b"name\n5\n", b""),
     (binary("B3 21 05 40"), 1, b"[5", b"refused Float at 7\n"),
 ]
-# Decimals behind a version marker, and how `show` writes them: with a point where the exponent is from 0 down to -38.
+# Decimals after a version marker, and how `show` writes them: with a point where the exponent is from 0 down to -38.
 DECIMALS = [
     ("52 C1 0F", b"1.5\n"),
     ("52 C3 05", b"0.005\n"),
@@ -352,7 +352,7 @@ def has_terminals():
 
 
 def run_where_input_fails(program, row):
-    """Standard input is one end of a terminal, whose other end was closed behind what it wrote."""
+    """Standard input is one end of a terminal, whose other end was closed after what it wrote."""
     words, given, out = row
     master, slave = os.openpty()
     tty.setraw(slave)
@@ -360,7 +360,7 @@ def run_where_input_fails(program, row):
     os.close(slave)
     got = answer(program, words, stdin=master)
     os.close(master)
-    return told(got == (3, out, b"read fault\n"), f"standard input fails behind {given}", words, (3, out), got)
+    return told(got == (3, out, b"read fault\n"), f"standard input fails after {given}", words, (3, out), got)
 
 
 def run_on_a_terminal(program, row):
@@ -417,7 +417,7 @@ def run_where_a_file_fails(program, row):
         finally:
             process.kill()
     got = process.returncode, wrote, errors
-    return told(got == (3, out, b"read fault\n"), f"a file fails behind {given}", words, (3, out), got)
+    return told(got == (3, out, b"read fault\n"), f"a file fails after {given}", words, (3, out), got)
 
 
 def stopped_and_continued(process):

@@ -71,7 +71,7 @@ def said(program, *words):
 
 
 def sections(text):
-    """The lines below each heading of a help; those before the first below '', and free lines behind one below 'Behind'."""
+    """The lines below each heading of a help; those before the first below '', and free lines after one below 'After'."""
     found, at = {"": []}, ""
     for line in text.splitlines():
         head = re.fullmatch(r"([A-Z][\w ]*):(?: (.*))?", line)
@@ -79,7 +79,7 @@ def sections(text):
             at = head[1]
             found[at] = [head[2]] if head[2] else []
         elif at and re.match(r"\S", line):
-            found.setdefault("Behind", []).append(line)
+            found.setdefault("After", []).append(line)
         else:
             found[at].append(line)
     return found
@@ -110,7 +110,7 @@ class Help:
         top = sections(said(program, "--help"))
         self.version = said(program, "--version").strip()
         self.title = self.version.split(",")[0]
-        self.about, self.behind = top[""], top["Behind"]
+        self.about, self.after = top[""], top["After"]
         self.commands = [row for row in rows(top["Commands"]) if row[0] != "help"]
         self.top_options = list(options(top["Options"]))
         self.statuses = list(rows(top["Exit status"]))
@@ -151,7 +151,7 @@ def paragraphs(lines):
 
 
 def without_twice(lines):
-    """Without a paragraph's mark right behind another, or at the end."""
+    """Without a paragraph's mark right after another, or at the end."""
     kept = []
     for line in lines:
         if line != ".PP" or (kept and kept[-1] != ".PP" and not kept[-1].startswith(".SH")):
@@ -180,7 +180,7 @@ def man_page(said_by):
     for usage in said_by.usages:
         words = usage.split()
         lines += [f".B {' '.join(words[:2])}", roff(" ".join(words[2:])), ".br"]
-    lines += [".B ion", ".SH DESCRIPTION", *paragraphs(said_by.about), ".PP", *paragraphs(said_by.behind)]
+    lines += [".B ion", ".SH DESCRIPTION", *paragraphs(said_by.about), ".PP", *paragraphs(said_by.after)]
     lines += [".SH COMMANDS", *entries((name, ended(meaning)) for name, meaning in said_by.commands), ".SH OPTIONS"]
     for (names, value, meaning), where in said_by.every_option().items():
         taken = f" \\fI{value}\\fR" if value else ""

@@ -33,22 +33,22 @@ fn digit(byte: u8) -> u32 {
 // The digits at the front, single underscores between two of them: the number where it fits, how many, and the rest.
 fn digits(mut value: Option<u128>, base: u32, bytes: &[u8]) -> Option<(Option<u128>, usize, &[u8])> {
     let mut count = 0;
-    let mut behind = false;
+    let mut after = false;
     let mut at = 0;
     while at < bytes.len() {
         let d = digit(bytes[at]);
         if d < base {
             value = value.and_then(|v| v.checked_mul(base as u128)).and_then(|v| v.checked_add(d as u128));
             count += 1;
-            behind = true;
-        } else if bytes[at] == b'_' && behind {
-            behind = false;
+            after = true;
+        } else if bytes[at] == b'_' && after {
+            after = false;
         } else {
             break;
         }
         at += 1;
     }
-    behind.then(|| (value, count, &bytes[at..]))
+    after.then(|| (value, count, &bytes[at..]))
 }
 
 fn whole(bytes: &[u8]) -> Option<(Option<u128>, usize, &[u8])> {
@@ -84,14 +84,14 @@ fn int_from_text(run: &[u8]) -> Result<Int, Reason> {
 fn decimal_from_text(run: &[u8]) -> Result<Decimal, Reason> {
     let (negative, bytes) = sign(run);
     let (mut number, _, mut rest) = whole(bytes).ok_or(Reason::BadToken)?;
-    let mut behind = 0i128;
+    let mut after = 0i128;
     let mut point = false;
     if let [b'.', tail @ ..] = rest {
         point = true;
         rest = tail;
         if tail.first().is_some_and(u8::is_ascii_digit) {
             let (n, count, tail) = digits(number, 10, tail).ok_or(Reason::BadToken)?;
-            (number, behind, rest) = (n, count as i128, tail);
+            (number, after, rest) = (n, count as i128, tail);
         }
     }
     let mut exponent = 0i128;
@@ -118,7 +118,7 @@ fn decimal_from_text(run: &[u8]) -> Result<Decimal, Reason> {
         }
         _ => return Err(Reason::BadToken),
     }
-    let exponent = exponent - behind;
+    let exponent = exponent - after;
     if exponent.unsigned_abs() > 0x7FFF_FFFF {
         return Err(Reason::Range);
     }

@@ -1,4 +1,4 @@
-/* Each allocation of a call refused in turn, alone and with all behind it: the status is 2 or 4, room and answer stay, and all
+/* Each allocation of a call refused in turn, alone and with all after it: the status is 2 or 4, room and answer stay, and all
  * memory is given back. To be linked with --wrap=malloc,--wrap=realloc,--wrap=free. The last line is `N passed, M failed`. */
 #include "cozgelt.h"
 #include <stdio.h>
@@ -69,7 +69,7 @@ int main(void) {
                 refused_from = n, refused_to = alone ? n : all + 1000;
                 right = answers(calls[i], 0);
                 if (!right)
-                    printf("FAILED call %d, allocation %ld of %ld%s\n", i, n, all, alone ? " alone" : " and all behind it");
+                    printf("FAILED call %d, allocation %ld of %ld%s\n", i, n, all, alone ? " alone" : " and all after it");
                 right ? passed++ : failed++;
             }
     }

@@ -6,7 +6,7 @@ usage: diff/cases/cut_texts.py [--choose N] [--longest N] [--each N]
 The texts are those of tests/cases, catalogues among them. Of each that is no binary a row is printed, as those of
 `crates/ion_text_tests/src/reading/drawn.rt`: the limit on scalars (1048576, or that of the words), the text, and its items in
 words. --choose takes N rows, half of them with faults, each fault in turn, that show the most kinds of tokens and bytes
-behind one another, --longest texts of at most N bytes (400), --each puts N rows into one constant (40). Nothing of the
+after one another, --longest texts of at most N bytes (400), --each puts N rows into one constant (40). Nothing of the
 crates is read or run.
 """
 import base64, calendar, json, os, re, subprocess, sys
@@ -69,7 +69,7 @@ def hexes(text, at, count, bad):
 
 
 def escape(text, at, clob, bad):
-    """What is behind a backslash: the bytes that it means, and where it ends."""
+    """What is after a backslash: the bytes that it means, and where it ends."""
     if at >= len(text):
         raise Refused('Truncated')
     letter = text[at]
@@ -100,7 +100,7 @@ def escape(text, at, clob, bad):
 
 
 def quoted(text, at, closer, clob, limit):
-    """The bytes between quotes from behind the opening ones on, where they end, and whether a comment behind is open."""
+    """The bytes between quotes from after the opening ones on, where they end, and whether a comment after is open."""
     bad, long, out = 'BadLob' if clob else 'BadText', len(closer) == 3, b''
     while True:
         first = len(out)
@@ -288,7 +288,7 @@ def token(text, at, in_sexp, limit):
 
 
 def cut(text, limit):
-    """The tokens of a text, each behind its place, up to its end or the first fault."""
+    """The tokens of a text, each after its place, up to its end or the first fault."""
     words, at, opened = [], 0, []
     while True:
         at, is_cut = blanks(text, at)
@@ -322,8 +322,8 @@ def symbol(told, place):
     return f'{name}@{place}'
 
 
-def behind(opened):
-    """What is wanted behind a value where these containers are open."""
+def after(opened):
+    """What is wanted after a value where these containers are open."""
     return 'comma' if opened[-1:] in (['['], ['{']) else 'value'
 
 
@@ -332,7 +332,7 @@ def starts_name(text, at):
 
 
 def items(text, limit, depth=8):
-    """The items of a text in words, each behind its place and that of its value at top level, and how they end.
+    """The items of a text in words, each after its place and that of its value at top level, and how they end.
 
     A fault of a token is told where it may stand; else there is a bad token.
     """
@@ -359,7 +359,7 @@ def items(text, limit, depth=8):
         if closes:
             words.append(f'{place}/{top} end')
             opened.pop()
-            wanted = behind(opened)
+            wanted = after(opened)
         elif wanted == 'colon':
             if told != ':':
                 return bad
@@ -398,10 +398,10 @@ def items(text, limit, depth=8):
             if version and told[5:] != b'$ion_1_0'.hex():
                 return words + [f'BadVersion at {place}']
             give('marker' if version else 'symbol ' + symbol(told, place))
-            wanted = behind(opened)
+            wanted = after(opened)
         elif kind in ('int', 'decimal', 'timestamp', 'string', 'clob', 'blob', 'true', 'false') or told.startswith('null.'):
             give(told)
-            wanted = behind(opened)
+            wanted = after(opened)
         elif told in ('::', ':', ',', ']', ')', '}', 'no token'):
             return bad
         else:
@@ -428,7 +428,7 @@ def ending(row):
 def choose(rows, count):
     """So many of the rows, half of them with faults, each fault in turn: the one that shows most for its length.
 
-    A row shows kinds of tokens, kinds behind one another, and bytes behind one another, where all digits are one.
+    A row shows kinds of tokens, kinds after one another, and bytes after one another, where all digits are one.
     """
     def shown(row):
         kinds = ['begin'] + [told.split()[1] for told in row[2]]

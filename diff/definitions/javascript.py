@@ -36,7 +36,7 @@ def lookup(m, env, name):
 
 
 def qualified(m, env, e):
-    """What a name behind that of a module means, as `kind.List`."""
+    """What a name after that of a module means, as `kind.List`."""
     if e[0] == 'get' and e[1][0] == 'var' and e[1][1] not in env and e[1][1] in m.alias:
         return resolve_in(m.alias[e[1][1]], e[2])
     return None
@@ -266,7 +266,7 @@ def arity_of(r):
 
 
 def clause_of(toks, i):
-    """Patterns, body and the functions behind `where` of a clause; i is where the function's name stands."""
+    """Patterns, body and the functions after `where` of a clause; i is where the function's name stands."""
     p, pats = Parser(toks), []
     p.i = i + 1
     while not (p.raw().v == '=' and p.raw().k == 'op'):

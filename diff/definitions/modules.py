@@ -35,7 +35,7 @@ def chunks(lines, base):
 
 
 def closing(part, i):
-    """Where the bracket that opens at i is closed, behind it, and how many names stand before its colon (none without one)."""
+    """Where the bracket that opens at i is closed, after it, and how many names stand before its colon (none without one)."""
     opens, closes = {'{': '{}', '(': '()'}[part[i].v]
     depth, names, colon = 0, 0, False
     while True:

@@ -104,7 +104,7 @@ function APP(a, b) {
 function BIND(r, f) { return r.t === 'Err' ? r : A(f, [r.p0]); }
 function THEN(r, f) { return r.t === 'Err' ? r : f(); }
 const NONE = C0('None'), SOME = (x) => ({ t: 'Some', p0: x });
-function behind(n, list) {
+function after(n, list) {
   n = F(n);
   for (list = F(list); n > 0 && list.t === '∷'; list = F(list.p1)) n--;
   return list;
@@ -172,14 +172,14 @@ const isLeap = (y) => y % 4 === 0 && (y % 100 !== 0 || y % 400 === 0);
 const daysIn = (y, m) => [31, isLeap(y) ? 29 : 28, 31, 30, 31, 30, 31, 31, 30, 31, 30, 31][m - 1];
 
 const N = {
-  length: (l) => ARR(l).length, drop: behind, take: taken, reverse: (l) => LIST(ARR(l).reverse()),
+  length: (l) => ARR(l).length, drop: after, take: taken, reverse: (l) => LIST(ARR(l).reverse()),
   map: (f, l) => LIST(ARR(l).map((x) => new T(() => A(f, [x])))),
   filter: (f, l) => LIST(ARR(l).filter((x) => A(f, [x]))),
   flat_map: (f, l) => LIST(ARR(l).flatMap((x) => ARR(A(f, [x])))),
   fold: (f, a, l) => F(ARR(l).reduce((b, x) => A(f, [b, x]), a)),
   sum_by: (f, l) => ARR(l).reduce((s, x) => ADD(s, A(f, [x])), 0), sum: (l) => BYTES(l).reduce(ADD, 0),
-  slice_get: (l, n) => { l = behind(n, l); return l.t === '∷' ? SOME(l.p0) : NONE; },
-  slice_index_or: (l, n, other) => { l = behind(n, l); return F(l.t === '∷' ? l.p0 : other); },
+  slice_get: (l, n) => { l = after(n, l); return l.t === '∷' ? SOME(l.p0) : NONE; },
+  slice_index_or: (l, n, other) => { l = after(n, l); return F(l.t === '∷' ? l.p0 : other); },
   bytes_eq: (a, b) => { const x = BYTES(a), y = BYTES(b); return x.length === y.length && x.every((c, i) => c === y[i]); },
   nat_le: (a, b) => LE(F(a), F(b)), nat_lt: (a, b) => !LE(F(b), F(a)), nat_eq: (a, b) => EQ(F(a), F(b)),
   max: (a, b) => (LE(F(a), F(b)) ? F(b) : F(a)), min: (a, b) => (LE(F(a), F(b)) ? F(a) : F(b)), not: (b) => !F(b),

@@ -1,6 +1,6 @@
 """Sentences of the binary encoding: each with inputs that are accepted, and inputs that are refused.
 
-An input is octets in hexadecimal behind `M`, the version marker, or behind `hex`. See make.py.
+An input is octets in hexadecimal after `M`, the version marker, or after `hex`. See make.py.
 """
 MARKER = b"\xE0\x01\x00\xEA"
 
@@ -12,7 +12,7 @@ def moment(length, rest, offset="80"):
 
 ENCODING = [
     ("A binary stream begins with the version marker E0 01 00 EA.", "M", "hex E0 01", "hex E0 01 01 EA"),
-    ("Behind it stand values, NOP pads and further markers at top level, and markers nowhere else.",
+    ("After it stand values, NOP pads and further markers at top level, and markers nowhere else.",
      "M 21 05 01 FF E0 01 00 EA 11", "M B4 E0 01 00 EA"),
     ("Each marker sets the symbol table back to the system's.", "M E7 81 83 D4 87 B2 81 61 71 0A E0 01 00 EA 71 04",
      "M E7 81 83 D4 87 B2 81 61 E0 01 00 EA 71 0A"),
@@ -30,7 +30,7 @@ ENCODING = [
     ("A VarUInt may have leading zeros.", "M D3 00 84 11", "M D3 00 FF 11"),
     ("A descriptor has the type in its high four bits and the length in its low four.", "M 83 61 62 63", "M 84 61 62 63"),
     ("A length below 14 is the body's.", "M 8D 61 62 63 64 65 66 67 68 69 6A 6B 6C 6D", "M B1 82 61"),
-    ("Behind the length 14 a VarUInt has the body's.", "M 8E 8E 61 62 63 64 65 66 67 68 69 6A 6B 6C 6D 6E",
+    ("After the length 14 a VarUInt has the body's.", "M 8E 8E 61 62 63 64 65 66 67 68 69 6A 6B 6C 6D 6E",
      "M B3 8E 82 61"),
     ("The length 15 is the null of the type.", "M 0F 1F 2F 3F 4F 5F 6F 7F 8F 9F AF BF CF DF", "M EF", "M FF"),
 ]
@@ -67,12 +67,12 @@ CONTAINERS = [
     ("An S-expression's body is values.", "M C3 71 04 B0", "M C1 71 04", "M C3 71 04"),
     ("A struct's body is fields: a VarUInt, the id of the name, and a value.", "M D5 84 21 05 85 10", "M D2 84 21",
      "M D3 84 10 85", "M D2 8A 10"),
-    ("Behind D1 a VarUInt has the length of a struct that has fields.", "M D1 82 84 11", "M D1 80", "M D1"),
-    ("Whether the ids behind D1 rise is not checked.", "M D1 84 85 20 84 20", "M D1 84 85 20 8A 20"),
+    ("After D1 a VarUInt has the length of a struct that has fields.", "M D1 82 84 11", "M D1 80", "M D1"),
+    ("Whether the ids after D1 rise is not checked.", "M D1 84 85 20 84 20", "M D1 84 85 20 8A 20"),
     ("The id before a NOP pad in a struct means nothing.", "M D5 FE 01 FF 84 11", "M D4 FE 11 84 11"),
     ("A NOP pad in a struct has an id before it.", "M D2 80 00", "M D1 81 00"),
     ("An annotation wrapper has a length of 3 to 13.", "M E3 81 84 11", "M E1 81", "M E2 81 84"),
-    ("Or it has the length 14, and behind it a VarUInt of at least 3.", "M EE 83 81 84 11", "M EE 82 81 84", "M EE 80"),
+    ("Or it has the length 14, and after it a VarUInt of at least 3.", "M EE 83 81 84 11", "M EE 82 81 84", "M EE 80"),
     ("E0 in a container is no wrapper.", "M B4 E3 81 84 11", "M B1 E0", "M B3 E3 81 84 11"),
     ("Then comes how many octets the annotations have, and these, VarUInts with an id each.",
      "M E5 82 84 85 21 05 E5 82 00 84 21 05", "M E4 81 04 21 05", "M E5 82 84 8A 21 05"),
@@ -96,7 +96,7 @@ TIMESTAMPS = [
      "M 67 C0 0F D0 81 81 98 80", "M 67 C0 0F D0 81 81 97 BC"),
     ("Then the second, of 0 to 59.", moment("68", "BB"), moment("68", "BC"), moment("68", "3B")),
     ("Each field is a VarUInt, and ends in the body.", moment("69", "00 BB"), moment("69", "00 00")),
-    ("Behind the second comes a fraction: a VarInt, the exponent, and an Int, the coefficient.", moment("6A", "80 C1 05"),
+    ("After the second comes a fraction: a VarInt, the exponent, and an Int, the coefficient.", moment("6A", "80 C1 05"),
      moment("69", "80 41")),
     ("A fraction's coefficient without octets is 0.", moment("69", "80 C1"), moment("6A", "80 41 41")),
     ("A fraction has at most 38 digits.", moment("69", "80 E6"), moment("69", "80 E7")),

@@ -18,7 +18,7 @@ mangled inputs; and a mark for each place, which is the checksum of its inputs' 
 test can name the place where an answer first differs.
 
 A table is one text, which the tests take apart, since the prover takes a text of any length as one term, and each number,
-text and tuple as one more. A line that begins with `~` is a sentence, and each line behind it is an input, with `|` behind
+text and tuple as one more. A line that begins with `~` is a sentence, and each line after it is an input, with `|` after
 each field; `%` and two digits are an octet in hexadecimal.
 """
 import os
@@ -83,7 +83,7 @@ class Table:
 
 
 def octets_of(written):
-    """An input: bytes as they stand, a text, or octets in hexadecimal behind `M`, the version marker, or `hex`."""
+    """An input: bytes as they stand, a text, or octets in hexadecimal after `M`, the version marker, or `hex`."""
     if isinstance(written, bytes):
         return written
     words = written.split(" ")

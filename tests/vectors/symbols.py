@@ -33,7 +33,7 @@ def value(one):
 
 
 def headed(kind, body):
-    """A body behind its descriptor and length."""
+    """A body after its descriptor and length."""
     if len(body) < 14:
         return bytes([kind | len(body)]) + body
     return bytes([kind | 14, len(body) | 0x80]) + body

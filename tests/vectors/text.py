@@ -23,9 +23,9 @@ TOKENS = [
 ]
 
 NUMBERS = [
-    ("A decimal has a point, with or without digits behind it.", "1. 1.50 -0. 0.05", ".5", "00.5", "1.5.", "1.a"),
+    ("A decimal has a point, with or without digits after it.", "1. 1.50 -0. 0.05", ".5", "00.5", "1.5.", "1.a"),
     ("A decimal has d or D and an exponent.", "1d2 1.5D-1 1d+3 -0d0", "1d", "1d-", "1.5dd1", "d1 1.d+"),
-    ("A decimal's exponent is less by the digits behind the point.", "1.50d1 1.0d2147483648", "1.0d-2147483648",
+    ("A decimal's exponent is less by the digits after the point.", "1.50d1 1.0d2147483648", "1.0d-2147483648",
      "1d2147483648"),
     ("A number with e or E is a float, and refused.", "null.float", "1e0", "1.5E-3", "1e", "-0E+0"),
     ("Underscores may stand on either side of a decimal's point.", "1_0.5_0 1_0d1", "1_.5", "1._5", "1.5_"),
@@ -39,7 +39,7 @@ TIMESTAMPS = [
      "2001-02-29T"),
     ("A timestamp may be to the minute, and then has an offset.", "2000-01-02T03:04Z 2000-01-02T03:04+05:06",
      "2000-01-02T03:04", "2000-01-02T03Z", "2000-01-02T24:00Z"),
-    ("A timestamp may have seconds, and digits of a fraction behind a point.",
+    ("A timestamp may have seconds, and digits of a fraction after a point.",
      "2000-01-02T03:04:05-06:07 2000-01-02T03:04:05.678Z", "2000-01-02T03:04:60Z", "2000-01-02T03:04:05.Z",
      "2000-01-02T03:04.5Z"),
     ("A fraction in text has at most 38 digits.", "2000-01-02T03:04:05.00000000000000000000000000000000000001Z",
@@ -60,7 +60,7 @@ STRINGS = [
     ("White space and comments may stand between them.", "'''a''' /*x*/ //y\n '''b''' 'c'", "'''a''' /*x"),
     ("A quoted symbol stands between single quotes.", "'a\"b' 'null'", "'a", "'a\n'"),
     ("Two single quotes without a third are the empty symbol.", "'' ['',a]", "'''", "''''"),
-    ("Escapes are a b t n f r v 0 ? \" ' \\ / behind a backslash.", "\"\\a\\b\\t\\n\\f\\r\\v\\0\\?\\\"\\'\\\\\\/\"",
+    ("Escapes are a b t n f r v 0 ? \" ' \\ / after a backslash.", "\"\\a\\b\\t\\n\\f\\r\\v\\0\\?\\\"\\'\\\\\\/\"",
      "\"\\e\"", "\"\\1\"", "'\\N'"),
     ("\\x has two hexadecimal digits, of a character.", "\"\\x41\\xe9\"", "\"\\x4\"", "\"\\xg0\""),
     ("\\u has four, of a character.", "\"\\u00E9\" '\\u0041'", "\"\\u00E\"", "\"\\u00Eg\""),
@@ -69,7 +69,7 @@ STRINGS = [
     ("Bytes below 20 are illegal, but for tab, VT and FF.", "\"\t\v\f\" '\t'", "\"\1\"", "'\0'", "'''\x1F'''"),
     ("Line ends are illegal, but for long strings.", "'''a\nb'''", "\"a\nb\"", "\"a\rb\"", "'a\nb'"),
     ("CR and CR LF in long strings are LF.", "'''a\rb\r\nc\n\rd'''", "\"a\r\n\""),
-    ("A high surrogate joins with the low one behind it, both by \\u.", "\"\\uD83D\\uDE00\"", "\"\\uD83D\"",
+    ("A high surrogate joins with the low one after it, both by \\u.", "\"\\uD83D\\uDE00\"", "\"\\uD83D\"",
      "\"\\uDE00\"", "\"\\uD83D \\uDE00\"", "\"\\uD83D\\U0000DE00\""),
     ("The bytes of each segment are UTF-8.", b"'''\xC3\xA9'''", b"'''\xC3''' '''\xA9'''", b"\"\xED\xA0\x80\""),
     ("An escaped line end leaves the bytes around it together.", b"\"\xC3\\\n\xA9\"", b"\"\xC3\n\xA9\""),
@@ -83,7 +83,7 @@ SYMBOLS = [
     ("An id may have leading zeros.", "$04", "$010"),
     ("null, true and false are values and no symbols.", "null true false 'true'", "{true:1}", "null::1", "false::a"),
     ("nan is a float, and no symbol.", "nanx 'nan'", "nan", "{nan:1}"),
-    ("Behind null and a point stands the name of a type.", NULLS, "null.ints", "null.", "null. int", "null.Int"),
+    ("After null and a point stands the name of a type.", NULLS, "null.ints", "null.", "null. int", "null.Int"),
     ("The name goes on as far as an identifier.", "null.int[] null.int//", "null.int1", "null.int_", "null.int$"),
     ("+inf and -inf, where no identifier goes on, are floats.", "(+infx -infx)", "+inf", "(-inf)", "+infx"),
     ("Operators are symbols without quotes in an S-expression alone.", "(+ a)", "[+]", "+", "{+:1}"),
@@ -106,9 +106,9 @@ CONTAINERS = [
     ("An S-expression stands in ( and ), without commas.", "(1 2) () (a())", "(1,2)", "(1", "(]"),
     ("A field's name is a symbol, a string or a long string.", "{a:1,'b':2,$4:3,\"c\":4,'''d''' '''e''':5}", "{1:2}",
      "{null:1}", "{[]:1}", "{$10:1}"),
-    ("Behind it stands a colon.", "{a : 1,b/**/:2}", "{a 1}", "{a::1}", "{a"),
+    ("After it stands a colon.", "{a : 1,b/**/:2}", "{a 1}", "{a::1}", "{a"),
     ("An annotation is a symbol and two colons.", "a::'b'::$4::1 a::[]", "\"a\"::1", "1::2", "a::", "$10::1"),
-    ("White space and comments may stand before the colons and behind them.", "a /*x*/ :: //y\n b", "a : : b",
+    ("White space and comments may stand before the colons and after them.", "a /*x*/ :: //y\n b", "a : : b",
      "a :/**/: b"),
     ("Two colons together are one token.", "{a:b::c}", "{a::b}", "{a:b:c}", "{a: :b}"),
 ]
@@ -130,7 +130,7 @@ LOBS = [
 ]
 
 # Inputs of which the yardstick says otherwise than the definitions and the program. Ion says only that such a text is
-# malformed: one quote behind {{ begins no clob, and whether it is refused as a blob's first character or at the
+# malformed: one quote after {{ begins no clob, and whether it is refused as a blob's first character or at the
 # input's end is the reader's choice. Here a blob is judged four characters at a time, so where less is left the
 # input is cut short, as docs/TEXT_INPUT.md says.
 OTHERWISE = {"{{'a": "Truncated", "{{'a'": "Truncated", "{{'a'}": "Truncated"}

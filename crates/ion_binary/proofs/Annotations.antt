@@ -23,31 +23,31 @@ use Rattle.ion_binary.specs.Reading.{ids_at}
 use Rattle.ion_binary.specs.Wrappers.{as_annotations}
 use Rattle.ion_binary.proofs.VarLoop.{positive}
 
--- ids behind others that were read already
-abbrev pub behind : List SymbolAt → Placed (List SymbolAt × Cursor) → Placed (List SymbolAt × Cursor)
-behind prefix r = r >>= λ more. Ok (prefix ++ more.0, more.1)
+-- ids after others that were read already
+abbrev pub after : List SymbolAt → Placed (List SymbolAt × Cursor) → Placed (List SymbolAt × Cursor)
+after prefix r = r >>= λ more. Ok (prefix ++ more.0, more.1)
 
-behind-pushed : (prefix : List SymbolAt) (s : SymbolAt) (r : Placed (List SymbolAt × Cursor))
-    → behind prefix (r >>= λ more. Ok (s ∷ more.0, more.1)) ≡ behind (prefix ++ s ∷ []) r
-behind-pushed prefix s (Ok x) = ap (λ l. Ok (l, x.1)) (sym (append_assoc prefix (s ∷ []) x.0))
-behind-pushed prefix s (Err e) = refl
+after-pushed : (prefix : List SymbolAt) (s : SymbolAt) (r : Placed (List SymbolAt × Cursor))
+    → after prefix (r >>= λ more. Ok (s ∷ more.0, more.1)) ≡ after (prefix ++ s ∷ []) r
+after-pushed prefix s (Ok x) = ap (λ l. Ok (l, x.1)) (sym (append_assoc prefix (s ∷ []) x.0))
+after-pushed prefix s (Err e) = refl
 
--- behind the last id, however many more there may be
-pub ids_at-ended : (limits : Limits) (end most count : ℕ) (prefix : List SymbolAt) (c : Cursor) → end ≤ c.place → behind prefix (ids_at most limits end count c) ≡ Ok (prefix, c)
+-- after the last id, however many more there may be
+pub ids_at-ended : (limits : Limits) (end most count : ℕ) (prefix : List SymbolAt) (c : Cursor) → end ≤ c.place → after prefix (ids_at most limits end count c) ≡ Ok (prefix, c)
 unfolding ids_at
 ids_at-ended limits end zero count prefix c h = ap (λ l. Ok (l, c)) (append-nil prefix)
 ids_at-ended limits end (suc most) count prefix c h = let t : nat_le end c.place ≡ true = le-leb end c.place h in rw t (ap (λ l. Ok (l, c)) (append-nil prefix))
 
 -- where the next id is refused
 pub ids_at-refused : (limits : Limits) (end most count : ℕ) (prefix : List SymbolAt) (c : Cursor) (e : Reason) → 0 < most → c.place < end → var_uint_at (Some end) c ≡ Err e
-    → behind prefix (ids_at most limits end count c) ≡ Err (e, c.place)
+    → after prefix (ids_at most limits end count c) ≡ Err (e, c.place)
 unfolding ids_at
 ids_at-refused limits end most count prefix c e h before k =
     let p = positive most h in let f : nat_le end c.place ≡ false = lt-leb end c.place before in rw (p.1, f, k) refl
 
 -- where the next id passes the limit
 pub ids_at-limited : (limits : Limits) (end most count n : ℕ) (prefix : List SymbolAt) (c d : Cursor) → 0 < most → c.place < end → var_uint_at (Some end) c ≡ Ok (n, d)
-    → limits.scalar < 16 * (count + 1) → behind prefix (ids_at most limits end count c) ≡ Err (AnnotationLimit, c.place)
+    → limits.scalar < 16 * (count + 1) → after prefix (ids_at most limits end count c) ≡ Err (AnnotationLimit, c.place)
 unfolding ids_at
 ids_at-limited limits end most count n prefix c d h before k past =
     let p = positive most h in
@@ -58,12 +58,12 @@ ids_at-limited limits end most count n prefix c d h before k past =
 -- where it does not
 ids_at-goes_on : (limits : Limits) (end most fewer count n : ℕ) (prefix : List SymbolAt) (c d : Cursor) → most ≡ suc fewer → c.place < end → var_uint_at (Some end) c ≡ Ok (n, d)
     → 16 * (count + 1) ≤ limits.scalar
-    → behind prefix (ids_at most limits end count c) ≡ behind (prefix ++ symbol_id n c.place ∷ []) (ids_at fewer limits end (count + 1) d)
+    → after prefix (ids_at most limits end count c) ≡ after (prefix ++ symbol_id n c.place ∷ []) (ids_at fewer limits end (count + 1) d)
 unfolding ids_at
 ids_at-goes_on limits end most fewer count n prefix c d p before k within =
     let f : nat_le end c.place ≡ false = lt-leb end c.place before in
     let l : nat_lt limits.scalar (16 * (count + 1)) ≡ false = le-ltb limits.scalar (16 * (count + 1)) within in
-    rw (p, f, k, l) (behind-pushed prefix (symbol_id n c.place) (ids_at fewer limits end (count + 1) d))
+    rw (p, f, k, l) (after-pushed prefix (symbol_id n c.place) (ids_at fewer limits end (count + 1) d))
 
 -- one annotation more, which is an id
 as_annotations-pushed : (annotations : List Annotation) (id place : ℕ) → as_annotations (annotations ++ annotation.Id id place ∷ []) ≡ as_annotations annotations ++ raw_annotation [] (annotation.Id id place) ∷ []
@@ -72,20 +72,20 @@ as_annotations-pushed annotations id place = map-append (raw_annotation []) anno
 -- one id more, which fits the limit
 pub ids_at-one_more : (limits : Limits) (end n id place : ℕ) (annotations more : List Annotation) (c d : Cursor) → length annotations ≤ c.place → c.place < end → var_uint_at (Some end) c ≡ Ok (n, d)
     → 16 * (length annotations + 1) ≤ limits.scalar → id ≡ raw_id n → place ≡ c.place → more ≡ annotations ++ annotation.Id id place ∷ []
-    → behind (as_annotations annotations) (ids_at (end - length annotations) limits end (length annotations) c) ≡ behind (as_annotations more) (ids_at (end - length more) limits end (length more) d)
+    → after (as_annotations annotations) (ids_at (end - length annotations) limits end (length annotations) c) ≡ after (as_annotations more) (ids_at (end - length more) limits end (length more) d)
 ids_at-one_more limits end n id place annotations more c d taken before k within named placed pushed =
     let l : length more ≡ length annotations + 1 = ap length pushed ∙ length-append annotations (annotation.Id id place ∷ []) in
     let same : as_annotations more ≡ as_annotations annotations ++ symbol_id n c.place ∷ [] = ap as_annotations pushed ∙ (as_annotations-pushed annotations id place ∙ rw (named, placed) refl) in
     rw (l, same) (ids_at-goes_on limits end (end - length annotations) (end - (length annotations + 1)) (length annotations) n (as_annotations annotations) c d (omega arith) before k within)
 
 -- the reason of a call that reads in one part, as that of one that reads several
-pub answers_at-refused : {T U A B : Type 0} (view : T → A) (shown : U → B) (fault : Fault) (behind after : Cursor) (place : ℕ) (one : Result (A × Cursor) Reason) (all : Placed (B × Cursor))
-    → Answers view (Err fault) behind place one → ((e : Reason) → one ≡ Err e → all ≡ Err (e, place)) → AnswersAt shown (Err fault) after all
-answers_at-refused view shown (Refused reason at) behind after place one all h k = k reason h.0 ∙ ap (λ p. Err (reason, p)) (sym h.1)
-answers_at-refused view shown Memory behind after place one all h k = tt
-answers_at-refused view shown ReadFault behind after place one all h k = tt
-answers_at-refused view shown WriteFault behind after place one all h k = tt
-answers_at-refused view shown InputLimit behind after place one all h k = tt
+pub answers_at-refused : {T U A B : Type 0} (view : T → A) (shown : U → B) (fault : Fault) (after next : Cursor) (place : ℕ) (one : Result (A × Cursor) Reason) (all : Placed (B × Cursor))
+    → Answers view (Err fault) after place one → ((e : Reason) → one ≡ Err e → all ≡ Err (e, place)) → AnswersAt shown (Err fault) next all
+answers_at-refused view shown (Refused reason at) after next place one all h k = k reason h.0 ∙ ap (λ p. Err (reason, p)) (sym h.1)
+answers_at-refused view shown Memory after next place one all h k = tt
+answers_at-refused view shown ReadFault after next place one all h k = tt
+answers_at-refused view shown WriteFault after next place one all h k = tt
+answers_at-refused view shown InputLimit after next place one all h k = tt
 
 -- an entry more that the meter counts
 pub charges-grown : (old mid new : Counts) (held more most : ℕ) → Charges old mid 0 held most → Grows mid new 16 → more ≡ held + 16 → more ≤ most → Charges old new 0 more most

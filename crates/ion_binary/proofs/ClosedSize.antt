@@ -11,8 +11,8 @@ use Rattle.ion_value.specs.Writable.{field_symbols, members_symbols}
 use Rattle.ion_binary.specs.Grammar.{type_code}
 use Rattle.ion_binary.specs.Canonical.{binary, headed, id_in, is_over, marker_octets, member_octets, members_octets, texts_kept, value_octets, with_symbols}
 use Rattle.ion_binary.specs.Writing.{Unclosed, Written, after_all, all_closed, at_begin, closed_size, item_symbols, with_ids_given, opened_with, own_octets}
-use Rattle.ion_binary.specs.WritingLaws.{ClosedSizeIsThatOfTheClosing, OpenItemsPutWhatIsWhole, last_size, size_behind, top_size}
-use Rattle.ion_binary.specs.Refusals.{texts_behind}
+use Rattle.ion_binary.specs.WritingLaws.{ClosedSizeIsThatOfTheClosing, OpenItemsPutWhatIsWhole, last_size, size_after, top_size}
+use Rattle.ion_binary.specs.Refusals.{texts_after}
 use Rattle.ion_binary.proofs.KnownIds.{Extends, extends_same, extends_trans, extends_all}
 use Rattle.ion_binary.proofs.WholeValues.{written, after_members, after_all_tops, after_tops, forgotten, nothing_open, opens_top, same_opened}
 
@@ -79,9 +79,9 @@ after_nest m t u out top (inner around f annotations p k ms) rest e =
     ∙ (after_nest m t u out top around (begin_item top f annotations p k ∷ (member_items top ms ++ rest)) (extends_trans a (own_texts a f annotations ms) u (own-extends a f annotations ms) e)
     ∙ after_opened m a u (length kept) over (innermost (id_in u) around) (around_it (id_in u) around) out top p f annotations k ms rest e)
 
--- values at top level, and open containers behind them
+-- values at top level, and open containers after them
 pub after_open_path : (m : ℕ) (u : List (List ℕ)) (tops : List (Top UserSymbol ℕ)) (first : ℕ) (nest : Nest UserSymbol ℕ)
-    → (let t = texts_behind m [] tops in
+    → (let t = texts_after m [] tops in
     let kept = texts_kept (is_over m t) t in
     Extends (nest_texts kept nest) u
     → after_all m at_begin (path_items (opened tops first nest))
@@ -89,18 +89,18 @@ pub after_open_path : (m : ℕ) (u : List (List ℕ)) (tops : List (Top UserSymb
 after_open_path m u tops first nest e =
     ap (λ (is : List UserItem). after_all m at_begin (top_items tops ++ is)) (sym (append-nil (nest_items first nest)))
     ∙ (after_tops m [] marker_octets tops (nest_items first nest ++ [])
-    ∙ after_nest m (texts_behind m [] tops) u (binary m tops) first nest [] e)
+    ∙ after_nest m (texts_after m [] tops) u (binary m tops) first nest [] e)
 
 -- what has been put there
 pub open_items_put : OpenItemsPutWhatIsWhole
 open_items_put limit tops first nest =
-    let t : List (List ℕ) = texts_behind limit [] tops in
+    let t : List (List ℕ) = texts_after limit [] tops in
     let inside : List (List ℕ) = nest_texts (texts_kept (is_over limit t) t) nest in
     ap (λ (w : Written). w.octets) (after_open_path limit inside tops first nest (extends_same inside))
 
 -- ---- the closing
 
-pub last-size : (ids : UserSymbol → ℕ) (n : ℕ) (ts : List (Top UserSymbol ℕ)) (t : Top UserSymbol ℕ) → size_behind ids n (ts ++ t ∷ []) ≡ top_size ids t
+pub last-size : (ids : UserSymbol → ℕ) (n : ℕ) (ts : List (Top UserSymbol ℕ)) (t : Top UserSymbol ℕ) → size_after ids n (ts ++ t ∷ []) ≡ top_size ids t
 last-size ids n [] t = refl
 last-size ids n (first ∷ ts) t = last-size ids (top_size ids first) ts t
 
@@ -140,11 +140,11 @@ closed-end ids tops first last (inner around g own q k ms) p =
 abbrev an_item : Option UserSymbol → List UserSymbol → ℕ → ℕ → Head UserSymbol → UserItem
 an_item f annotations p top h = record { field = f; annotations = annotations; head = h; place = p; top = top }
 
--- what is to be shown of what is written behind a path, the item's texts not yet among it
+-- what is to be shown of what is written after a path, the item's texts not yet among it
 abbrev SizeIs : ℕ → List (Top UserSymbol ℕ) → Path UserSymbol ℕ → UserItem → Written → Type 0
-SizeIs last tops behind i b =
+SizeIs last tops after i b =
     let texts = with_symbols b.texts (item_symbols i) in
-    length (all_closed b.open_containers (own_octets (id_in texts) i.field i.annotations i.head)) ≡ last_size (id_in texts) (closing last (with_item behind i))
+    length (all_closed b.open_containers (own_octets (id_in texts) i.field i.annotations i.head)) ≡ last_size (id_in texts) (closing last (with_item after i))
 
 -- where nothing is open
 closed-top : (over : Bool) (depth last : ℕ) (t : List (List ℕ)) (out : List ℕ) (tops : List (Top UserSymbol ℕ)) (f : Option UserSymbol) (annotations : List UserSymbol)
@@ -177,11 +177,11 @@ closed-inside m last t n due out tops first nest f annotations p top value.end n
 closed-inside m last t n due out tops first nest f annotations p top value.marker none = absurd (cc none)
 
 -- the same of a state that items lead to
-abbrev SizeBehind : ℕ → ℕ → Path UserSymbol ℕ → UserItem → Written → Type 0
-SizeBehind limit last behind i w = closed_size limit w i ≡ last_size (id_in (with_ids_given limit w i).texts) (closing last (with_item behind i))
+abbrev SizeAfter : ℕ → ℕ → Path UserSymbol ℕ → UserItem → Written → Type 0
+SizeAfter limit last after i w = closed_size limit w i ≡ last_size (id_in (with_ids_given limit w i).texts) (closing last (with_item after i))
 
 size-at-top : (limit depth last : ℕ) (t : List (List ℕ)) (out : List ℕ) (tops : List (Top UserSymbol ℕ)) (i : UserItem) → Fits depth [] i → is_marker i.head ≡ false
-    → SizeBehind limit last (closed tops) i (nothing_open t out)
+    → SizeAfter limit last (closed tops) i (nothing_open t out)
 size-at-top limit depth last t out tops i fits none =
     let over : Bool = not (is_marker i.head) && is_over limit t in
     let P : Written → Type 0 = λ b. SizeIs last tops (closed tops) i b in
@@ -189,14 +189,14 @@ size-at-top limit depth last t out tops i fits none =
 
 pub closed_size_is : ClosedSizeIsThatOfTheClosing
 closed_size_is limit depth last (closed tops) i fits none =
-    let P : Written → Type 0 = λ w. SizeBehind limit last (closed tops) i w in
-    subst P (sym (after_all_tops limit tops)) (size-at-top limit depth last (texts_behind limit [] tops) (binary limit tops) tops i fits none)
+    let P : Written → Type 0 = λ w. SizeAfter limit last (closed tops) i w in
+    subst P (sym (after_all_tops limit tops)) (size-at-top limit depth last (texts_after limit [] tops) (binary limit tops) tops i fits none)
 closed_size_is limit depth last (opened tops first nest) i fits none =
-    let t : List (List ℕ) = texts_behind limit [] tops in
+    let t : List (List ℕ) = texts_after limit [] tops in
     let over : Bool = is_over limit t in
     let kept : List (List ℕ) = texts_kept over t in
     let inside : List (List ℕ) = nest_texts kept nest in
     let u : List (List ℕ) = with_symbols inside (item_symbols i) in
-    let P : Written → Type 0 = λ x. SizeBehind limit last (opened tops first nest) i x in
+    let P : Written → Type 0 = λ x. SizeAfter limit last (opened tops first nest) i x in
     subst P (sym (after_open_path limit u tops first nest (extends_all inside (item_symbols i))))
     (closed-inside limit last inside (length kept) over (binary limit tops) tops first nest i.field i.annotations i.place i.top i.head none)

@@ -6,10 +6,10 @@ use Rattle.ion_value.specs.declared.ion_type.Kind.{Kind}
 use Rattle.ion_value.specs.Value as value
 use Rattle.ion_value.specs.Value.{Symbol, SymbolAt, Scalar, Value, Members, Top, PlacedItem, bare_item, value_items, member_items, one_top, top_items}
 use Rattle.ion_value.specs.Path.{Path, closed, opened, nest_items, path_items}
-use Rattle.ion_value.specs.Reading.{Reading, Finished, items_of, behind, Ends, Gives, GoesOn, reading_by, Shrinks}
+use Rattle.ion_value.specs.Reading.{Reading, Finished, items_of, items_then, Ends, Gives, GoesOn, reading_by, Shrinks}
 use Rattle.ion_value.specs.ReadingLaws.{Allows}
 use Rattle.ion_value.proofs.ReadingLaws.{prefixes}
-use Rattle.ion_value.proofs.Readings.{reading_by-ends, reading_by-gives, reading_by-goes_on, items_of-behind}
+use Rattle.ion_value.proofs.Readings.{reading_by-ends, reading_by-gives, reading_by-goes_on, items_of-items_then}
 use Rattle.ion_value.proofs.Paths.{same_path}
 use Rattle.ion_binary.specs.Grammar.{IsNopPad, Annotated, Bin, Inside, Tops}
 use Rattle.ion_binary.specs.Laws.{Bodies, Complete, StreamsAreRead, OnePath, OneStream}
@@ -50,8 +50,8 @@ Reads-gives limits s t item e = Reads.gives s t t item [] e (Reads.nothing t)
 Reads-goes_on : (limits : Limits) (s t : State) → step limits s ≡ GoesOn t → Reads limits s [] t
 Reads-goes_on limits s t e = Reads.goes_on s t t [] e (Reads.nothing t)
 
--- these items are read first, and what is read behind them is read from the other
-Reads-first : (limits : Limits) → Shrinks (step limits) size → (s t : State) (items : List PlacedItem) → Reads limits s items t → read_from limits s ≡ behind items (read_from limits t)
+-- these items are read first, and what is read after them is read from the other
+Reads-first : (limits : Limits) → Shrinks (step limits) size → (s t : State) (items : List PlacedItem) → Reads limits s items t → read_from limits s ≡ items_then items (read_from limits t)
 unfolding read_from
 Reads-first limits shrinks _ t _ (Reads.nothing s) = refl
 Reads-first limits shrinks _ t _ (Reads.gives s u v item items e more) =
@@ -151,7 +151,7 @@ module _ (bodies : Bodies) (limits : Limits) where
       (bare_step limits frames top p f b a_nop_pad x rest field within found)
 
   mutual
-    -- a value's items are read, and reading stands behind it
+    -- a value's items are read, and reading stands after it
     Bin-reads : (q : ℕ) (annotations : List SymbolAt) (h : ℕ) (v : Value SymbolAt ℕ) (x : List ℕ) (bin : Bin q annotations h v x)
         → (frames : List Frame) (top p : ℕ) (f : Option SymbolAt) (b rest : List ℕ) → FieldIn frames p f b → q ≡ p + length b → Within frames (q + length x)
         → BinFits limits (length frames) bin
@@ -175,7 +175,7 @@ module _ (bodies : Bodies) (limits : Limits) where
         (λ a same suits. Header-found limits a (q + length w) k (length x) header is_header (rw sum at suits) (omega (arith, fits.1))) in
         let start_in : State = state (frame_of k (q + length ((w ++ header) ++ x)) ∷ frames) (top_of frames top p) (cursor_at (q + length (w ++ header)) (x ++ rest)) in
         let end_in : State = state (frame_of k (q + length ((w ++ header) ++ x)) ∷ frames) (top_of frames top p) (cursor_at (q + length ((w ++ header) ++ x)) rest) in
-        let after : State = state frames (top_of frames top p) (cursor_at (q + length ((w ++ header) ++ x)) rest) in
+        let next : State = state frames (top_of frames top p) (cursor_at (q + length ((w ++ header) ++ x)) rest) in
         let before : State = state frames top (cursor_at p (b ++ (w ++ (header ++ (x ++ rest))))) in
         let begin : PlacedItem = placed_item (top_of frames top p) f annotations (q + length w) (value.begin k) in
         let end : PlacedItem = placed_item (top_of frames top p) None [] (q + length ((w ++ header) ++ x)) value.end in
@@ -183,10 +183,10 @@ module _ (bodies : Bodies) (limits : Limits) where
         let place_in : q + length (w ++ header) + length x ≡ q + length ((w ++ header) ++ x) = omega arith in
         let members : Reads limits start_in (member_items (top_of frames top p) ms) end_in =
         rw place_in at (Inside-reads k (q + length (w ++ header)) ms x inside frames (top_of frames top p) (q + length ((w ++ header) ++ x)) rest (omega arith) fits.2) in
-        let ends : Reads limits end_in (end ∷ []) after = Reads-gives limits end_in after end (step-end limits k frames (top_of frames top p) (q + length ((w ++ header) ++ x)) rest) in
+        let ends : Reads limits end_in (end ∷ []) after = Reads-gives limits end_in next end (step-end limits k frames (top_of frames top p) (q + length ((w ++ header) ++ x)) rest) in
         rw (append_assoc (w ++ header) x rest, append_assoc w header (x ++ rest))
-        (Reads-then limits before start_in after (begin ∷ []) (member_items (top_of frames top p) ms ++ end ∷ []) begins
-        (Reads-then limits start_in end_in after (member_items (top_of frames top p) ms) (end ∷ []) members ends))
+        (Reads-then limits before start_in next (begin ∷ []) (member_items (top_of frames top p) ms ++ end ∷ []) begins
+        (Reads-then limits start_in end_in next (member_items (top_of frames top p) ms) (end ∷ []) members ends))
 
     -- and so are those of a container's members
     Inside-reads : (k : Kind) (q : ℕ) (ms : Members SymbolAt ℕ) (x : List ℕ) (inside : Inside k q ms x)
@@ -304,12 +304,12 @@ complete bodies shrinks limits bytes q path allows is =
 
 -- and a stream is read to its end, where each of its parts is within the limits
 pub fitting_streams : Bodies → Shrinking → (limits : Limits) (bytes : List ℕ) (ts : List (Top SymbolAt ℕ)) (tops : Tops ts bytes) → TopsFit limits tops
-    → reading limits bytes ≡ behind (path_items (closed ts)) Finished
+    → reading limits bytes ≡ items_then (path_items (closed ts)) Finished
 fitting_streams bodies shrinks limits bytes ts tops fits =
     let there = Tops-reads bodies limits ts bytes tops fits [] in
     reading-read_from limits bytes ∙ ap (λ l. read_from limits (start l)) (sym (append-nil bytes))
     ∙ Reads-first limits (shrinks limits) (start (bytes ++ [])) (state [] there.0 (cursor_at (length bytes) [])) (top_items ts) there.1
-    ∙ ap (behind (top_items ts)) (read_from-ends limits (shrinks limits) (state [] there.0 (cursor_at (length bytes) [])) (step-ends limits there.0 (length bytes)))
+    ∙ ap (items_then (top_items ts)) (read_from-ends limits (shrinks limits) (state [] there.0 (cursor_at (length bytes) [])) (step-ends limits there.0 (length bytes)))
 
 -- so it is of all where the limits allow the bytes
 pub streams : Bodies → Shrinking → StreamsAreRead
@@ -329,7 +329,7 @@ one_path bodies shrinks bytes q r a b is_a is_b =
     let first = complete bodies shrinks (wide bytes) bytes q a (wide-Allows bytes) is_a in
     let second = complete bodies shrinks (wide bytes) bytes r b (wide-Allows bytes) is_b in
     prefixes (path_items a) (path_items b) (items_of first.0) (items_of second.0)
-    (sym (items_of-behind (path_items a) first.0) ∙ ap items_of (sym first.1 ∙ second.1) ∙ items_of-behind (path_items b) second.0)
+    (sym (items_of-items_then (path_items a) first.0) ∙ ap items_of (sym first.1 ∙ second.1) ∙ items_of-items_then (path_items b) second.0)
 
 -- the same bytes are one list of markers and values
 pub one_stream : Bodies → Shrinking → OneStream
@@ -337,6 +337,6 @@ one_stream bodies shrinks bytes a b is_a is_b =
     let first = streams bodies shrinks (wide bytes) bytes a (wide-Allows bytes) is_a.spells in
     let second = streams bodies shrinks (wide bytes) bytes b (wide-Allows bytes) is_b.spells in
     let items : top_items a ++ [] ≡ top_items b ++ [] =
-    sym (items_of-behind (top_items a) Finished) ∙ ap items_of (sym first ∙ second) ∙ items_of-behind (top_items b) Finished in
+    sym (items_of-items_then (top_items a) Finished) ∙ ap items_of (sym first ∙ second) ∙ items_of-items_then (top_items b) Finished in
     let path : closed a ≡ closed b = same_path (closed a) (closed b) (sym (append-nil (top_items a)) ∙ items ∙ append-nil (top_items b)) in
     cc path

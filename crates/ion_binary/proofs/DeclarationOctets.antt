@@ -10,7 +10,7 @@ use Rattle.ion_symbols.specs.Output.{texts_cost}
 use Rattle.ion_binary.specs.Canonical.{declaration, header, headed, id_in, members_octets, string_members, wrapped}
 use Rattle.ion_binary.specs.ItemOctets.{declaration_front, opening, strings_octets}
 
--- ---- a header and what stands behind it
+-- ---- a header and what stands after it
 
 pub headed-opening : (code : ℕ) (inside rest : List ℕ) → headed code (inside ++ rest) ≡ opening code inside (length rest) ++ rest
 headed-opening code inside rest =

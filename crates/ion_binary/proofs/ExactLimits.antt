@@ -12,8 +12,8 @@ use Rattle.ion_value.specs.Scalar.{scalar_of_body}
 use Rattle.ion_value.specs.Value as value
 use Rattle.ion_value.specs.Value.{Symbol, SymbolAt, Scalar, PlacedItem}
 use Rattle.ion_value.specs.Path.{Path, closed, path_items}
-use Rattle.ion_value.specs.Standing.{open_after, open_behind}
-use Rattle.ion_value.specs.Reading.{Reading, Stopped, behind, Step, Ends, Stops, Gives, GoesOn, next_reading, reading_for}
+use Rattle.ion_value.specs.Standing.{open_after, open_after_all}
+use Rattle.ion_value.specs.Reading.{Reading, Stopped, items_then, Step, Ends, Stops, Gives, GoesOn, next_reading, reading_for}
 use Rattle.ion_meter.specs.Sources.{Cursor}
 use Rattle.ion_value.specs.Parts.{◌>>=◌, ◌>>◌, refuse, Placed, part}
 use Rattle.ion_binary.specs.Positions.{symbol_id, Frame, State}
@@ -24,7 +24,7 @@ use Rattle.ion_binary.specs.Grammar.{Descriptor, Ids, Header, Annotated, type_co
 use Rattle.ion_binary.specs.Paths.{FieldIn, Spells, At, Follows}
 use Rattle.ion_value.specs.ReadingLaws.{ending_of, IsLimit}
 use Rattle.ion_binary.specs.Laws.{Bodies, IsBefore, StandNext, BeginNext, Passes, StopsAtLimit, ExactLimits}
-use Rattle.ion_value.proofs.Readings.{behind-append}
+use Rattle.ion_value.proofs.Readings.{items_then-append}
 use Rattle.ion_value.proofs.Faults.{Blames, bind_blames, then_blames, refuse_blames, blames_more, part_blames, if_blames, Free, free, refuse_free}
 use Rattle.ion_binary.proofs.Free.{octet_at-free, var_uint_at-free, length_at-free, scalar_of_body-free}
 use Rattle.ion_binary.proofs.Taken.{part_ok, Took, Took-then, octet_at-taken, var_uint_at-taken, length_at-taken}
@@ -50,7 +50,7 @@ part_free P place r c = part_limited P place r (from_free (P place) r c)
 
 -- ---- the part that is a descriptor, a length and, for a scalar, a body
 
--- behind a descriptor octet a longer body is announced, or a container begins where no more may be open
+-- after a descriptor octet a longer body is announced, or a container begins where no more may be open
 data TypedPass (limits : Limits) (a : Around) (b : ℕ) (c : Cursor) : Reason → Type 0 where
   body : (t n : ℕ) (octets : List ℕ) (d : Cursor) → Took a.region c octets d → Descriptor t n (b ∷ octets) → IsBodyTypeCode t → limits.scalar < n → TypedPass limits a b c ScalarLimit
   container : (k : Kind) (n : ℕ) (octets : List ℕ) (d : Cursor) → Took a.region c octets d → Header k n (b ∷ octets) → limits.depth ≤ a.depth
@@ -149,7 +149,7 @@ module _ (limits : Limits) where
 
 -- ---- what stands next
 
--- a cursor behind the field of the next member, and one behind what stands before its value
+-- a cursor after the field of the next member, and one after what stands before its value
 record Next (s : State) (c : Cursor) : Type 0 where
   inside : IsBefore s.frames s.cursor.place
   field : Option SymbolAt
@@ -288,7 +288,7 @@ module _ (limits : Limits) (now : State) where
   abbrev L : Reason × ℕ → Type 0
   L fault = PlacedLimited PassesAt fault
 
-  -- what stands behind a descriptor octet stands with it
+  -- what stands after a descriptor octet stands with it
   typed-passes : (a : Around) (s : Cursor) (b : ℕ) (c : Cursor) (why : Reason) → a.depth ≡ length frames → Begins now s → Took a.region s (b ∷ []) c
       → TypedPass limits a b c why → Passes limits now s.place why
   typed-passes a s b c _ deep begins first (TypedPass.body t n octets d took descriptor scalar more) =
@@ -493,17 +493,17 @@ step-right limits s = step_in-right limits s s.frames refl
 
 -- ---- a reading
 
-open_behind-append : (kinds : List Kind) (items more : List PlacedItem) → open_behind kinds (items ++ more) ≡ open_behind (open_behind kinds items) more
-open_behind-append kinds [] more = refl
-open_behind-append kinds (i ∷ items) more = open_behind-append (open_after kinds i.head) items more
+open_after_all-append : (kinds : List Kind) (items more : List PlacedItem) → open_after_all kinds (items ++ more) ≡ open_after_all (open_after_all kinds items) more
+open_after_all-append kinds [] more = refl
+open_after_all-append kinds (i ∷ items) more = open_after_all-append (open_after kinds i.head) items more
 
 module _ (bodies : Bodies) (limits : Limits) (bytes : List ℕ) (reason : Reason) (place : ℕ) (is : IsLimit reason) where
-  -- what is read before a path, and what is read behind it
+  -- what is read before a path, and what is read after it
   abbrev ReadTo : Path SymbolAt ℕ → Reading → Type 0
-  ReadTo path r = reading limits bytes ≡ behind (path_items path) r
+  ReadTo path r = reading limits bytes ≡ items_then (path_items path) r
 
   abbrev Level : Path SymbolAt ℕ → State → Type 0
-  Level path s = length (open_behind [] (path_items path)) ≡ length s.frames
+  Level path s = length (open_after_all [] (path_items path)) ≡ length s.frames
 
   next-exact : (path : Path SymbolAt ℕ) (s : State) (x : Step State) (later : State → Reading) → At bytes path s → Level path s → Right limits s x
       → Follows bytes path s.frames s.cursor x
@@ -520,16 +520,16 @@ module _ (bodies : Bodies) (limits : Limits) (bytes : List ℕ) (reason : Reason
         stands = at;
         level = level;
         passes = rw (← why_is, ← place_is) (right (rw why_is is));
-        read = read ∙ ap (behind (path_items path)) e;
+        read = read ∙ ap (items_then (path_items path)) e;
       }
   next-exact path s (Gives item after) later at level right follows h e read =
       let items : path_items follows.0 ≡ path_items path ++ item ∷ [] = follows.2 in
       let opened : Level follows.0 after =
-      ap (λ (l : List PlacedItem). length (open_behind [] l)) items ∙ ap length (open_behind-append [] (path_items path) (item ∷ []))
-      ∙ right (open_behind [] (path_items path)) level
+      ap (λ (l : List PlacedItem). length (open_after_all [] l)) items ∙ ap length (open_after_all-append [] (path_items path) (item ∷ []))
+      ∙ right (open_after_all [] (path_items path)) level
       in
       h follows.0 after follows.1 opened e
-      (read ∙ sym (behind-append (path_items path) (item ∷ []) (later after)) ∙ ap (λ (l : List PlacedItem). behind l (later after)) (sym items))
+      (read ∙ sym (items_then-append (path_items path) (item ∷ []) (later after)) ∙ ap (λ (l : List PlacedItem). items_then l (later after)) (sym items))
   next-exact path s (GoesOn after) later at level right follows h e read = h path after follows (level ∙ right) e read
 
   steps-exact : (steps : ℕ) (path : Path SymbolAt ℕ) (s : State) → At bytes path s → Level path s

@@ -19,8 +19,8 @@ low-length zero w = refl
 low-length (suc k) w = ap suc (low-length k (w / 256))
 
 -- there is room in the word for an octet before them
-pub room-behind : (k w : ℕ) → k < 8 → w < 256 ^ k → w * 256 + 255 < 2 ^ 64
-room-behind k w few small =
+pub room-next : (k w : ℕ) → k < 8 → w < 256 ^ k → w * 256 + 255 < 2 ^ 64
+room-next k w few small =
     let most : k ≤ 7 = omega (arith, few) in
     let powers : 256 ^ k ≤ 256 ^ 7 = pow-le-pow_right {n = 256} (omega arith) most in
     omega (arith, powers, small)
@@ -42,7 +42,7 @@ block-octets k w few = let one : w / 256 ^ 0 ≡ w = rw pow-zero (omega arith) i
 pub header-one : (code n : ℕ) → n < 14 → (16 * code + n) ∷ [] ≡ header code n
 header-one code n h = sym (ap (λ (b : Bool). (16 * code + (if b then n else 14)) ∷ (if b then [] else var_uint_octets n)) (lt-ltb n 14 h))
 
--- and a short body behind it
+-- and a short body after it
 pub few-headed : (code : ℕ) (b : List ℕ) → length b < 14 → (16 * code + length b) ∷ b ≡ headed code b
 few-headed code b few = ap (λ (os : List ℕ). os ++ b) (header-one code (length b) few)
 
@@ -51,7 +51,7 @@ header-two code n least h =
     sym (ap (λ (b : Bool). (16 * code + (if b then n else 14)) ∷ (if b then [] else var_uint_octets n)) (le-ltb n 14 least)
     ∙ ap (λ (os : List ℕ). (16 * code + 14) ∷ os) (var-one n h))
 
--- ---- behind ids
+-- ---- after ids
 
 -- a value in the wrapper of an annotation, by the header of the wrapper
 module _ (note : ℕ) (y : List ℕ) (some : 0 < note) (few : note < 128) where

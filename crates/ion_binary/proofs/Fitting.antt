@@ -11,7 +11,7 @@ use Rattle.ion_binary.specs.Paths.{Spells}
 use Rattle.ion_binary.specs.Positions.{Frame}
 use Rattle.ion_binary.proofs.Spelled.{VarUInt-pos, Descriptor-headed}
 
--- what a scalar has behind its header is no longer than the limit
+-- what a scalar has after its header is no longer than the limit
 abbrev pub PlainFits : Limits → {v : Scalar Symbol} {x : List ℕ} → Plain v x → Type 0
 PlainFits limits (Plain.null t n is) = ⊤
 PlainFits limits Plain.no = ⊤

@@ -11,7 +11,7 @@ pub cost-push : (texts : List (List ℕ)) (t : List ℕ) → texts_cost (texts +
 cost-push [] t = omega arith
 cost-push (s ∷ ss) t = let r = cost-push ss t in omega (arith, r)
 
--- a text that is not there is behind the others where it is added
+-- a text that is not there is after the others where it is added
 position-new-by : (b : Bool) (p q : Option ℕ) (n : ℕ) → (p ≡ None → q ≡ Some n) → (if b then Some 0 else option_map (λ place. place + 1) p) ≡ None
     → (if b then Some 0 else option_map (λ place. place + 1) q) ≡ Some (n + 1)
 position-new-by true p q n f h = absurd (cc h)

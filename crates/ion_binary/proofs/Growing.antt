@@ -114,9 +114,9 @@ Spells-Open _ _ _ (Spells.top ts b t) = tt
 Spells-Open _ _ _ (Spells.inside path frames f annotations k ms n b x w header c s field an fr ins le within) =
     open_in-Open path (length b) f annotations (length ((b ++ x) ++ w)) k ms (frame_of k (length ((b ++ x) ++ (w ++ header)) + n)) frames
 
--- what stands behind the members so far, and how far it goes
-behind_members : (h c x : List ℕ) (n : ℕ) → length ((h ++ c) ++ x) ≤ length h + n → length (c ++ x) ≤ n
-behind_members h c x n le = omega (arith, length-append (h ++ c) x, length-append h c, length-append c x)
+-- what stands after the members so far, and how far it goes
+members_after_head : (h c x : List ℕ) (n : ℕ) → length ((h ++ c) ++ x) ≤ length h + n → length (c ++ x) ≤ n
+members_after_head h c x n le = omega (arith, length-append (h ++ c) x, length-append h c, length-append c x)
 
 top_value : (ts : List (Top SymbolAt ℕ)) (b : List ℕ) (annotations : List SymbolAt) (h : ℕ) (v : Value SymbolAt ℕ) (y z : List ℕ) → Tops ts b → y ≡ []
     → Bin (length (b ++ y)) annotations h v z → Tops (ts ++ tree (length b) annotations h v ∷ []) (b ++ (y ++ z))
@@ -139,7 +139,7 @@ Spells-value _ _ _ g own i v y z (Spells.inside path frames f annotations k ms n
     let r : length ((head ++ c) ++ y) ≡ length head + length (c ++ y) = omega (arith, length-append (head ++ c) y, length-append c y, p) in
     let fg' : Field k (length head + length c) g y = subst (λ (q : ℕ). Field k q g y) p fg in
     let bin' : Bin (length head + length (c ++ y)) own i v z = subst (λ (q : ℕ). Bin q own i v z) r bin in
-    let short : length (c ++ (y ++ z)) ≤ n = behind_members head c (y ++ z) n in_end in
+    let short : length (c ++ (y ++ z)) ≤ n = members_after_head head c (y ++ z) n in_end in
     let end : Frame = frame_of k (length head + n) in
     let more = Spells.inside path frames f annotations k (value.member ms g own i v) n b x w header (c ++ (y ++ z)) s field an fr
     (Inside.with_value k (length head) i g own v ms c y z ins fg' bin') short within in
@@ -155,7 +155,7 @@ Spells-nop_pad _ _ _ g y p (Spells.inside path frames f annotations k ms n b x w
     let head : List ℕ = (b ++ x) ++ (w ++ header) in
     let e : (head ++ c) ++ (y ++ p) ≡ head ++ (c ++ (y ++ p)) = append_assoc head c (y ++ p) in
     let fg' : Field k (length head + length c) g y = subst (λ (q : ℕ). Field k q g y) (length-append head c) fg in
-    let short : length (c ++ (y ++ p)) ≤ n = behind_members head c (y ++ p) n in_end in
+    let short : length (c ++ (y ++ p)) ≤ n = members_after_head head c (y ++ p) n in_end in
     subst (λ (bytes : List ℕ). Spells (open_in path (length b) f annotations (length ((b ++ x) ++ w)) k ms) (frame_of k (length head + n) ∷ frames) bytes) (sym e)
     (Spells.inside path frames f annotations k ms n b x w header (c ++ (y ++ p)) s field an fr (Inside.nop_pad k (length head) g ms c y p ins fg' is) short within)
 

@@ -35,9 +35,9 @@ use Rattle.ion_value.specs.Feeding.{Hands}
 use Rattle.ion_value.specs.Items.{named_at, named_item, raw_head}
 use Rattle.ion_value.specs.Outcome.{one_if_closed}
 use Rattle.ion_value.specs.PlainItems as PlainItems
-use Rattle.ion_value.specs.PlainItems.{HasKnownName, HaveNoDollar, IsPlainItem, IsRightlyQuoted, StandsBehind, placed_text, with_second}
+use Rattle.ion_value.specs.PlainItems.{HasKnownName, HaveNoDollar, IsPlainItem, IsRightlyQuoted, StandsAfter, placed_text, with_second}
 use Rattle.ion_value.specs.Reading.{Reading}
-use Rattle.ion_value.specs.Standing.{Continues, HasAnnotations, HasPlace, InRange, has_field, is_marker, open_after, open_behind}
+use Rattle.ion_value.specs.Standing.{Continues, HasAnnotations, HasPlace, InRange, has_field, is_marker, open_after, open_after_all}
 use Rattle.ion_value.specs.Value.{Head, Scalar, Symbol, map_head, map_scalar}
 use Rattle.ion_value.proofs.Passing.{IsPassed-cursor}
 use Rattle.ion_binary.specs.Reader.{kinds_of, state_of, to_come}
@@ -72,11 +72,11 @@ step-member limits frames None top here octets more inner goes_on some = step-to
 step-member limits frames (Some f) top here octets more inner goes_on some = inside-member limits frames f top (window here octets more) inner goes_on
 
 -- a member that is shown is the next step
-pub member_shown : (limits : Limits) (frames : List Frame) (f : Option frame.Frame) (top here at head behind : ℕ) (raws : List SymbolAt) (texts : ℕ → Option (List ℕ)) (octets more : List ℕ) (field : Option TextAt) (found : Shown)
-    → IsInnermost frames f → GoesOn f here → (name : ShowsField texts octets here (innermost f) field at) → ShowsItem limits octets here (region_of (innermost f)) (length frames) at head behind raws found
+pub member_shown : (limits : Limits) (frames : List Frame) (f : Option frame.Frame) (top here at head after : ℕ) (raws : List SymbolAt) (texts : ℕ → Option (List ℕ)) (octets more : List ℕ) (field : Option TextAt) (found : Shown)
+    → IsInnermost frames f → GoesOn f here → (name : ShowsField texts octets here (innermost f) field at) → ShowsItem limits octets here (region_of (innermost f)) (length frames) at head after raws found
     → step limits (record { frames = frames; top = top; cursor = window here octets more })
-    ≡ step_for frames (top_of frames top here) name.raw raws (here + head) (shown_value found) (skip behind (window here octets more))
-member_shown limits frames f top here at head behind raws texts octets more field found inner goes_on name v =
+    ≡ step_for frames (top_of frames top here) name.raw raws (here + head) (shown_value found) (skip after (window here octets more))
+member_shown limits frames f top here at head after raws texts octets more field found inner goes_on name v =
     let some : 0 < length octets = omega (arith, v.further, v.within) in
     let c = window here octets more in
     let reaches : Reaches (region_of (innermost f)) (here + at) = reaches-less (region_of (innermost f)) (here + at) (here + (at + 1)) (omega arith) v.reaches in
@@ -107,19 +107,19 @@ shown-known None = tt
 shown-known (Some t) = tt
 
 -- a field whose id has a text
-pub shows_named : (texts : ℕ → Option (List ℕ)) (octets : List ℕ) (here : ℕ) (f : frame.Frame) (id behind : ℕ) (t : TextAt) → f.kind ≡ kind.Struct → ShowsVar octets 0 behind id
-    → texts (raw_id id) ≡ Some t.text.now → IsRightlyQuoted t → t.place ≡ here → ShowsField texts octets here (innermost (Some f)) (Some t) behind
-shows_named texts octets here f id behind t struct v has quoted at = record {
+pub shows_named : (texts : ℕ → Option (List ℕ)) (octets : List ℕ) (here : ℕ) (f : frame.Frame) (id after : ℕ) (t : TextAt) → f.kind ≡ kind.Struct → ShowsVar octets 0 after id
+    → texts (raw_id id) ≡ Some t.text.now → IsRightlyQuoted t → t.place ≡ here → ShowsField texts octets here (innermost (Some f)) (Some t) after
+shows_named texts octets here f id after t struct v has quoted at = record {
   raw = Some (symbol_id id here);
   within = v.within;
   named = rw (has, at) refl;
   quoted = quoted;
   there = rw struct refl;
-  gives = λ more reaches. named_field f (window here octets more) (skip behind (window here octets more)) struct
+  gives = λ more reaches. named_field f (window here octets more) (skip after (window here octets more)) struct
       (ap (var_uint_at (Some f.end)) (sym (skip-none here octets more)) ∙ v.gives here more (Some f.end) reaches);
 }
 
--- a field with no wrapper behind it
+-- a field with no wrapper after it
 pub front_bare : (texts : ℕ → Option (List ℕ)) (limits : Limits) (octets : List ℕ) (here : ℕ) (frames : List Frame) (field : Option TextAt) (at : ℕ) → ShowsField texts octets here frames field at
     → ShowsFront texts limits octets here frames (record { field = field; annotation = None; second = None; at = at; head = at; wrapper = None })
 front_bare texts limits octets here frames field at name = record {
@@ -130,7 +130,7 @@ front_bare texts limits octets here frames field at name = record {
   quoted = tt;
   second = tt;
   within = name.within;
-  gives = λ depth behind found v full. shows_plain limits octets here (region_of frames) depth at behind found v;
+  gives = λ depth after found v full. shows_plain limits octets here (region_of frames) depth at after found v;
 }
 
 -- annotations by the ids of a wrapper
@@ -147,7 +147,7 @@ module _ (texts : ℕ → Option (List ℕ)) (here id from : ℕ) (t : TextAt) (
   notes-free (Some s) None m = absurd m
   notes-free (Some s) (Some u) m = (n.free, (m.free, tt))
 
-second-quoted : (texts : ℕ → Option (List ℕ)) (here : ℕ) (t : TextAt) (second : Option (ℕ × ℕ)) (u : Option TextAt) → IsSecondNote texts here second u → IfSome u (StandsBehind (Some t))
+second-quoted : (texts : ℕ → Option (List ℕ)) (here : ℕ) (t : TextAt) (second : Option (ℕ × ℕ)) (u : Option TextAt) → IsSecondNote texts here second u → IfSome u (StandsAfter (Some t))
 second-quoted texts here t None None m = tt
 second-quoted texts here t None (Some u) m = absurd m
 second-quoted texts here t (Some s) None m = absurd m
@@ -165,28 +165,28 @@ front_noted texts limits octets here frames field at note t u name n first secon
   quoted = first.quoted;
   second = second-quoted texts here t note.second u second;
   within = n.within;
-  gives = λ depth behind found v full. shows_noted limits octets here (region_of frames) depth at behind note found n v full;
+  gives = λ depth after found v full. shows_noted limits octets here (region_of frames) depth at after note found n v full;
 }
 
--- ---- a member, and where the reader stands behind it
+-- ---- a member, and where the reader stands after it
 
 top-innermost : (frames : List Frame) (f : Option frame.Frame) (top place : ℕ) → IsInnermost frames f → top_of frames top place ≡ top_of (innermost f) top place
 top-innermost _ _ top place at_top = refl
 top-innermost _ _ top place (inside f outer) = refl
 
 -- the step that a member gives that is shown, its octets being passed over
-pub step_shown : {I : Type 0} (device : InputOf I) (limits : Limits) (frames : List Frame) (f : Option frame.Frame) (top behind at head : ℕ) (raws : List SymbolAt) (s t : Incoming I) (texts : ℕ → Option (List ℕ)) (field : Option TextAt)
+pub step_shown : {I : Type 0} (device : InputOf I) (limits : Limits) (frames : List Frame) (f : Option frame.Frame) (top after at head : ℕ) (raws : List SymbolAt) (s t : Incoming I) (texts : ℕ → Option (List ℕ)) (field : Option TextAt)
     (found : Shown) → IsInnermost frames f → GoesOn f s.place → (name : ShowsField texts (lent s) s.place (innermost f) field at)
-    → ShowsItem limits (lent s) s.place (region_of (innermost f)) (length frames) at head behind raws found → IsPassed s t behind
+    → ShowsItem limits (lent s) s.place (region_of (innermost f)) (length frames) at head after raws found → IsPassed s t after
     → step limits (record { frames = frames; top = top; cursor = cursor device s })
     ≡ step_for frames (top_of (innermost f) top s.place) name.raw raws (s.place + head) (shown_value found) (cursor device t)
-step_shown device limits frames f top behind at head raws s t texts field found inner goes_on name v passed =
+step_shown device limits frames f top after at head raws s t texts field found inner goes_on name v passed =
     let more = drop (length (lent s)) (left device.rest s) in
     let shown = left-window device s in
-    let further : skip behind (window s.place (lent s) more) ≡ cursor device t = ap (skip behind) (sym shown) ∙ sym (IsPassed-cursor device s t behind v.within passed) in
+    let further : skip after (window s.place (lent s) more) ≡ cursor device t = ap (skip after) (sym shown) ∙ sym (IsPassed-cursor device s t after v.within passed) in
     ap (λ c. step limits (record { frames = frames; top = top; cursor = c })) shown
-    ∙ (member_shown limits frames f top s.place at head behind raws texts (lent s) more field found inner goes_on name v
-    ∙ (ap (λ n. step_for frames n name.raw raws (s.place + head) (shown_value found) (skip behind (window s.place (lent s) more))) (top-innermost frames f top s.place inner)
+    ∙ (member_shown limits frames f top s.place at head after raws texts (lent s) more field found inner goes_on name v
+    ∙ (ap (λ n. step_for frames n name.raw raws (s.place + head) (shown_value found) (skip after (window s.place (lent s) more))) (top-innermost frames f top s.place inner)
     ∙ ap (λ c. step_for frames (top_of (innermost f) top s.place) name.raw raws (s.place + head) (shown_value found) c) further))
 
 reverse-push : {X : Type 0} (xs : List X) (x : X) → reverse (xs ++ x ∷ []) ≡ x ∷ reverse xs
@@ -199,7 +199,7 @@ as_frames-push frames f = ap (map as_frame) (reverse-push frames f)
 pub kinds_of-push : (frames : List frame.Frame) (f : frame.Frame) → kinds_of (frames ++ f ∷ []) ≡ f.kind ∷ kinds_of frames
 kinds_of-push frames f = ap (map (λ x. x.kind)) (reverse-push frames f)
 
--- the reading behind a step
+-- the reading after a step
 pub to_come-gives : {I : Type 0} (device : InputOf I) (limits : Limits) (frames then : List frame.Frame) (top top_then : ℕ) (s t : Incoming I) (item : PlacedItem)
     → step limits (state_of device frames top s) ≡ Gives item (state_of device then top_then t) → to_come device limits frames top s ≡ More item (to_come device limits then top_then t)
 to_come-gives device limits frames then top top_then s t item e =
@@ -245,7 +245,7 @@ pub hands_by : {W O A : Type 0} (w : WriterOf W O A) (see : PlacedItem → Place
     (record { coming = then; opened = kinds_then; writer = pen_then; pending = to; values = values + one_if_closed kinds_then })
 hands_by w see reads coming then kinds kinds_then pen pen_then from to values item seen e gives plain opens fits value limits stands puts =
     let back : seen ≡ see item = sym e in
-    let continues : (path : List PlacedItem) → open_behind [] path ≡ kinds → Continues (w.limits pen) path seen =
+    let continues : (path : List PlacedItem) → open_after_all [] path ≡ kinds → Continues (w.limits pen) path seen =
     λ path at. record { fits = subst (λ (k : List Kind). Fits (w.limits pen).depth k seen) (sym at) fits; value = value } in
     record {
       item = item;
@@ -286,12 +286,12 @@ end_fits depth kinds place top open_one = record { place = open_one; field = ref
 
 -- what a writer asks of an item that comes next
 pub path_here : {W O A : Type 0} (w : WriterOf W O A) (depth : ℕ) (kinds : List Kind) (pen : W) (seen : PlacedItem) → (w.limits pen).depth ≡ depth → Fits depth kinds seen → is_marker seen.head ≡ false
-    → (path : List PlacedItem) × w.stands pen path × (open_behind [] path ≡ kinds) → (path : List PlacedItem) × w.stands pen path × Continues (w.limits pen) path seen
-path_here w depth kinds pen seen e fits value behind = (
-  behind.0,
-  behind.1,
+    → (path : List PlacedItem) × w.stands pen path × (open_after_all [] path ≡ kinds) → (path : List PlacedItem) × w.stands pen path × Continues (w.limits pen) path seen
+path_here w depth kinds pen seen e fits value after = (
+  after.0,
+  after.1,
   record {
-    fits = subst (λ (n : ℕ). Fits n (open_behind [] behind.0) seen) (sym e) (subst (λ (k : List Kind). Fits depth k seen) (sym behind.2) fits);
+    fits = subst (λ (n : ℕ). Fits n (open_after_all [] after.0) seen) (sym e) (subst (λ (k : List Kind). Fits depth k seen) (sym after.2) fits);
     value = value;
   },
 )
@@ -309,13 +309,13 @@ open_one frames f inner = omega (arith, inner-some (as_frames frames) f inner, k
 
 -- ---- what falls
 
-pub falls_scalar : (limit place limit_then place_then at behind n : ℕ) → place_then ≡ place + behind → limit_then ≡ limit → at + 1 ≤ behind → behind ≤ limit - place
+pub falls_scalar : (limit place limit_then place_then at after n : ℕ) → place_then ≡ place + after → limit_then ≡ limit → at + 1 ≤ after → after ≤ limit - place
     → 2 * (limit_then - place_then) + n < 2 * (limit - place) + n
-falls_scalar limit place limit_then place_then at behind n p l further within = omega (arith, p, l, further, within)
+falls_scalar limit place limit_then place_then at after n p l further within = omega (arith, p, l, further, within)
 
-pub falls_begin : (limit place limit_then place_then at behind n m : ℕ) → place_then ≡ place + behind → limit_then ≡ limit → at + 1 ≤ behind → behind ≤ limit - place → m ≡ n + 1
+pub falls_begin : (limit place limit_then place_then at after n m : ℕ) → place_then ≡ place + after → limit_then ≡ limit → at + 1 ≤ after → after ≤ limit - place → m ≡ n + 1
     → 2 * (limit_then - place_then) + m < 2 * (limit - place) + n
-falls_begin limit place limit_then place_then at behind n m p l further within more = omega (arith, p, l, further, within, more)
+falls_begin limit place limit_then place_then at after n m p l further within more = omega (arith, p, l, further, within, more)
 
 -- and it opens and closes nothing
 pub whole-opens : (texts : ℕ → Option (List ℕ)) (place : ℕ) (v : Scalar Symbol) (head : Head SymbolAt) (kinds : List Kind) → head ≡ map_head (named_at texts) (value.whole (placed_scalar place v)) → kinds ≡ open_after kinds head

@@ -53,7 +53,7 @@ charges-closed a b c own share fits there one two =
       rises = omega (arith, top, same);
     }
 
--- 16 are given back behind a part that moves
+-- 16 are given back after a part that moves
 charges-freed : (a b c : Counts) (own k l share most : ℕ) → own + 16 ≤ share → own + 16 + k ≤ a.held → Charges a b k l most → Shrinks b c 16 → Charges a c (own + 16 + k) (own + l) (share + most)
 charges-freed a b c own k l share most fits there x less =
     let held = x.held in let peak = x.peak in let few = x.share in let rises = x.rises in let gone = less.held in let same = less.peak in
@@ -86,9 +86,9 @@ pub more-below : (n k : ℕ) → n ≤ n + k
 more-below n k = omega arith
 
 -- a container that is opened is paid for by what is read of it
-pub goes-opened : (limit place limit_then place_then at behind n notes text m : ℕ) → place_then ≡ place + behind → limit_then ≡ limit → at + 1 ≤ behind → behind ≤ limit - place → m ≡ n + 1
+pub goes-opened : (limit place limit_then place_then at after n notes text m : ℕ) → place_then ≡ place + after → limit_then ≡ limit → at + 1 ≤ after → after ≤ limit - place → m ≡ n + 1
     → 4096 + 16 * m + 16 * notes + text ≤ 4096 + 16 * n + 16 * notes + text + 16 * (2 * (limit - place) + n - (2 * (limit_then - place_then) + m))
-goes-opened limit place limit_then place_then at behind n notes text m p l further within more = omega (arith, p, l, further, within, more)
+goes-opened limit place limit_then place_then at after n notes text m p l further within more = omega (arith, p, l, further, within, more)
 
 stays-well : {W O A : Type 0} (w : WriterOf W O A) (pen then : W) (from to : Outgoing O) (m n : Counts) → w.sound then → (w.failed then ≡ w.failed pen) × (w.limits then ≡ w.limits pen) × (w.most then ≡ w.most pen)
     → (to.device ≡ from.device) × (to.fault ≡ from.fault) → n.refused ≡ m.refused → StaysWell w pen then from to m n

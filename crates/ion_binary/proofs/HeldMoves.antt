@@ -27,11 +27,11 @@ drop-seam n xs ys e = ap (λ k. drop k (xs ++ ys)) e ∙ drop-append_seam xs ys
 put-seam : (n : ℕ) (x xs ys : List ℕ) → n ≡ length xs → put_at n x (xs ++ ys) ≡ xs ++ (x ++ ys)
 put-seam n x xs ys e = ap (λ (a : List ℕ). a ++ (x ++ drop n (xs ++ ys))) (take-seam n xs ys e) ∙ ap (λ (a : List ℕ). xs ++ (x ++ a)) (drop-seam n xs ys e)
 
-length-behind : (n : ℕ) (xs ys : List ℕ) → n ≡ length xs → length (xs ++ ys) - n ≡ length ys
-length-behind n xs ys e = let l : length (xs ++ ys) ≡ length xs + length ys = length-append xs ys in omega (arith, l, e)
+length-after : (n : ℕ) (xs ys : List ℕ) → n ≡ length xs → length (xs ++ ys) - n ≡ length ys
+length-after n xs ys e = let l : length (xs ++ ys) ≡ length xs + length ys = length-append xs ys in omega (arith, l, e)
 
 pub headed-seam : (n t : ℕ) (xs ys : List ℕ) → n ≡ length xs → headed_at (header_at n t) (xs ++ ys) ≡ xs ++ headed t ys
-headed-seam n t xs ys e = ap (λ k. put_at n (header t k) (xs ++ ys)) (length-behind n xs ys e) ∙ put-seam n (header t (length ys)) xs ys e
+headed-seam n t xs ys e = ap (λ k. put_at n (header t k) (xs ++ ys)) (length-after n xs ys e) ∙ put-seam n (header t (length ys)) xs ys e
 
 regrouped : (base field notes x : List ℕ) → base ++ (field ++ (notes ++ x)) ≡ (base ++ (field ++ notes)) ++ x
 regrouped base field notes x = sym (append_assoc base (field ++ notes) x ∙ ap (λ (y : List ℕ). base ++ y) (append_assoc field notes x))
@@ -182,7 +182,7 @@ size-is cs x =
 
 -- ---- an item
 
--- what is held, what is put and the closed size, by the octets and the headers behind an item
+-- what is held, what is put and the closed size, by the octets and the headers after an item
 record IsMoved (w : Written) (octets : List ℕ) (hs : List HeaderPlace) (after : Written) (puts : List ℕ) (size : ℕ) : Type 0 where
   held : value_held (held_of w) hs octets ≡ held_of after
   is_put : value_put (held_of w) hs octets ≡ puts

@@ -10,7 +10,7 @@ use Rattle.ion_value.specs.Writable.{field_symbols, scalar_symbols}
 use Rattle.ion_symbols.specs.Output.{position, system_id, or_given, known_id}
 use Rattle.ion_binary.specs.Canonical.{id_octets, annotation_octets, field_octets, scalar_octets, id_in, with_text, with_symbol, with_symbols}
 
--- ---- texts with more behind them
+-- ---- texts with more after them
 
 pub record Extends (t u : List (List ℕ)) : Type 0 where
   pub more : List (List ℕ)

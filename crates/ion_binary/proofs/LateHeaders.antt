@@ -179,13 +179,13 @@ module _ (offset end gap : ℕ) (octets new x : List ℕ) (order : offset ≤ en
       ∙ (take-append-le offset before tail (let f = front in omega (arith, f, short))
       ∙ (take-take offset (offset + gap - length x) octets (omega (arith, short))
       ∙ (sym (take-take offset end octets order) ∙ sym (take-append-le offset (take end octets) rest (omega (arith, long, order)))))) in
-      let behind : drop offset v ≡ body ++ rest =
+      let after : drop offset v ≡ body ++ rest =
       drop-append-le offset (take end octets) rest (omega (arith, long, order))
       ∙ ap (λ (os : List ℕ). os ++ rest) (ap (λ k. drop offset (take k octets)) (omega (arith, order)) ∙ drop-take offset (end - offset) octets) in
       let second : drop (offset + (gap - length x)) new ≡ tail =
       ap (λ (os : List ℕ). drop (offset + (gap - length x)) os) moved ∙ drop_at before tail (offset + (gap - length x)) (let f = front in omega (arith, f, short)) in
       ap (λ (os : List ℕ). os ++ drop (offset + (gap - length x)) new) first
-      ∙ ap (λ (os : List ℕ). take offset v ++ os) (second ∙ ap (λ (y : List ℕ). x ++ y) (sym behind))
+      ∙ ap (λ (os : List ℕ). take offset v ++ os) (second ∙ ap (λ (y : List ℕ). x ++ y) (sym after))
 
 pub around-all : (end gap : ℕ) (octets : List ℕ) → length octets ≡ end + gap → around_gap end gap octets ≡ take end octets
 around-all end gap octets e = ap (λ (os : List ℕ). take end octets ++ os) (drop-len octets (end + gap) e) ∙ append-nil (take end octets)

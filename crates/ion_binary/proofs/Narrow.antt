@@ -59,7 +59,7 @@ step_of-Cut : (r s : Placed (Step State)) → Cut IsPlacedLimit r s → StepCut 
 step_of-Cut _ _ (same r) = same_step (step_of r)
 step_of-Cut _ _ (limit e r is) = limit_step e.0 e.1 (step_of r) is
 
--- and of a part behind a test that knows no limits
+-- and of a part after a test that knows no limits
 if-step : (b : Bool) (x y z : Step State) → StepCut y z → StepCut (if b then x else y) (if b then x else z)
 if-step true x y z h = same_step x
 if-step false x y z h = h
@@ -73,7 +73,7 @@ More-narrow : (item : PlacedItem) (r s : Reading) → IsNarrow r s → IsNarrow 
 More-narrow item r s (inl e) = inl (ap (λ (t : Reading). Reading.More item t) e)
 More-narrow item r s (inr cut) = inr (later item r s cut)
 
--- a step, and the readings behind it
+-- a step, and the readings after it
 next-narrow : (x y : Step State) (f g : State → Reading) → StepCut x y → ((s : State) → IsNarrow (f s) (g s)) → IsNarrow (next_reading f x) (next_reading g y)
 next-narrow _ _ f g (same_step Ends) h = inl refl
 next-narrow _ _ f g (same_step (Stops reason place)) h = inl refl
@@ -114,7 +114,7 @@ module _ (limits wide : Limits) (within : AreWithin limits wide) where
   sorted_at-Cut a c =
       bind-Cut IsLimit (var_uint_at a.region c) _ _ _ (same _) (λ n. then-Cut IsLimit (refuse (nat_eq n.0 0) BadDescriptor) _ _ _ (same _) (begin_at-Cut a kind.Struct n.0 n.1))
 
-  -- whatever is found behind a descriptor
+  -- whatever is found after a descriptor
   read_by_descriptor-Cut : (a : Around) (s : Shape) (c : Cursor) → Cut IsLimit (read_by_descriptor limits a s c) (read_by_descriptor wide a s c)
   unfolding read_by_descriptor
   read_by_descriptor-Cut a (null t) c = same _

@@ -1,4 +1,4 @@
--- A value stands behind the ids of its field and its annotation.
+-- A value stands after the ids of its field and its annotation.
 use Rattle.std.proofs.Common.{◌≡◌, ℕ, ◌+◌, ◌<◌, Bool, if◌then◌else◌, List, [], ◌∷◌, ◌++◌, length, ap, sym, ◌∙◌, arith, append_assoc, ne_eqb}
 use Rattle.ion_value.specs.Number.{var_uint_octets}
 use Rattle.ion_binary.specs.Canonical.{wrapped}
@@ -13,7 +13,7 @@ named-octets id some = ap (λ (b : Bool). if b then [] else var_uint_octets id) 
 pub named-short : (id : ℕ) → 0 < id → id < 128 → (128 + id) ∷ [] ≡ name_octets id
 named-short id some few = sym (named-octets id some ∙ var-one id few)
 
--- what stands before a value in its wrapper, behind its field
+-- what stands before a value in its wrapper, after its field
 pub notes-front : (front d before x : List ℕ) (n : ℕ) → before ≡ wrapper_octets (length d) n → length x ≡ n
     → ((front ++ before) ++ d) ++ x ≡ front ++ wrapped (counted_ids d) x
 notes-front front d before x n eb long =

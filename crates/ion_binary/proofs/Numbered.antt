@@ -88,12 +88,12 @@ numbers-then {T} {U} {most} {a} {b} {c} {x} {first} {result} ss ts can e p0 q =
     let p : Numbers {T = T} most a b (Ok x) ss = subst (λ r. Numbers {T = T} most a b r ss) e p0 in
     let steady : b.meter.refused ≡ a.meter.refused = p.memory.counted (λ k. absurd (cc k)) in
     let texts : b.symbols.texts ≡ with_symbols a.symbols.texts (users ss) = p.texts in
-    let behind : first_over a.symbols.limit a.symbols.texts (ss ++ ts) ≡ first_over b.symbols.limit b.symbols.texts ts =
+    let after : first_over a.symbols.limit a.symbols.texts (ss ++ ts) ≡ first_over b.symbols.limit b.symbols.texts ts =
     first_over-then a.symbols.limit a.symbols.texts ss ts p.allowed ∙ sym (ap₂ (λ (l : ℕ) (t : List (List ℕ)). first_over l t ts) p.limit texts) in
     record {
       texts = on_ok result (λ h. h ∙ (ap (λ (t : List (List ℕ)). with_symbols t (users ts)) texts ∙ sym (with-parts a.symbols.texts ss ts))) q.texts;
-      allowed = on_ok result (λ h. behind ∙ h) q.allowed;
-      refuses = λ r place k. ((q.refuses r place k).0, behind ∙ (q.refuses r place k).1);
+      allowed = on_ok result (λ h. after ∙ h) q.allowed;
+      refuses = λ r place k. ((q.refuses r place k).0, after ∙ (q.refuses r place k).1);
       limit = q.limit ∙ p.limit;
       share = omega (arith, q.share, p.limit);
       within = q.within;
@@ -263,7 +263,7 @@ numbers-beside {T} {most} {o} {p} {a} {b} {result} {ss} octets can n = record {
   no_device = n.no_device;
 }
 
--- ---- octets that are put behind others
+-- ---- octets that are put after others
 
 over-both : (most : ℕ) (before between after : Bool) (x y z xs ys : List ℕ) → PutsWithin most before between x y xs → PutsWithin most between after y z ys
     → after ≡ false → before ≡ true → most < length x + length (xs ++ ys)
@@ -299,8 +299,8 @@ extends-by t0 t1 ss e = subst (λ (t : List (List ℕ)). Extends t0 t) (sym e) (
 pub ids-then : (t0 t1 t2 : List (List ℕ)) (ss ts : List SymbolAt) → t1 ≡ with_symbols t0 (users ss) → t2 ≡ with_symbols t1 (users ts)
     → id_octets (id_in t1) (users ss) ++ id_octets (id_in t2) (users ts) ≡ id_octets (id_in t2) (users (ss ++ ts))
 ids-then t0 t1 t2 ss ts e f =
-    let behind : List ℕ = id_octets (id_in t2) (users ts) in
-    ap (λ (l : List ℕ). l ++ behind) (sym (id_octets-same t1 t2 (users ss) (extends-by t1 t2 (users ts) f) (known-by t0 t1 (users ss) e)))
+    let after : List ℕ = id_octets (id_in t2) (users ts) in
+    ap (λ (l : List ℕ). l ++ after) (sym (id_octets-same t1 t2 (users ss) (extends-by t1 t2 (users ts) f) (known-by t0 t1 (users ss) e)))
     ∙ sym (ap (id_octets (id_in t2)) (users-append ss ts) ∙ flat_map-append (λ s. var_uint_octets (id_in t2 s)) (users ss) (users ts))
 
 -- ---- annotations
@@ -381,7 +381,7 @@ users-item i =
 
 -- ---- the front of an item, after its field, its annotations and its head
 
--- all that is known behind the three
+-- all that is known after the three
 pub record Fronted (most : ℕ) (t0 t1 t2 t3 : List (List ℕ)) (f : Option SymbolAt) (annotations : List SymbolAt) (h : Head SymbolAt) (x y z : List ℕ) (there : Bool) (front : Front) : Type 0 where
   pub field : t1 ≡ with_symbols t0 (users (field_symbols f))
   pub annotations_given : t2 ≡ with_symbols t1 (users annotations)
@@ -397,10 +397,10 @@ is-front most t0 t1 t2 t3 i x y z there front w =
     let ids : UserSymbol → ℕ = id_in t3 in
     let f : Option UserSymbol = option_map user_symbol_at i.field in
     let to_last : Extends t2 t3 = extends-by t2 t3 (users (head_symbols i.head)) w.head in
-    let behind : Extends t1 t3 = extends_trans t1 t2 t3 (extends-by t1 t2 (users i.annotations) w.annotations_given) to_last in
+    let after : Extends t1 t3 = extends_trans t1 t2 t3 (extends-by t1 t2 (users i.annotations) w.annotations_given) to_last in
     let field_known : AreKnown t1 (field_symbols f) = subst (λ (l : List UserSymbol). AreKnown t1 l) (users-field i.field) (known-by t0 t1 (users (field_symbols i.field)) w.field) in
     let field_is : id_octets (id_in t1) (users (field_symbols i.field)) ≡ field_octets ids f =
-    ap (id_octets (id_in t1)) (users-field i.field) ∙ (field-ids (id_in t1) f ∙ sym (field_octets-same t1 t3 f behind field_known)) in
+    ap (id_octets (id_in t1)) (users-field i.field) ∙ (field-ids (id_in t1) f ∙ sym (field_octets-same t1 t3 f after field_known)) in
     let annotations_are : id_octets (id_in t2) (users i.annotations) ≡ id_octets ids (users i.annotations) =
     sym (id_octets-same t2 t3 (users i.annotations) to_last (known-by t1 t2 (users i.annotations) w.annotations_given)) in
     let first : PutsWithin most true there x y (field_octets ids f) = puts-as w.field_put field_is in

@@ -15,7 +15,7 @@ use Rattle.ion_value.specs.Parts.{◌>>=◌, refuse, Placed, part}
 use Rattle.ion_value.specs.Reading.{Reading, Finished, Stopped, More, Step, Stops, next_reading, reading_by}
 use Rattle.ion_value.specs.ReadingLaws.{ending_of, AreWithin}
 use Rattle.ion_value.proofs.Readings.{reading_by-step}
-use Rattle.ion_value.proofs.ReadingLaws.{ending_of-behind}
+use Rattle.ion_value.proofs.ReadingLaws.{ending_of-items_then}
 use Rattle.ion_binary.specs.Bodies.{IsBodyTypeCode}
 use Rattle.ion_binary.specs.Descriptor.{octet_at, var_uint_at, length_at, Shape, shape_of, is_unwrappable}
 use Rattle.ion_binary.specs.Grammar.{Descriptor, Ids, Field, Header, Wrapper, Annotated, type_code}
@@ -86,7 +86,7 @@ same-field_in (frame ∷ frames) q f g a b x y p r e = same-field frame.kind q f
 same-length : (a b x y : List ℕ) → length a ≡ length b → a ++ x ≡ b ++ y → x ≡ y
 same-length a b x y same e = sym (drop_at a x (length a) refl) ∙ ap (drop (length a)) e ∙ drop_at b y (length a) (sym same)
 
--- ---- behind a descriptor octet
+-- ---- after a descriptor octet
 
 body_code : (t : ℕ) → IsBodyTypeCode t → (2 ≤ t) × (t ≤ 10)
 body_code t (inl e) = (omega (arith, e), omega (arith, e))
@@ -163,7 +163,7 @@ module _ (limits : Limits) where
   body-refused a b t n code octets rest c y Shape.float is e small code_is d here long h = not_ok _ _ h
   body-refused a b t n code octets rest c y Shape.illegal is e small code_is d here long h = not_ok _ _ h
 
--- octets behind whose descriptor octet nothing is found, where so many containers are open
+-- octets after whose descriptor octet nothing is found, where so many containers are open
 record Refused (limits : Limits) (depth : ℕ) (x : List ℕ) : Type 0 where
   first : ℕ
   more : List ℕ
@@ -230,29 +230,29 @@ ids-refused limits (suc most) end count q annotations ids id octets rest c y bef
           let m = then_ok (part c.place (refuse (ltb limits.scalar (16 * (count + 1))) AnnotationLimit)) _ y i.2 in
           let few : 16 * (count + 1) ≤ limits.scalar = ltb-false _ _ (refuse_ok _ AnnotationLimit m.0 (part_ok c.place _ _ m.1)) in
           let more = bind_ok (ids_at most limits end (count + 1) i.0.1) _ y m.2 in
-          behind q annotations ids before here within above i.0 v.octets v.took.parts v.took.place v.spells few (λ q annotations ids before here within above.
+          after q annotations ids before here within above i.0 v.octets v.took.parts v.took.place v.spells few (λ q annotations ids before here within above.
           ids-refused limits most end (count + 1) q annotations ids id octets rest i.0.1 more.0 before spells here within
           (omega (arith, enough, v.took.place, VarUInt-pos i.0.0 v.octets v.spells)) above more.1))
     ]
   where
-    behind : (q : ℕ) (annotations : List SymbolAt) (ids : List ℕ) → Ids q annotations ids → c.rest ≡ ids ++ (octets ++ rest) → c.place + length ids + length octets ≤ end
+    after : (q : ℕ) (annotations : List SymbolAt) (ids : List ℕ) → Ids q annotations ids → c.rest ≡ ids ++ (octets ++ rest) → c.place + length ids + length octets ≤ end
         → limits.scalar < 16 * (count + length annotations + 1) → (i : ℕ × Cursor) (taken : List ℕ) → c.rest ≡ taken ++ i.1.rest → i.1.place ≡ c.place + length taken → VarUInt i.0 taken
         → 16 * (count + 1) ≤ limits.scalar
         → ((q : ℕ) (annotations : List SymbolAt) (ids : List ℕ) → Ids q annotations ids → i.1.rest ≡ ids ++ (octets ++ rest) → i.1.place + length ids + length octets ≤ end
         → limits.scalar < 16 * (count + 1 + length annotations + 1) → ⊥)
         → ⊥
-    behind _ _ _ (Ids.nothing q) here within above i taken parts place number few more = omega (arith, above, few)
-    behind _ _ _ (Ids.then q n b d annotations first ids) here within above i taken parts place number few more =
+    after _ _ _ (Ids.nothing q) here within above i taken parts place number few more = omega (arith, above, few)
+    after _ _ _ (Ids.then q n b d annotations first ids) here within above i taken parts place number few more =
         let same = same-var taken b i.1.rest (d ++ (octets ++ rest)) number.ends first.ends (sym parts ∙ here ∙ append_assoc b d (octets ++ rest)) in
         more (q + length b) annotations d ids same.1 (omega (arith, within, place, ap length same.0, length-append b d)) (omega (arith, above))
 
 -- ---- values
 
 module _ (limits : Limits) (frames : List Frame) where
-  -- behind a wrapper's lengths stand its ids
-  wrapper-behind : (code whole n : ℕ) (c : Cursor) (w : Wrapped × Cursor) (head len tail : List ℕ) → code < 15 → Descriptor 14 whole head → VarUInt n len
+  -- after a wrapper's lengths stand its ids
+  wrapper-after : (code whole n : ℕ) (c : Cursor) (w : Wrapped × Cursor) (head len tail : List ℕ) → code < 15 → Descriptor 14 whole head → VarUInt n len
       → (16 * 14 + code) ∷ c.rest ≡ head ++ (len ++ tail) → wrapper_at (region_of frames) code c ≡ Ok w → (w.1.rest ≡ tail) × (w.0.ids ≡ w.1.place + n)
-  wrapper-behind code whole n c w head len tail small d spells here h =
+  wrapper-after code whole n c w head len tail small d spells here h =
       let t = wrapper_at-taken (region_of frames) code c w small h in
       let all : ((16 * 14 + code) ∷ t.head) ++ (t.len ++ w.1.rest) ≡ head ++ (len ++ tail) =
       ap (λ (l : List ℕ). (16 * 14 + code) ∷ l) (sym (append_assoc t.head t.len w.1.rest) ∙ sym t.took.parts) ∙ here
@@ -261,7 +261,7 @@ module _ (limits : Limits) (frames : List Frame) where
       let number = same-number t.ids_length n t.len len w.1.rest tail t.spells spells lengths.1 in
       (number.1, omega (arith, t.ids_end, number.0))
 
-  -- octets behind which nothing is found stand in a wrapper, behind its ids
+  -- octets after which nothing is found stand in a wrapper, after its ids
   inner-refused : (top : ℕ) (f : Option SymbolAt) (annotations : List SymbolAt) (end : ℕ) (c : Cursor) (x rest : List ℕ) (y : Step State) → Refused limits (length frames) x
       → c.rest ≡ x ++ rest → inner_at limits frames top f annotations end c ≡ Ok y → ⊥
   unfolding inner_at
@@ -270,10 +270,10 @@ module _ (limits : Limits) (frames : List Frame) where
       let took = octet_at-taken (Some end) c o.0 (part_ok c.place _ _ o.1) in
       let all : o.0.0 ∷ o.0.1.rest ≡ refuses.first ∷ (refuses.more ++ rest) = sym took.parts ∙ here ∙ ap (λ (l : List ℕ). l ++ rest) refuses.is in
       let first : o.0.0 ≡ refuses.first = cc all in
-      let after : o.0.1.rest ≡ refuses.more ++ rest = cc all in
+      let next : o.0.1.rest ≡ refuses.more ++ rest = cc all in
       let a : Around = record { wrapped = true; region = Some end; depth = length frames } in
       let v = bind_ok (part c.place (typed_value_at limits a o.0.0 o.0.1)) _ y o.2 in
-      refuses.none a o.0.1 rest v.0 refl after (subst (λ (b : ℕ). typed_value_at limits a b o.0.1 ≡ Ok v.0) first (part_ok c.place _ _ v.1))
+      refuses.none a o.0.1 rest v.0 refl next (subst (λ (b : ℕ). typed_value_at limits a b o.0.1 ≡ Ok v.0) first (part_ok c.place _ _ v.1))
 
   ids-then : (top : ℕ) (f : Option SymbolAt) (w : Wrapped × Cursor) (ids x rest : List ℕ) (y : Step State) → Refused limits (length frames) x
       → w.1.rest ≡ ids ++ (x ++ rest) → w.0.ids ≡ w.1.place + length ids
@@ -285,7 +285,7 @@ module _ (limits : Limits) (frames : List Frame) where
       let same : length t.octets ≡ length ids = omega (arith, t.took.place, t.all, within, end) in
       inner-refused top f o.0.0 w.0.end o.0.1 x rest y refuses (same-length t.octets ids o.0.1.rest (x ++ rest) same (sym t.took.parts ∙ here)) o.2
 
-  -- what stands behind the field: a wrapper, behind whose lengths nothing is read
+  -- what stands after the field: a wrapper, after whose lengths nothing is read
   choice-wrapped : (m : Option ℕ) (top : ℕ) (f : Option SymbolAt) (place b : ℕ) (c : Cursor) (whole n : ℕ) (head len tail : List ℕ) (y : Step State) → wrapper_length (shape_of b) ≡ m
       → Descriptor 14 whole head → 3 ≤ whole → VarUInt n len → b ∷ c.rest ≡ head ++ (len ++ tail)
       → ((w : Wrapped × Cursor) → w.1.rest ≡ tail → w.0.ids ≡ w.1.place + n
@@ -305,10 +305,10 @@ module _ (limits : Limits) (frames : List Frame) where
   choice-wrapped (Some code) top f place b c whole n head len tail y is d long spells here refuses h =
       let at = wrapper_is b code is in
       let w = bind_ok (part place (wrapper_at (region_of frames) code c)) _ y h in
-      let t = wrapper-behind code whole n c w.0 head len tail at.1 d spells (ap (λ (i : ℕ). i ∷ c.rest) (sym at.0) ∙ here) (part_ok place _ _ w.1) in
+      let t = wrapper-after code whole n c w.0 head len tail at.1 d spells (ap (λ (i : ℕ). i ∷ c.rest) (sym at.0) ∙ here) (part_ok place _ _ w.1) in
       refuses w.0 t.0 t.1 w.2
 
-  -- or octets behind which nothing is found
+  -- or octets after which nothing is found
   choice-bare : (m : Option ℕ) (top : ℕ) (f : Option SymbolAt) (place b : ℕ) (c : Cursor) (x rest : List ℕ) (y : Step State) → wrapper_length (shape_of b) ≡ m
       → Refused limits (length frames) x → b ∷ c.rest ≡ x ++ rest
       → by_wrapper m (λ code. annotated_at limits frames top f place code c) (plain_at limits frames top f place b c) ≡ Ok y → ⊥
@@ -316,10 +316,10 @@ module _ (limits : Limits) (frames : List Frame) where
   choice-bare None top f place b c x rest y is refuses here h =
       let all : b ∷ c.rest ≡ refuses.first ∷ (refuses.more ++ rest) = here ∙ ap (λ (l : List ℕ). l ++ rest) refuses.is in
       let first : b ≡ refuses.first = cc all in
-      let after : c.rest ≡ refuses.more ++ rest = cc all in
+      let next : c.rest ≡ refuses.more ++ rest = cc all in
       let a : Around = record { wrapped = false; region = region_of frames; depth = length frames } in
       let v = bind_ok (part place (typed_value_at limits a b c)) _ y h in
-      refuses.none a c rest v.0 refl after (subst (λ (b : ℕ). typed_value_at limits a b c ≡ Ok v.0) first (part_ok place _ _ v.1))
+      refuses.none a c rest v.0 refl next (subst (λ (b : ℕ). typed_value_at limits a b c ≡ Ok v.0) first (part_ok place _ _ v.1))
   choice-bare (Some code) top f place b c x rest y is refuses here h =
       let at = wrapper_is b code is in
       let all : b ∷ c.rest ≡ refuses.first ∷ (refuses.more ++ rest) = here ∙ ap (λ (l : List ℕ). l ++ rest) refuses.is in
@@ -375,7 +375,7 @@ step_in-stops limits (f ∷ frames) top c inside some refuses =
     let stops = fault-stops (member_at limits (f ∷ frames) top c) refuses in
     (stops.0, stops.1, rw (lt-leb f.end c.place inside) stops.2)
 
--- a step stops where some octets stand next, behind the field, and no value is read there
+-- a step stops where some octets stand next, after the field, and no value is read there
 next-stops : (limits : Limits) (s : State) (top place : ℕ) (x : List ℕ) → 0 < length x → (n : StandNext s place x)
     → ((top : ℕ) (f : Option SymbolAt) (d : Cursor) (y : Step State) → d.rest ≡ x ++ n.rest → value_at limits s.frames top f d ≡ Ok y → ⊥)
     → IsStop (step limits (state s.frames top s.cursor))
@@ -451,7 +451,7 @@ module _ (shrinks : Shrinking) (limits wide : Limits) (within : AreWithin limits
         | inr now ↦ stop-ends s now
       ]
 
--- where a limit is passed behind a path, a reading stops
+-- where a limit is passed after a path, a reading stops
 passed-ends : Bodies → Shrinking → (limits : Limits) (bytes : List ℕ) (path : Path SymbolAt ℕ) (s : State) (reason : Reason) (place : ℕ) → At bytes path s
     → Passes limits s place reason → EndsAtFault (reading limits bytes)
 passed-ends bodies shrinks limits bytes path s reason place at passes =
@@ -486,7 +486,7 @@ passed_limits bodies shrinks limits bytes tops path s reason place stream at pas
     elim (narrow limits wide bytes (record { depth = omega arith; scalar = omega arith })) [
       | inl same ↦ (
           let finished : ending_of (reading limits bytes) ≡ Finished =
-          ap ending_of (same ∙ streams bodies shrinks wide bytes tops (omega arith, omega arith) stream.spells) ∙ ending_of-behind (top_items tops) Finished
+          ap ending_of (same ∙ streams bodies shrinks wide bytes tops (omega arith, omega arith) stream.spells) ∙ ending_of-items_then (top_items tops) Finished
           in
           absurd (none_passed bodies shrinks limits bytes finished path s reason place at passes))
       | inr cut ↦ (let ends = cut-ends _ _ cut in (ends.0, ends.1, ends.3, ends.2))

@@ -26,21 +26,21 @@ unfolding read
 read_whole bytes e = none_passed bodies step-shrinks narrow bytes e
 
 -- the second list begins where the first is open still, and ends
-list_behind_a_list : PassesNothing (0xB1 ∷ 0x20 ∷ 0xB1 ∷ 0x20 ∷ [])
+list_after_a_list : PassesNothing (0xB1 ∷ 0x20 ∷ 0xB1 ∷ 0x20 ∷ [])
 unfolding read
-list_behind_a_list = read_whole (0xB1 ∷ 0x20 ∷ 0xB1 ∷ 0x20 ∷ []) refl
+list_after_a_list = read_whole (0xB1 ∷ 0x20 ∷ 0xB1 ∷ 0x20 ∷ []) refl
 
--- at its end a struct is open still: the octet `A6` would be a field, and `8E` behind it begin a string of more than sixteen octets
-blob_behind_a_struct : PassesNothing (0xD2 ∷ 0x84 ∷ 0x20 ∷ 0xA6 ∷ 0x8E ∷ 0x7F ∷ 0x7F ∷ 0x7F ∷ 0x7F ∷ 0xFF ∷ [])
+-- at its end a struct is open still: the octet `A6` would be a field, and `8E` after it begin a string of more than sixteen octets
+blob_after_a_struct : PassesNothing (0xD2 ∷ 0x84 ∷ 0x20 ∷ 0xA6 ∷ 0x8E ∷ 0x7F ∷ 0x7F ∷ 0x7F ∷ 0x7F ∷ 0xFF ∷ [])
 unfolding read
-blob_behind_a_struct = read_whole (0xD2 ∷ 0x84 ∷ 0x20 ∷ 0xA6 ∷ 0x8E ∷ 0x7F ∷ 0x7F ∷ 0x7F ∷ 0x7F ∷ 0xFF ∷ []) refl
+blob_after_a_struct = read_whole (0xD2 ∷ 0x84 ∷ 0x20 ∷ 0xA6 ∷ 0x8E ∷ 0x7F ∷ 0x7F ∷ 0x7F ∷ 0x7F ∷ 0xFF ∷ []) refl
 
 -- a version marker's first octet is that of a wrapper without length, the next three would be the length of its ids, and two ids would follow
-ints_behind_a_marker : PassesNothing (0xE0 ∷ 0x01 ∷ 0x00 ∷ 0xEA ∷ 0x21 ∷ 0x81 ∷ 0x21 ∷ 0x82 ∷ [])
+ints_after_a_marker : PassesNothing (0xE0 ∷ 0x01 ∷ 0x00 ∷ 0xEA ∷ 0x21 ∷ 0x81 ∷ 0x21 ∷ 0x82 ∷ [])
 unfolding read
-ints_behind_a_marker = read_whole (0xE0 ∷ 0x01 ∷ 0x00 ∷ 0xEA ∷ 0x21 ∷ 0x81 ∷ 0x21 ∷ 0x82 ∷ []) refl
+ints_after_a_marker = read_whole (0xE0 ∷ 0x01 ∷ 0x00 ∷ 0xEA ∷ 0x21 ∷ 0x81 ∷ 0x21 ∷ 0x82 ∷ []) refl
 
--- behind the one id of a wrapper its value would be a second one
-int_behind_an_annotation : PassesNothing (0xE4 ∷ 0x81 ∷ 0x84 ∷ 0x21 ∷ 0xFF ∷ [])
+-- after the one id of a wrapper its value would be a second one
+int_after_an_annotation : PassesNothing (0xE4 ∷ 0x81 ∷ 0x84 ∷ 0x21 ∷ 0xFF ∷ [])
 unfolding read
-int_behind_an_annotation = read_whole (0xE4 ∷ 0x81 ∷ 0x84 ∷ 0x21 ∷ 0xFF ∷ []) refl
+int_after_an_annotation = read_whole (0xE4 ∷ 0x81 ∷ 0x84 ∷ 0x21 ∷ 0xFF ∷ []) refl

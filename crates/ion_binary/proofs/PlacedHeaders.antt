@@ -153,7 +153,7 @@ among-all (n ∷ ns) (t ∷ ts) xs h =
 
 -- ---- what is true at the two places where a count ends is true of all
 
--- each number is at most those behind it
+-- each number is at most those after it
 abbrev pub Ascend : List ℕ → Type 0
 Ascend [] = ⊤
 Ascend (x ∷ xs) = AllByRecursion (λ y. x ≤ y) xs × Ascend xs
@@ -218,11 +218,11 @@ size-here (n ∷ ns) [] x xs h = absurd h
 size-here (n ∷ ns) (t ∷ ts) x xs h =
     ap₂ (λ i (b : Bool). i + (if b then 1 else 0)) (size-here ns ts x xs h.1) (same-test (nat_lt (length xs) n) (length xs) n t x refl h.0.0.0 h.0.0.1)
 
-counts-behind : (ns ts : List ℕ) (x : ℕ) (xs : List ℕ) → AreCountsOf ns ts (x ∷ xs) → AreCountsOf ns ts xs
-counts-behind [] [] x xs h = tt
-counts-behind [] (t ∷ ts) x xs h = absurd h
-counts-behind (n ∷ ns) [] x xs h = absurd h
-counts-behind (n ∷ ns) (t ∷ ts) x xs h = (h.0.1, counts-behind ns ts x xs h.1)
+counts-after : (ns ts : List ℕ) (x : ℕ) (xs : List ℕ) → AreCountsOf ns ts (x ∷ xs) → AreCountsOf ns ts xs
+counts-after [] [] x xs h = tt
+counts-after [] (t ∷ ts) x xs h = absurd h
+counts-after (n ∷ ns) [] x xs h = absurd h
+counts-after (n ∷ ns) (t ∷ ts) x xs h = (h.0.1, counts-after ns ts x xs h.1)
 
 -- ---- how long a header is
 
@@ -381,7 +381,7 @@ are-counted ns n m (p ∷ ps) h small =
     let rest : List ℕ = contents ns n ps (m + s) in
     let fits : n - p + m < 2 ^ 35 = omega (arith, small) in (
       size-reached (n - p + m) fits ∙ (size-here ns thresholds (n - p + m) rest h ∙ ap (counted_size ns) (contents-length ns n (m + s) ps)),
-      are-counted ns n (m + s) ps (counts-behind ns thresholds (n - p + m) rest h) (omega (arith, small)),
+      are-counted ns n (m + s) ps (counts-after ns thresholds (n - p + m) rest h) (omega (arith, small)),
     )
 
 pub closed_size_by_counts : ClosedSizeByCounts

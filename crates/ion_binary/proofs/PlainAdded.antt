@@ -30,7 +30,7 @@ use Rattle.ion_binary.proofs.Numbered.{users-item}
 use Rattle.ion_binary.specs.Counting.{ArePlaced}
 use Rattle.ion_binary.proofs.DeclarationOctets.{declaration-none}
 use Rattle.ion_binary.proofs.OpenSteps.{closed-put, put-length}
-use Rattle.ion_binary.proofs.WriterFollows.{codes-after, forgotten-is, held-behind, may-add, put-behind, refusal-is}
+use Rattle.ion_binary.proofs.WriterFollows.{codes-after, forgotten-is, held-after, may-add, put-then, refusal-is}
 use Rattle.ion_binary.proofs.WriterSteps.{kept, not-refused, same-held}
 
 -- nothing is put while a container is open
@@ -178,7 +178,7 @@ plain-added {A} w v before after item result c known some more held opened decli
   taken = plain-taken w v before after c s;
 }
 
--- a scalar was added behind the ids of its field and its annotations, if the call says so
+-- a scalar was added after the ids of its field and its annotations, if the call says so
 pub member-noted : {A : Type 0} (w : BinWriter A) (v : OpenValue A) (before after : Counts) (item : PlacedItem) (result : Bool) (name : ℕ) (notes x : List ℕ)
     → CanTake w before → 0 < length w.open_value.headers → IsWhole item.head
     → HaveIds w.symbols.texts (field_symbols item.field) → HaveIds w.symbols.texts item.annotations → HaveIds w.symbols.texts (head_symbols item.head)
@@ -200,7 +200,7 @@ member-noted {A} w v before after item result name notes x c some whole kf ka kh
     ∙ scalar-added (held_in w) item v.octets.all known whole (a.octets e ∙ ap (λ (y : List ℕ). w.open_value.octets.all ++ y) octets))
     a.is_open a.declines a.stepped
 
--- a scalar in a container, behind one annotation at most
+-- a scalar in a container, after one annotation at most
 pub member-plain : {A : Type 0} (w : BinWriter A) (v : OpenValue A) (before after : Counts) (item : PlacedItem) (result : Bool) (name note : ℕ) (x : List ℕ)
     → CanTake w before → 0 < length w.open_value.headers → IsWhole item.head
     → HaveIds w.symbols.texts (field_symbols item.field) → HaveIds w.symbols.texts item.annotations → HaveIds w.symbols.texts (head_symbols item.head)
@@ -293,16 +293,16 @@ pub ended-bare : {A : Type 0} (limits : Limits) (v : OpenValue A) (item : Placed
 ended-bare {A} limits v item e may = let P : Head SymbolAt → Type 0 = λ h. MayAdd {A = A} limits v h item in subst P e may
 
 -- nor has it a second annotation
-none-behind : (notes : List SymbolAt) (second : Option TextAt) → with_second notes second ≡ [] → with_second notes second ≡ notes
-none-behind notes None bare = refl
-none-behind [] (Some s) bare = absurd (Prim.cc bare)
-none-behind (n ∷ ns) (Some s) bare = absurd (Prim.cc bare)
+none-after : (notes : List SymbolAt) (second : Option TextAt) → with_second notes second ≡ [] → with_second notes second ≡ notes
+none-after notes None bare = refl
+none-after [] (Some s) bare = absurd (Prim.cc bare)
+none-after (n ∷ ns) (Some s) bare = absurd (Prim.cc bare)
 
 pub ended-single : {A : Type 0} (w : BinWriter A) (item : PlainItem) → MayCome w.limits w.open_value (placed_item item) → raw_head item.head ≡ value.end
     → placed_item item ≡ single_item item
 ended-single w item may head =
     let bare = ended-bare w.limits w.open_value (placed_item item) head may.follows in
-    ap (λ (notes : List SymbolAt). record (single_item item) { annotations = notes }) (none-behind (listed (option_map placed_text item.annotation)) item.second bare.1)
+    ap (λ (notes : List SymbolAt). record (single_item item) { annotations = notes }) (none-after (listed (option_map placed_text item.annotation)) item.second bare.1)
 
 -- ---- an item that is taken is that of the streaming definition
 
@@ -319,7 +319,7 @@ module _ {A O : Type 0} (old new : BinWriter A) (before after : Counts) (sink pu
   pub taken-follows : Follows old new s item (Ok tt)
   taken-follows = record {
     holds = record {
-      held = p.held refl ∙ held-behind old.limits.symbols old.limits.depth s item (held_in old) taken-begun comes.0.codes comes.1;
+      held = p.held refl ∙ held-after old.limits.symbols old.limits.depth s item (held_in old) taken-begun comes.0.codes comes.1;
       is_open = p.is_open refl;
       codes = codes-after old.limits.symbols s (user_item item) comes.0.codes;
     };
@@ -331,7 +331,7 @@ module _ {A O : Type 0} (old new : BinWriter A) (before after : Counts) (sink pu
   taken-puts =
       p.puts refl
       ∙ ap (λ (x : List ℕ). sink.pending ++ x)
-      (put-behind old.limits.symbols old.limits.depth s item (held_in old) taken-begun comes.0.codes comes.1
+      (put-then old.limits.symbols old.limits.depth s item (held_in old) taken-begun comes.0.codes comes.1
       ∙ ap (λ (r : Option (Reason × ℕ)). unless_refused r (item_puts old.limits.symbols s (user_item item))) (sym taken-passes))
 
 -- ---- the value at top level ends

@@ -78,28 +78,28 @@ innermost-top _ _ (inside f outer) e = absurd (cc e)
 pub taken-same : (item : PlacedItem) (after : State) (r : Result StepResult Fault) (s t : Step State) → s ≡ t → TakenGives item after r t → TakenGives item after r s
 taken-same item after r s t e h = subst (λ u. TakenGives item after r u) (sym e) h
 
-pub member_at-refused : (item : PlacedItem) (after : State) (limits : Limits) (frames : List Frame) (top : ℕ) (c behind : Cursor) (fault : Fault)
-    → Answers as_field (Err fault) behind c.place (field_at frames c) → TakenGives item after (Err fault) (step_of (member_at limits frames top c))
+pub member_at-refused : (item : PlacedItem) (next : State) (limits : Limits) (frames : List Frame) (top : ℕ) (c after : Cursor) (fault : Fault)
+    → Answers as_field (Err fault) after c.place (field_at frames c) → TakenGives item next (Err fault) (step_of (member_at limits frames top c))
 unfolding member_at
-member_at-refused item after limits frames top c behind (Refused reason at) h =
+member_at-refused item next limits frames top c after (Refused reason at) h =
     ap (λ r. step_of (part c.place r >>= λ f. value_at limits frames (top_of frames top c.place) f.0 f.1)) h.0 ∙ ap (λ p. Stops reason p) (sym h.1)
-member_at-refused item after limits frames top c behind Memory h = tt
-member_at-refused item after limits frames top c behind ReadFault h = tt
-member_at-refused item after limits frames top c behind WriteFault h = tt
-member_at-refused item after limits frames top c behind InputLimit h = tt
+member_at-refused item next limits frames top c after Memory h = tt
+member_at-refused item next limits frames top c after ReadFault h = tt
+member_at-refused item next limits frames top c after WriteFault h = tt
+member_at-refused item next limits frames top c after InputLimit h = tt
 
 pub member_at-field : (limits : Limits) (frames : List Frame) (top : ℕ) (c d : Cursor) (f : Option SymbolAt) → field_at frames c ≡ Ok (f, d)
     → member_at limits frames top c ≡ value_at limits frames (top_of frames top c.place) f d
 unfolding member_at
 member_at-field limits frames top c d f e = ap (λ r. part c.place r >>= λ f. value_at limits frames (top_of frames top c.place) f.0 f.1) e
 
-pub value-refused : (item : PlacedItem) (after : State) (frames : List Frame) (top : ℕ) (f : Option SymbolAt) (annotations : List SymbolAt) (text : List ℕ) (scalar : Body) (fault : Fault) (behind : Cursor)
-    (s : Placed (Step State)) → GivesStep frames top f annotations text scalar (Err fault) behind s → TakenGives item after (Err fault) (step_of s)
-value-refused item after frames top f annotations text scalar (Refused reason at) behind s h = ap step_of h
-value-refused item after frames top f annotations text scalar Memory behind s h = tt
-value-refused item after frames top f annotations text scalar ReadFault behind s h = tt
-value-refused item after frames top f annotations text scalar WriteFault behind s h = tt
-value-refused item after frames top f annotations text scalar InputLimit behind s h = tt
+pub value-refused : (item : PlacedItem) (next : State) (frames : List Frame) (top : ℕ) (f : Option SymbolAt) (annotations : List SymbolAt) (text : List ℕ) (scalar : Body) (fault : Fault) (after : Cursor)
+    (s : Placed (Step State)) → GivesStep frames top f annotations text scalar (Err fault) after s → TakenGives item next (Err fault) (step_of s)
+value-refused item next frames top f annotations text scalar (Refused reason at) after s h = ap step_of h
+value-refused item next frames top f annotations text scalar Memory after s h = tt
+value-refused item next frames top f annotations text scalar ReadFault after s h = tt
+value-refused item next frames top f annotations text scalar WriteFault after s h = tt
+value-refused item next frames top f annotations text scalar InputLimit after s h = tt
 
 -- ---- items stand where they may
 
@@ -208,7 +208,7 @@ charges-then a b c first between last most small x y = record {
   rises = omega (arith, x.rises, y.rises);
 }
 
--- a step behind the last item's annotations being given back
+-- a step after the last item's annotations being given back
 pub stepped-cleared : {I A T : Type 0} (device : InputOf I) (item ended : T) (old new : BinReader I A) (notes : List Annotation) (a b c : Counts) (result : Result T Fault) → length notes ≡ 0
     → Shrinks a b (16 * length old.annotations) → Stepped device item ended (record old { annotations = notes }) new b c result → Stepped device item ended old new a c result
 stepped-cleared device item ended old new notes a b c result none less s =

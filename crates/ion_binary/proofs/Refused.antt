@@ -3,9 +3,9 @@ use Rattle.std.proofs.Common.{◌≡◌, ℕ, ◌+◌, ◌*◌, inl, inr, List, 
 use Rattle.ion_meter.specs.declared.fault.Reason.{Reason}
 use Rattle.ion_meter.specs.declared.limits.Limits.{Limits}
 use Rattle.ion_value.specs.Value.{PlacedItem, top_items}
-use Rattle.ion_value.specs.Reading.{Reading, Finished, Stopped, items_of, behind}
+use Rattle.ion_value.specs.Reading.{Reading, Finished, Stopped, items_of, items_then}
 use Rattle.ion_value.specs.ReadingLaws.{ending_of, IsLimit}
-use Rattle.ion_value.proofs.ReadingLaws.{ending_of-behind}
+use Rattle.ion_value.proofs.ReadingLaws.{ending_of-items_then}
 use Rattle.ion_binary.specs.Laws.{Bodies, IsCut, here, later, RightlyRefused, NoStreamBegins, WithinLimitsAreRead}
 use Rattle.ion_binary.specs.Reading.{reading}
 use Rattle.ion_binary.proofs.ExactLimits.{exact_limits}
@@ -33,7 +33,7 @@ rightly_refused bodies shrinks limits bytes reason place ts stops no_limit strea
     let read = streams bodies shrinks wide bytes ts (omega arith, omega arith) stream.spells in
     elim (narrow limits wide bytes (record { depth = omega arith; scalar = omega arith })) [
       | inl same ↦
-          let ends : Stopped reason place ≡ Finished = sym stops ∙ ap ending_of (same ∙ read) ∙ ending_of-behind (top_items ts) Finished in
+          let ends : Stopped reason place ≡ Finished = sym stops ∙ ap ending_of (same ∙ read) ∙ ending_of-items_then (top_items ts) Finished in
           absurd (cc ends)
       | inr cut ↦ no_limit (cut-limit _ _ cut reason place stops)
     ]
@@ -50,7 +50,7 @@ streams_within_limits bodies shrinks limits bytes tops stream none =
     ]
 
 -- a reading is its items, and then how it ends
-ended : (r : Reading) (reason : Reason) (place : ℕ) → ending_of r ≡ Stopped reason place → r ≡ behind (items_of r) (Stopped reason place)
+ended : (r : Reading) (reason : Reason) (place : ℕ) → ending_of r ≡ Stopped reason place → r ≡ items_then (items_of r) (Stopped reason place)
 ended Finished reason place e = absurd (cc e)
 ended (Stopped why q) reason place e = e
 ended (Reading.More item r) reason place e = ap (λ (s : Reading). Reading.More item s) (ended r reason place e)
@@ -59,4 +59,4 @@ pub no_stream_begins : Bodies → Shrinking → NoStreamBegins
 no_stream_begins bodies shrinks limits bytes more reason place ts stops no_limit other stream =
     let items : List PlacedItem = items_of (reading limits bytes) in
     let longer = stable shrinks limits bytes more items reason place (ended (reading limits bytes) reason place stops) other in
-    rightly_refused bodies shrinks limits (bytes ++ more) reason place ts (ap ending_of longer ∙ ending_of-behind items (Stopped reason place)) no_limit stream
+    rightly_refused bodies shrinks limits (bytes ++ more) reason place ts (ap ending_of longer ∙ ending_of-items_then items (Stopped reason place)) no_limit stream

@@ -13,7 +13,7 @@ use Rattle.ion_value.specs.Writable.{field_symbols, members_symbols, value_symbo
 use Rattle.ion_binary.specs.Canonical.{binary, id_in, is_over, member_octets, value_octets, with_symbols}
 use Rattle.ion_binary.specs.Writing.{Written, after_all, all_closed, at_begin, first_over, head_symbols, item_symbols, own_octets, refused_at, refused_by, too_long}
 use Rattle.ion_binary.specs.WritingLaws.{last_size}
-use Rattle.ion_binary.specs.Refusals.{ItemsAreRefusedAsInTrees, refused_behind, texts_behind, texts_left}
+use Rattle.ion_binary.specs.Refusals.{ItemsAreRefusedAsInTrees, refused_after, texts_after, texts_left}
 use Rattle.ion_binary.proofs.KnownIds.{extends_all, with_symbols-append}
 use Rattle.ion_binary.proofs.WholeValues.{after_all_tops, forgotten, nothing_open, written}
 use Rattle.ion_binary.proofs.ClosedSize.{after_open_path, around_it, closed-inside, innermost, last-size, nest_texts}
@@ -24,24 +24,24 @@ UserItem = Item UserSymbol ℕ
 abbrev UserMembers : Type 0
 UserMembers = Members UserSymbol ℕ
 
--- ---- the texts behind a closing
+-- ---- the texts after a closing
 
 texts-last : (m : ℕ) (texts : List (List ℕ)) (ts : List (Top UserSymbol ℕ)) (t : Top UserSymbol ℕ)
-    → texts_behind m texts (ts ++ t ∷ []) ≡ texts_behind m (texts_behind m texts ts) (t ∷ [])
+    → texts_after m texts (ts ++ t ∷ []) ≡ texts_after m (texts_after m texts ts) (t ∷ [])
 texts-last m texts [] t = refl
 texts-last m texts (version place ∷ ts) t = texts-last m texts ts t
 texts-last m texts (tree first annotations place x ∷ ts) t = texts-last m (with_symbols (texts_left m texts) (value_symbols None annotations x)) ts t
 
--- the texts of open containers behind whole values
+-- the texts of open containers after whole values
 abbrev open_texts : ℕ → List (Top UserSymbol ℕ) → Nest UserSymbol ℕ → List (List ℕ)
-open_texts m tops nest = nest_texts (texts_left m (texts_behind m [] tops)) nest
+open_texts m tops nest = nest_texts (texts_left m (texts_after m [] tops)) nest
 
--- symbols that are added to the innermost container's members come behind them
+-- symbols that are added to the innermost container's members come after them
 texts-closed : (m : ℕ) (tops : List (Top UserSymbol ℕ)) (first last : ℕ) (nest : Nest UserSymbol ℕ) (add : UserMembers → UserMembers)
     (more : List UserSymbol) → ((ms : UserMembers) → members_symbols (add ms) ≡ members_symbols ms ++ more)
-    → texts_behind m [] (close_all tops first last add nest) ≡ with_symbols (open_texts m tops nest) more
+    → texts_after m [] (close_all tops first last add nest) ≡ with_symbols (open_texts m tops nest) more
 texts-closed m tops first last (outermost annotations p k ms) add more h =
-    let kept : List (List ℕ) = texts_left m (texts_behind m [] tops) in
+    let kept : List (List ℕ) = texts_left m (texts_after m [] tops) in
     let own : List UserSymbol = annotations ++ [] in
     texts-last m [] tops (tree first annotations p (container k (add ms) last))
     ∙ (ap (λ (ss : List UserSymbol). with_symbols kept (own ++ ss)) (h ms)
@@ -57,13 +57,13 @@ texts-closed m tops first last (inner around f annotations p k ms) add more h =
 
 -- nothing is added
 texts-nest : (m : ℕ) (tops : List (Top UserSymbol ℕ)) (first last : ℕ) (nest : Nest UserSymbol ℕ)
-    → texts_behind m [] (close_all tops first last (λ ms. ms) nest) ≡ open_texts m tops nest
+    → texts_after m [] (close_all tops first last (λ ms. ms) nest) ≡ open_texts m tops nest
 texts-nest m tops first last nest = texts-closed m tops first last nest (λ ms. ms) [] (λ ms. sym (append-nil (members_symbols ms)))
 
 -- a member more
 texts-member : (m : ℕ) (tops : List (Top UserSymbol ℕ)) (first last : ℕ) (nest : Nest UserSymbol ℕ) (f : Option UserSymbol) (annotations : List UserSymbol)
     (p : ℕ) (v : Value UserSymbol ℕ)
-    → texts_behind m [] (closing last (opened tops first (path.with_member nest f annotations p v)))
+    → texts_after m [] (closing last (opened tops first (path.with_member nest f annotations p v)))
     ≡ with_symbols (open_texts m tops nest) (value_symbols f annotations v)
 texts-member m tops first last (outermost own q k ms) f annotations p v =
     texts-closed m tops first last (outermost own q k ms) (λ before. member before f annotations p v) (value_symbols f annotations v) (λ before. refl)
@@ -72,7 +72,7 @@ texts-member m tops first last (inner around g own q k ms) f annotations p v =
 
 -- the innermost container ends
 texts-end : (m : ℕ) (tops : List (Top UserSymbol ℕ)) (first last : ℕ) (nest : Nest UserSymbol ℕ) (p : ℕ)
-    → texts_behind m [] (closing last (path.with_end tops first nest p)) ≡ open_texts m tops nest
+    → texts_after m [] (closing last (path.with_end tops first nest p)) ≡ open_texts m tops nest
 texts-end m tops first last (outermost own q k ms) p = texts-nest m tops first p (outermost own q k ms)
 texts-end m tops first last (inner around g own q k ms) p =
     texts-member m tops first last around g own q (container k ms p)
@@ -97,7 +97,7 @@ top_items-last (s ∷ ts) t = ap (λ is. one_top s ++ is) (top_items-last ts t) 
 only-item : (tops : List (Top UserSymbol ℕ)) (t : Top UserSymbol ℕ) (i : UserItem) → top_items (tops ++ t ∷ []) ≡ top_items tops ++ i ∷ [] → one_top t ≡ i ∷ []
 only-item tops t i e = append_cancel_left (top_items tops) (one_top t) (i ∷ []) (sym (top_items-last tops t) ∙ e)
 
--- the items of a member come behind those of the containers that are open around it
+-- the items of a member come after those of the containers that are open around it
 nest_items-member : (first : ℕ) (nest : Nest UserSymbol ℕ) (f : Option UserSymbol) (annotations : List UserSymbol) (p : ℕ) (v : Value UserSymbol ℕ)
     → nest_items first (path.with_member nest f annotations p v) ≡ nest_items first nest ++ value_items first f annotations p v
 nest_items-member first (outermost own q k ms) f annotations p v = refl
@@ -142,23 +142,23 @@ judged limits item size texts = refused_by limits.value size item.top (first_ove
 
 -- as a value begins
 size-first : (m : ℕ) (tops : List (Top UserSymbol ℕ)) (annotations : List UserSymbol) (p top : ℕ) (h : Head UserSymbol) (v : Value UserSymbol ℕ)
-    → (let t = texts_behind m [] tops in
-    let all = texts_behind m [] (tops ++ tree top annotations p v ∷ []) in
+    → (let t = texts_after m [] tops in
+    let all = texts_after m [] (tops ++ tree top annotations p v ∷ []) in
     (with_symbols (texts_left m t) (annotations ++ head_symbols h) ≡ with_symbols (texts_left m t) (value_symbols None annotations v))
     → ((ids : UserSymbol → ℕ) → own_octets ids None annotations h ≡ member_octets ids None annotations (value_octets ids v))
     → length (own_octets (id_in (with_symbols (texts_left m t) (annotations ++ head_symbols h))) None annotations h)
     ≡ last_size (id_in all) (tops ++ tree top annotations p v ∷ []))
 size-first m tops annotations p top h v texts octets =
-    let t : List (List ℕ) = texts_behind m [] tops in
+    let t : List (List ℕ) = texts_after m [] tops in
     let last : Top UserSymbol ℕ = tree top annotations p v in
-    let all : List (List ℕ) = texts_behind m [] (tops ++ last ∷ []) in
+    let all : List (List ℕ) = texts_after m [] (tops ++ last ∷ []) in
     ap (λ (u : List (List ℕ)). length (own_octets (id_in u) None annotations h)) (texts ∙ sym (texts-last m [] tops last))
     ∙ (ap length (octets (id_in all)) ∙ sym (last-size (id_in all) 0 tops last))
 
 refused-first : (limits : Limits) (tops : List (Top UserSymbol ℕ)) (f : Option SymbolAt) (annotations : List SymbolAt) (p top : ℕ) (h : Head SymbolAt)
     → IsNext (closed tops) (user_item (placed f annotations p top h))
-    → refused_at limits (nothing_open (texts_behind limits.symbols [] tops) (binary limits.symbols tops)) (placed f annotations p top h)
-    ≡ refused_behind limits (closed tops) (placed f annotations p top h)
+    → refused_at limits (nothing_open (texts_after limits.symbols [] tops) (binary limits.symbols tops)) (placed f annotations p top h)
+    ≡ refused_after limits (closed tops) (placed f annotations p top h)
 refused-first limits tops (Some s) annotations p top (value.whole body) next =
     absurd (has-field (user_symbol_at s) (ap first_field (only-item tops (tree top (map user_symbol_at annotations) p (scalar (map_scalar user_symbol_at body))) (user_item (placed (Some s) annotations p top (value.whole body))) next)))
 refused-first limits tops (Some s) annotations p top (value.begin k) next =
@@ -171,11 +171,11 @@ refused-first limits tops None (a ∷ annotations) p top value.marker next =
     absurd (has-annotations (user_symbol_at a) (map user_symbol_at annotations)
     (ap first_annotations (only-item tops (version p) (user_item (placed None (a ∷ annotations) p top value.marker)) next)))
 refused-first limits tops None [] p top value.marker next =
-    let all : List (List ℕ) = texts_behind limits.symbols [] (tops ++ version p ∷ []) in
+    let all : List (List ℕ) = texts_after limits.symbols [] (tops ++ version p ∷ []) in
     ap (λ n. too_long limits.value n top) (sym (last-size (id_in all) 0 tops (version p)))
 refused-first limits tops None annotations p top (value.whole body) next =
     let m : ℕ = limits.symbols in
-    let t : List (List ℕ) = texts_behind m [] tops in
+    let t : List (List ℕ) = texts_after m [] tops in
     let item : PlacedItem = placed None annotations p top (value.whole body) in
     let i : UserItem = user_item item in
     let v : Value UserSymbol ℕ = scalar (map_scalar user_symbol_at body) in
@@ -184,7 +184,7 @@ refused-first limits tops None annotations p top (value.whole body) next =
     ∙ ap (λ n. judged limits item n (texts_left m t)) (size-first m tops i.annotations p top i.head v refl (λ ids. refl))
 refused-first limits tops None annotations p top (value.begin k) next =
     let m : ℕ = limits.symbols in
-    let t : List (List ℕ) = texts_behind m [] tops in
+    let t : List (List ℕ) = texts_after m [] tops in
     let item : PlacedItem = placed None annotations p top (value.begin k) in
     let i : UserItem = user_item item in
     let v : Value UserSymbol ℕ = container k nothing p in
@@ -206,7 +206,7 @@ no-symbols p q first (Some s) annotations e = absurd (has-field (user_symbol_at 
 texts-with : (m : ℕ) (tops : List (Top UserSymbol ℕ)) (first : ℕ) (nest : Nest UserSymbol ℕ) (f : Option SymbolAt) (annotations : List SymbolAt) (p top : ℕ)
     (h : Head SymbolAt) → (let i = user_item (placed f annotations p top h) in
     IsNext (opened tops first nest) i
-    → with_symbols (open_texts m tops nest) (item_symbols i) ≡ texts_behind m [] (closing p (with_item (opened tops first nest) i)))
+    → with_symbols (open_texts m tops nest) (item_symbols i) ≡ texts_after m [] (closing p (with_item (opened tops first nest) i)))
 texts-with m tops first nest f annotations p top (value.whole body) next =
     let i : UserItem = user_item (placed f annotations p top (value.whole body)) in
     sym (texts-member m tops first p nest i.field i.annotations p (scalar (map_scalar user_symbol_at body)))
@@ -235,7 +235,7 @@ refused-inside : (limits : Limits) (tops : List (Top UserSymbol ℕ)) (first : �
     let u = with_symbols (open_texts limits.symbols tops nest) (item_symbols (user_item item)) in
     IsNext (opened tops first nest) (user_item item)
     → refused_at limits (written (open_texts limits.symbols tops nest) n due (innermost (id_in u) nest ∷ around_it (id_in u) nest) out) item
-    ≡ refused_behind limits (opened tops first nest) item)
+    ≡ refused_after limits (opened tops first nest) item)
 refused-inside limits tops first nest n due out f annotations p top h next =
     let m : ℕ = limits.symbols in
     let item : PlacedItem = placed f annotations p top h in
@@ -245,7 +245,7 @@ refused-inside limits tops first nest n due out f annotations p top h next =
     ∙ ap (λ (u : List (List ℕ)). last_size (id_in u) (closing p (with_item (opened tops first nest) i))) (texts-with m tops first nest f annotations p top h next))
     (sym (texts-nest m tops first first nest))
 
--- ---- behind the items of any path
+-- ---- after the items of any path
 
 pub items_are_refused_as_in_trees : ItemsAreRefusedAsInTrees
 items_are_refused_as_in_trees limits (closed tops) before item e next =
@@ -255,7 +255,7 @@ items_are_refused_as_in_trees limits (closed tops) before item e next =
     ∙ refused-first limits tops item.field item.annotations item.place item.top item.head next)
 items_are_refused_as_in_trees limits (opened tops first nest) before item e next =
     let m : ℕ = limits.symbols in
-    let t : List (List ℕ) = texts_behind m [] tops in
+    let t : List (List ℕ) = texts_after m [] tops in
     let inside : List (List ℕ) = open_texts m tops nest in
     let own : List UserSymbol = item_symbols (user_item item) in
     ap (λ (is : List UserItem). refused_at limits (after_all m at_begin is) item) e

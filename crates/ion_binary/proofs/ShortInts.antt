@@ -24,8 +24,8 @@ uint-all (suc k) n =
     rw (length-bytes_high_first k n, byte_at-div k n, uint-all k n, e, split, pow-256 k) refl
 
 -- a number of m bits in k octets has z zeros before those bits
-shortest-behind : (k n z m : ℕ) → z + m ≡ 8 * k → n < 2 ^ m → 2 ^ m ≤ 2 * n + 1 → ShortestUInt n (drop (z / 8) (bytes_high_first k n))
-shortest-behind k n z m whole small least =
+shortest-after : (k n z m : ℕ) → z + m ≡ 8 * k → n < 2 ^ m → 2 ^ m ≤ 2 * n + 1 → ShortestUInt n (drop (z / 8) (bytes_high_first k n))
+shortest-after k n z m whole small least =
     let all : List ℕ = bytes_high_first k n in
     let long : length all ≡ k = length-bytes_high_first k n in
     let len : ℕ = k - z / 8 in
@@ -98,5 +98,5 @@ shifted-uint n z all small is spelled =
     let all_bits : gap + m ≡ 8 * k = omega (arith, is, whole, few) in
     let none : gap / 8 ≡ 0 = omega (arith, is, whole, few) in
     let shortest : ShortestUInt n (bytes_high_first k n) =
-    subst (λ (i : ℕ). ShortestUInt n (drop i (bytes_high_first k n))) none (shortest-behind k n gap m all_bits bits.2 bits.3) in
+    subst (λ (i : ℕ). ShortestUInt n (drop i (bytes_high_first k n))) none (shortest-after k n gap m all_bits bits.2 bits.3) in
     ap (take k) spelled ∙ (there ∙ uint-spelled n (bytes_high_first k n) shortest)

@@ -143,7 +143,7 @@ decimal-few d run range e few =
 
 -- ---- timestamps
 
--- a fraction has no more digits than stand behind the minute
+-- a fraction has no more digits than stand after the minute
 abbrev FewDigits : List ℕ → Timestamp → Type 0
 FewDigits run t = (n : ℕ) → t.precision ≡ Fraction n → n ≤ length run - 16
 

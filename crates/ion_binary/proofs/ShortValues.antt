@@ -62,28 +62,28 @@ declaration-by ts false e h =
     let all = length-append (declaration_front (length strings)) strings in
     subst (λ (d : List ℕ). length d < 2 ^ 62) (sym (declaration-some ts e)) (omega (arith, s, f, h, all))
 
-short-behind : (limits : Limits) → AreChecked limits → (texts : List (List ℕ)) (tops : List (Top UserSymbol ℕ)) → AreWithin limits texts tops → AreShort limits.symbols texts tops
-short-behind limits checked texts [] w = tt
-short-behind limits checked texts (version place ∷ ts) w = short-behind limits checked texts ts w
-short-behind limits checked texts (tree first annotations place x ∷ ts) w =
+short-after : (limits : Limits) → AreChecked limits → (texts : List (List ℕ)) (tops : List (Top UserSymbol ℕ)) → AreWithin limits texts tops → AreShort limits.symbols texts tops
+short-after limits checked texts [] w = tt
+short-after limits checked texts (version place ∷ ts) w = short-after limits checked texts ts w
+short-after limits checked texts (tree first annotations place x ∷ ts) w =
     let kept : List (List ℕ) = texts_left limits.symbols texts in
     let all : List (List ℕ) = with_symbols kept (value_symbols None annotations x) in
     let most = checked.symbols in
     let size = checked.value in
     let cost : texts_cost all ≤ limits.symbols = w.0 in
     let value = w.1 in
-    let behind : texts_cost (drop (length kept) all) ≤ texts_cost all = cost-drop (length kept) all in
+    let after : texts_cost (drop (length kept) all) ≤ texts_cost all = cost-drop (length kept) all in
     let new : List (List ℕ) = drop (length kept) all in
     let few : length all ≤ texts_cost all = few-texts all in (
-      declaration-by new (is_none_left new) refl (omega (arith, behind, cost, most)),
+      declaration-by new (is_none_left new) refl (omega (arith, after, cost, most)),
       (
         omega (arith, value, size),
         (
           omega (arith, few, cost, most),
-          short-behind limits checked all ts w.2,
+          short-after limits checked all ts w.2,
         ),
       ),
     )
 
 pub what_is_within_is_short : WhatIsWithinIsShort
-what_is_within_is_short limits tops checked w = short-behind limits checked [] tops w
+what_is_within_is_short limits tops checked w = short-after limits checked [] tops w

@@ -32,10 +32,10 @@ use Rattle.ion_binary.proofs.VarLoop.{var_from-ends, var_from-goes_on, var_uint_
 
 -- ---- octets
 
--- a region that reaches behind an octet has not ended before it
-open_before : (r : Region) (place behind : ℕ) → place < behind → Reaches r behind → is_at_end r place ≡ false
-open_before None place behind h reaches = refl
-open_before (Some end) place behind h reaches = lt-leb end place (omega arith)
+-- a region that reaches after an octet has not ended before it
+open_before : (r : Region) (place after : ℕ) → place < after → Reaches r after → is_at_end r place ≡ false
+open_before None place after h reaches = refl
+open_before (Some end) place after h reaches = lt-leb end place (omega arith)
 
 pub reaches-less : (r : Region) (near far : ℕ) → near ≤ far → Reaches r far → Reaches r near
 reaches-less None near far h reaches = tt
@@ -47,9 +47,9 @@ bounds-reaches None most place bounds h = tt
 bounds-reaches (Some end) most place bounds h = omega (arith, bounds, h)
 
 -- what is within the bound of a region is within the region
-pub body_within : {limits : Limits} {octets : List ℕ} {here type_code length_code at behind : ℕ} {found : Shown} (region : Region) (most : ℕ) → Bounds region most
-    → ShowsBody limits octets here (Some most) type_code length_code at behind found → ShowsBody limits octets here region type_code length_code at behind found
-body_within {here = here} {behind = behind} region most bounds s = record {
+pub body_within : {limits : Limits} {octets : List ℕ} {here type_code length_code at after : ℕ} {found : Shown} (region : Region) (most : ℕ) → Bounds region most
+    → ShowsBody limits octets here (Some most) type_code length_code at after found → ShowsBody limits octets here region type_code length_code at after found
+body_within {here = here} {after = after} region most bounds s = record {
   scalar = s.scalar;
   is = s.is;
   range = s.range;
@@ -59,18 +59,18 @@ body_within {here = here} {behind = behind} region most bounds s = record {
   ends = s.ends;
   within = s.within;
   few = s.few;
-  reaches = bounds-reaches region most (here + behind) bounds s.reaches;
+  reaches = bounds-reaches region most (here + after) bounds s.reaches;
   meaning = s.meaning;
 }
 
-pub begin_within : {limits : Limits} {octets : List ℕ} {here depth length_code at behind : ℕ} {kind : Kind} {found : Shown} (region : Region) (most : ℕ) → Bounds region most
-    → ShowsBegin limits octets here (Some most) depth kind length_code at behind found → ShowsBegin limits octets here region depth kind length_code at behind found
-begin_within {here = here} {behind = behind} region most bounds s = record {
+pub begin_within : {limits : Limits} {octets : List ℕ} {here depth length_code at after : ℕ} {kind : Kind} {found : Shown} (region : Region) (most : ℕ) → Bounds region most
+    → ShowsBegin limits octets here (Some most) depth kind length_code at after found → ShowsBegin limits octets here region depth kind length_code at after found
+begin_within {here = here} {after = after} region most bounds s = record {
   number = s.number;
   is = s.is;
   length_is = s.length_is;
   deep = s.deep;
-  reaches = bounds-reaches region most (here + behind + s.number) bounds s.reaches;
+  reaches = bounds-reaches region most (here + after + s.number) bounds s.reaches;
 }
 
 -- the first of the octets from a place on
@@ -116,9 +116,9 @@ length_code_shown octets length_code at h few = record {
 }
 
 -- and one that follows its descriptor
-pub length_shown : (octets : List ℕ) (length_code at behind number : ℕ) → length_code ≡ 14 → ShowsVar octets at behind number → ShowsLength octets length_code at behind number
+pub length_shown : (octets : List ℕ) (length_code at after number : ℕ) → length_code ≡ 14 → ShowsVar octets at after number → ShowsLength octets length_code at after number
 unfolding length_at
-length_shown octets length_code at behind number is v = record {
+length_shown octets length_code at after number is v = record {
   further = omega (arith, v.further);
   within = v.within;
   gives = λ here more r reaches. rw is (v.gives here more r reaches);
@@ -201,7 +201,7 @@ wrappable b s small e begins =
     let this : (begins_value s && is_unwrappable b) ≡ false = ap (λ x. begins_value x && is_unwrappable b) (sym e) ∙ all in
     ap (λ x. x && is_unwrappable b) (sym begins) ∙ this
 
--- a part behind its descriptor, by what that says
+-- a part after its descriptor, by what that says
 typed_shown : (limits : Limits) (w : Bool) (r : Region) (depth b : ℕ) (c : Cursor) {x : Result (TypedValue × Cursor) Reason} → is_unwrappable b ≡ false
     → read_by_descriptor limits (record { wrapped = w; region = r; depth = depth }) (shape_of b) c ≡ x
     → typed_value_at limits (record { wrapped = w; region = r; depth = depth }) b c ≡ x
@@ -224,14 +224,14 @@ bare_shown false r depth v c full = refl
 bare_shown true None depth v c full = absurd full
 bare_shown true (Some end) depth v c full = let whole : ltb (c.place + 0) end ≡ false = le-ltb (c.place + 0) end (omega (arith, full)) in rw whole refl
 
--- what is read behind a descriptor is a value that is shown
-shows_by : (limits : Limits) (octets : List ℕ) (here : ℕ) (r : Region) (depth at behind : ℕ) (found : Shown) (b : ℕ)
-    → at < length octets → get_or octets at 0 ≡ b → wrapper_length (shape_of b) ≡ None → is_unwrappable b ≡ false → at + 1 ≤ behind → behind ≤ length octets → IsShown limits depth found
+-- what is read after a descriptor is a value that is shown
+shows_by : (limits : Limits) (octets : List ℕ) (here : ℕ) (r : Region) (depth at after : ℕ) (found : Shown) (b : ℕ)
+    → at < length octets → get_or octets at 0 ≡ b → wrapper_length (shape_of b) ≡ None → is_unwrappable b ≡ false → at + 1 ≤ after → after ≤ length octets → IsShown limits depth found
     → Reaches r (here + (at + 1))
-    → ((w : Bool) (more : List ℕ) → Fills w r (far_end here behind found)
-    → read_by_descriptor limits (record { wrapped = w; region = r; depth = depth }) (shape_of b) (skip (at + 1) (window here octets more)) ≡ Ok (shown_value found, skip behind (window here octets more)))
-    → ShowsValue limits octets here r depth at behind found
-shows_by limits octets here r depth at behind found b h is plain free further within may reaches read = record {
+    → ((w : Bool) (more : List ℕ) → Fills w r (far_end here after found)
+    → read_by_descriptor limits (record { wrapped = w; region = r; depth = depth }) (shape_of b) (skip (at + 1) (window here octets more)) ≡ Ok (shown_value found, skip after (window here octets more)))
+    → ShowsValue limits octets here r depth at after found
+shows_by limits octets here r depth at after found b h is plain free further within may reaches read = record {
   further = further;
   within = within;
   may_be = may;
@@ -271,65 +271,65 @@ body_shown limits octets more here from n type_code v h few meaning =
     let reads : scalar_of_body type_code (take n (drop from (octets ++ more))) ≡ Ok v = ap (scalar_of_body type_code) (body_octets octets more from n h) ∙ meaning in
     rw (short, there, reads) refl
 
-skip-skip : (octets more : List ℕ) (here m n behind : ℕ) → behind ≡ m + n → skip n (skip m (window here octets more)) ≡ skip behind (window here octets more)
-skip-skip octets more here m n behind e =
-    let place : here + m + n ≡ here + behind = omega arith in
-    let rest : drop n (drop m (octets ++ more)) ≡ drop behind (octets ++ more) = drop-drop n m (octets ++ more) ∙ ap (λ k. drop k (octets ++ more)) (omega arith) in
+skip-skip : (octets more : List ℕ) (here m n after : ℕ) → after ≡ m + n → skip n (skip m (window here octets more)) ≡ skip after (window here octets more)
+skip-skip octets more here m n after e =
+    let place : here + m + n ≡ here + after = omega arith in
+    let rest : drop n (drop m (octets ++ more)) ≡ drop after (octets ++ more) = drop-drop n m (octets ++ more) ∙ ap (λ k. drop k (octets ++ more)) (omega arith) in
     rw (place, rest) refl
 
 -- a scalar with a body
-pub shows_body : (limits : Limits) (octets : List ℕ) (here : ℕ) (r : Region) (depth at behind type_code length_code : ℕ) (found : Shown) (b : ℕ)
-    → at < length octets → b < 256 → get_or octets at 0 ≡ b → shape_of b ≡ body type_code length_code → ShowsBody limits octets here r type_code length_code at behind found
-    → ShowsValue limits octets here r depth at behind found
+pub shows_body : (limits : Limits) (octets : List ℕ) (here : ℕ) (r : Region) (depth at after type_code length_code : ℕ) (found : Shown) (b : ℕ)
+    → at < length octets → b < 256 → get_or octets at 0 ≡ b → shape_of b ≡ body type_code length_code → ShowsBody limits octets here r type_code length_code at after found
+    → ShowsValue limits octets here r depth at after found
 unfolding read_by_descriptor
-shows_body limits octets here r depth at behind type_code length_code found b h small is shape s =
+shows_body limits octets here r depth at after type_code length_code found b h small is shape s =
     let longer : at + 1 ≤ s.from = s.length_is.further in
-    let near : Reaches r (here + (at + 1)) = reaches-less r (here + (at + 1)) (here + behind) (omega (arith, s.ends)) s.reaches in
-    let header : Reaches r (here + s.from) = reaches-less r (here + s.from) (here + behind) (omega (arith, s.ends)) s.reaches in
-    let whole : Reaches r (here + s.from + s.number) = reaches-less r (here + s.from + s.number) (here + behind) (omega (arith, s.ends)) s.reaches in
+    let near : Reaches r (here + (at + 1)) = reaches-less r (here + (at + 1)) (here + after) (omega (arith, s.ends)) s.reaches in
+    let header : Reaches r (here + s.from) = reaches-less r (here + s.from) (here + after) (omega (arith, s.ends)) s.reaches in
+    let whole : Reaches r (here + s.from + s.number) = reaches-less r (here + s.from + s.number) (here + after) (omega (arith, s.ends)) s.reaches in
     let range : IsShown limits depth found = subst (λ f. IsShown limits depth f) (sym s.is) s.range in
-    let far : here + behind ≡ here + s.from + s.number = omega (arith, s.ends) in
-    shows_by limits octets here r depth at behind found b h is (ap wrapper_length shape) (wrappable b (body type_code length_code) small shape refl) (omega (arith, s.ends)) s.within range near
+    let far : here + after ≡ here + s.from + s.number = omega (arith, s.ends) in
+    shows_by limits octets here r depth at after found b h is (ap wrapper_length shape) (wrappable b (body type_code length_code) small shape refl) (omega (arith, s.ends)) s.within range near
     (λ w more full. rw (shape, s.is)
     (scalar_at-body limits (record { wrapped = w; region = r; depth = depth }) type_code length_code (skip (at + 1) (window here octets more)) s.number (skip s.from (window here octets more)) tt
-    (s.length_is.gives here more r header) (fits_shown w r depth (here + s.from) s.number whole (subst (λ n. Fills w r n) (ap (far_end here behind) s.is ∙ far) full))
+    (s.length_is.gives here more r header) (fits_shown w r depth (here + s.from) s.number whole (subst (λ n. Fills w r n) (ap (far_end here after) s.is ∙ far) full))
     ∙ rw (body_shown limits octets more here s.from s.number type_code (shown_scalar s.scalar) (omega (arith, s.ends, s.within)) s.few s.meaning)
-    (ap (λ c. Ok (a_scalar (shown_scalar s.scalar), c)) (skip-skip octets more here s.from s.number behind s.ends))))
+    (ap (λ c. Ok (a_scalar (shown_scalar s.scalar), c)) (skip-skip octets more here s.from s.number after s.ends))))
 
 -- a container's beginning
 ends_shown : (limits : Limits) (w : Bool) (r : Region) (depth place n : ℕ) → Reaches r (place + n) → Fills w r (place + n) → depth < limits.depth
     → end_by limits (record { wrapped = w; region = r; depth = depth }) place n ≡ Ok (place + n)
 ends_shown limits w r depth place n reaches full deep = let no : leb limits.depth depth ≡ false = lt-leb limits.depth depth deep in rw (fits_shown w r depth place n reaches full, no) refl
 
-pub shows_begin : (limits : Limits) (octets : List ℕ) (here : ℕ) (r : Region) (depth at behind length_code : ℕ) (kind : Kind) (found : Shown) (b : ℕ)
-    → at < length octets → b < 256 → get_or octets at 0 ≡ b → shape_of b ≡ container kind length_code → ShowsBegin limits octets here r depth kind length_code at behind found
-    → ShowsValue limits octets here r depth at behind found
+pub shows_begin : (limits : Limits) (octets : List ℕ) (here : ℕ) (r : Region) (depth at after length_code : ℕ) (kind : Kind) (found : Shown) (b : ℕ)
+    → at < length octets → b < 256 → get_or octets at 0 ≡ b → shape_of b ≡ container kind length_code → ShowsBegin limits octets here r depth kind length_code at after found
+    → ShowsValue limits octets here r depth at after found
 unfolding read_by_descriptor
-shows_begin limits octets here r depth at behind length_code kind found b h small is shape s =
-    let longer : at + 1 ≤ behind = s.length_is.further in
-    let near : Reaches r (here + (at + 1)) = reaches-less r (here + (at + 1)) (here + behind + s.number) (omega arith) s.reaches in
-    let header : Reaches r (here + behind) = reaches-less r (here + behind) (here + behind + s.number) (omega arith) s.reaches in
+shows_begin limits octets here r depth at after length_code kind found b h small is shape s =
+    let longer : at + 1 ≤ after = s.length_is.further in
+    let near : Reaches r (here + (at + 1)) = reaches-less r (here + (at + 1)) (here + after + s.number) (omega arith) s.reaches in
+    let header : Reaches r (here + after) = reaches-less r (here + after) (here + after + s.number) (omega arith) s.reaches in
     let may : IsShown limits depth found = subst (λ f. IsShown limits depth f) (sym s.is) s.deep in
-    shows_by limits octets here r depth at behind found b h is (ap wrapper_length shape) (wrappable b (container kind length_code) small shape refl) longer s.length_is.within may near
+    shows_by limits octets here r depth at after found b h is (ap wrapper_length shape) (wrappable b (container kind length_code) small shape refl) longer s.length_is.within may near
     (λ w more full. rw (shape, s.is)
-    (container_at-begun limits (record { wrapped = w; region = r; depth = depth }) kind length_code (skip (at + 1) (window here octets more)) s.number (skip behind (window here octets more))
-    (here + behind + s.number) (s.length_is.gives here more r header)
-    (ends_shown limits w r depth (here + behind) s.number s.reaches (subst (λ n. Fills w r n) (ap (far_end here behind) s.is) full) s.deep)))
+    (container_at-begun limits (record { wrapped = w; region = r; depth = depth }) kind length_code (skip (at + 1) (window here octets more)) s.number (skip after (window here octets more))
+    (here + after + s.number) (s.length_is.gives here more r header)
+    (ends_shown limits w r depth (here + after) s.number s.reaches (subst (λ n. Fills w r n) (ap (far_end here after) s.is) full) s.deep)))
 
 -- ---- annotations
 
 -- the lengths of a wrapper, and its one id or two, of which the first ends at `first`
-pub shows_note : (limits : Limits) (octets : List ℕ) (here : ℕ) (r : Region) (at behind first length_code count ids b : ℕ) (n : ShownNote)
-    → at < length octets → get_or octets at 0 ≡ b → wrapper_length (shape_of b) ≡ Some length_code → ShowsLength octets length_code (at + 1) behind count → ShowsVar octets behind n.from ids
-    → ShowsVar octets n.from first n.id → ShowsSecond octets first n.second n.inner → n.end ≡ here + behind + count → 32 ≤ limits.scalar → 3 ≤ count → n.from + ids ≡ n.inner → 0 < ids → here + n.inner < n.end → Reaches r n.end
+pub shows_note : (limits : Limits) (octets : List ℕ) (here : ℕ) (r : Region) (at after first length_code count ids b : ℕ) (n : ShownNote)
+    → at < length octets → get_or octets at 0 ≡ b → wrapper_length (shape_of b) ≡ Some length_code → ShowsLength octets length_code (at + 1) after count → ShowsVar octets after n.from ids
+    → ShowsVar octets n.from first n.id → ShowsSecond octets first n.second n.inner → n.end ≡ here + after + count → 32 ≤ limits.scalar → 3 ≤ count → n.from + ids ≡ n.inner → 0 < ids → here + n.inner < n.end → Reaches r n.end
     → ShowsNote limits octets here r at n
-shows_note limits octets here r at behind first length_code count ids b n h is wraps l v i s e few long fills some room reaches =
+shows_note limits octets here r at after first length_code count ids b n h is wraps l v i s e few long fills some room reaches =
     let from = n.from in
     let inner = n.inner in
     let end = n.end in
     let before : first ≤ inner = second-further octets first inner n.second s in
     let near : Reaches r (here + (at + 1)) = reaches-less r (here + (at + 1)) end (omega (arith, l.further, v.further, i.further)) reaches in
-    let header : Reaches r (here + behind) = reaches-less r (here + behind) end (omega (arith, v.further, i.further)) reaches in
+    let header : Reaches r (here + after) = reaches-less r (here + after) end (omega (arith, v.further, i.further)) reaches in
     record {
       further = omega (arith, l.further, v.further, i.further);
       starts = omega (arith, i.further);
@@ -342,24 +342,24 @@ shows_note limits octets here r at behind first length_code count ids b n h is w
       is = wraps;
       lengths = λ more.
           let c = window here octets more in
-          let inside : Reaches (Some (here + behind + count)) (here + from) = omega arith in
-          let over : false ≡ passes r (here + behind) count = sym (passes-not r (here + behind) count (subst (λ n. Reaches r n) e reaches)) in
+          let inside : Reaches (Some (here + after + count)) (here + from) = omega arith in
+          let over : false ≡ passes r (here + after) count = sym (passes-not r (here + after) count (subst (λ n. Reaches r n) e reaches)) in
           let short : nat_lt count 3 ≡ false = le-ltb count 3 long in
           let none : nat_eq ids 0 ≡ false = ne_eqb ids 0 (λ e. omega (arith, e)) in
-          let last : nat_le (here + behind + count) (here + from + ids) ≡ false = lt-leb (here + behind + count) (here + from + ids) (omega arith) in
-          let bad : false ≡ (nat_lt count 3 || nat_eq ids 0 || nat_le (here + behind + count) (here + from + ids)) = rw (short, none, last) refl in
+          let last : nat_le (here + after + count) (here + from + ids) ≡ false = lt-leb (here + after + count) (here + from + ids) (omega arith) in
+          let bad : false ≡ (nat_lt count 3 || nat_eq ids 0 || nat_le (here + after + count) (here + from + ids)) = rw (short, none, last) refl in
           let where_ids : here + from + ids ≡ here + inner = omega arith in
-          wrapper_at-tested r length_code count ids (here + behind) (here + from) (skip (at + 1) c) (skip behind c) (skip from c) false false
-          (l.gives here more r header) refl (v.gives here more (Some (here + behind + count)) inside) refl over bad
-          ∙ ap (λ n. Ok (record { ids = n; end = here + behind + count }, skip from c)) where_ids
+          wrapper_at-tested r length_code count ids (here + after) (here + from) (skip (at + 1) c) (skip after c) (skip from c) false false
+          (l.gives here more r header) refl (v.gives here more (Some (here + after + count)) inside) refl over bad
+          ∙ ap (λ n. Ok (record { ids = n; end = here + after + count }, skip from c)) where_ids
           ∙ ap (λ n. Ok (record { ids = here + inner; end = n }, skip from c)) (sym e);
       ids = λ more. ids_shown limits octets more here first n (omega (arith, l.further, v.further)) i s before few;
     }
 
 -- a value with no annotation
-pub shows_plain : (limits : Limits) (octets : List ℕ) (here : ℕ) (r : Region) (depth at behind : ℕ) (found : Shown) → ShowsValue limits octets here r depth at behind found
-    → ShowsItem limits octets here r depth at at behind [] found
-shows_plain limits octets here r depth at behind found v = record {
+pub shows_plain : (limits : Limits) (octets : List ℕ) (here : ℕ) (r : Region) (depth at after : ℕ) (found : Shown) → ShowsValue limits octets here r depth at after found
+    → ShowsItem limits octets here r depth at at after [] found
+shows_plain limits octets here r depth at after found v = record {
   further = v.further;
   starts = omega (arith, v.further);
   within = v.within;
@@ -370,10 +370,10 @@ shows_plain limits octets here r depth at behind found v = record {
 }
 
 -- a value that fills a wrapper
-pub shows_noted : (limits : Limits) (octets : List ℕ) (here : ℕ) (r : Region) (depth at behind : ℕ) (note : ShownNote) (found : Shown) → ShowsNote limits octets here r at note
-    → ShowsValue limits octets here (Some note.end) depth note.inner behind found → note.end ≡ far_end here behind found
-    → ShowsItem limits octets here r depth at note.inner behind (noted_ids here note) found
-shows_noted limits octets here r depth at behind note found n v full = record {
+pub shows_noted : (limits : Limits) (octets : List ℕ) (here : ℕ) (r : Region) (depth at after : ℕ) (note : ShownNote) (found : Shown) → ShowsNote limits octets here r at note
+    → ShowsValue limits octets here (Some note.end) depth note.inner after found → note.end ≡ far_end here after found
+    → ShowsItem limits octets here r depth at note.inner after (noted_ids here note) found
+shows_noted limits octets here r depth at after note found n v full = record {
   further = omega (arith, n.further, v.further);
   starts = omega (arith, v.further);
   within = v.within;

@@ -4,7 +4,7 @@ use Rattle.ion_meter.specs.declared.fault.Reason.{Reason}
 use Rattle.ion_meter.specs.declared.limits.Limits.{Limits}
 use Rattle.ion_value.specs.Value.{SymbolAt, Top}
 use Rattle.ion_value.specs.Path.{Path, closed, path_items}
-use Rattle.ion_value.specs.Reading.{Reading, Finished, Stopped, items_of, Step, Ends, Stops, Gives, GoesOn, Leaves, behind_item, behind_nothing, next_reading, reading_for, Shrinks}
+use Rattle.ion_value.specs.Reading.{Reading, Finished, Stopped, items_of, Step, Ends, Stops, Gives, GoesOn, Leaves, after_item, after_nothing, next_reading, reading_for, Shrinks}
 use Rattle.ion_binary.specs.Positions.{Frame, State}
 use Rattle.ion_binary.specs.Reading.{step, size, start, reading}
 use Rattle.ion_binary.specs.Grammar.{Tops}
@@ -63,7 +63,7 @@ next_reading-leads bytes path s later (Stops reason place) at follows more = rec
   whole = λ e. absurd (not_finished reason place e);
 }
 next_reading-leads bytes path s later (Gives item after) at follows more =
-    let c = more after follows.0 (behind_item item after) follows.1 in
+    let c = more after follows.0 (after_item item after) follows.1 in
     record {
       next = c.next;
       place = c.place;
@@ -71,7 +71,7 @@ next_reading-leads bytes path s later (Gives item after) at follows more =
       items = c.items ∙ ap (λ items. items ++ items_of (later after)) follows.2 ∙ append_assoc (path_items path) (item ∷ []) (items_of (later after));
       whole = c.whole;
     }
-next_reading-leads bytes path s later (GoesOn after) at follows more = more after path (behind_nothing after) follows
+next_reading-leads bytes path s later (GoesOn after) at follows more = more after path (after_nothing after) follows
 
 module _ (bodies : Bodies) (shrinks : (limits : Limits) → Shrinks (step limits) size) where
   -- a reading with enough steps

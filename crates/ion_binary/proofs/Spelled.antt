@@ -66,7 +66,7 @@ VarUInt-pos n (x ∷ b) spells = omega arith
 
 -- ---- descriptors
 
--- a descriptor is an octet whose length code is short of 15, and the octets of a length; behind the octet its length is read
+-- a descriptor is an octet whose length code is short of 15, and the octets of a length; after the octet its length is read
 pub record Headed (t n : ℕ) (head : List ℕ) : Type 0 where
   pub length_code : ℕ
   pub more : List ℕ

@@ -38,7 +38,7 @@ annotated_at-spelled limits frames top f q length_code ids_end end p c annotatio
     ids_at-spelled limits ids_end ids_end 0 p annotations ids rest spells e (omega arith) (omega arith) in
     rw (wraps, read) refl
 
--- octets are the header of a wrapper: behind its descriptor octet its ids are read, and its value is read next, up to the wrapper's end
+-- octets are the header of a wrapper: after its descriptor octet its ids are read, and its value is read next, up to the wrapper's end
 pub record Wraps (limits : Limits) (q : ℕ) (annotations : List SymbolAt) (n : ℕ) (w : List ℕ) : Type 0 where
   pub first : ℕ
   pub length_code : ℕ
@@ -157,7 +157,7 @@ value_at-spelled limits frames top f _ _ _ v _ x rest (Annotated.wrapped q annot
 
 -- ---- members, and steps
 
--- a field and what stands behind it are read
+-- a field and what stands after it are read
 pub member_at-spelled : (limits : Limits) (frames : List Frame) (top q : ℕ) (f : Option SymbolAt) (b y : List ℕ) (r : Placed (Step State)) → FieldIn frames q f b → Holds (region_of frames) (q + length b)
     → value_at limits frames (top_of frames top q) f (cursor_at (q + length b) y) ≡ r → member_at limits frames top (cursor_at q (b ++ y)) ≡ r
 unfolding member_at

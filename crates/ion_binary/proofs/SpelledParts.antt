@@ -1,4 +1,4 @@
--- What the grammar has behind ids is found: scalars, NOP pads, version markers and the headers of containers.
+-- What the grammar has after ids is found: scalars, NOP pads, version markers and the headers of containers.
 use Rattle.std.proofs.Common.{◌≡◌, ◌≢◌, ℕ, suc, ◌+◌, ◌*◌, ◌/◌, ◌%◌, ◌<◌, ◌≤◌, ◌⊎◌, inl, inr, Bool, true, false, ◌&&◌, ltb, List, [], ◌∷◌, ◌++◌, length, Some, None, Ok, refl, sym, ap, ◌∙◌, subst, append_assoc, arith}
 use Rattle.std.proofs.lemmas.Bool.{lt-leb, le-ltb, ne_eqb}
 use Rattle.std.proofs.lemmas.List.{length-append, take_at, drop_at}
@@ -128,7 +128,7 @@ fills-not a q n h = both_not a.wrapped (falls_short a.region q n) (λ w. falls_s
 
 -- ---- what is found
 
--- octets are a part that is found, behind its descriptor octet, and that needs no wrapper
+-- octets are a part that is found, after its descriptor octet, and that needs no wrapper
 pub record Finds (limits : Limits) (a : Around) (q : ℕ) (f : TypedValue) (x : List ℕ) : Type 0 where
   pub first : ℕ
   pub more : List ℕ
@@ -202,7 +202,7 @@ read_by_descriptor-body : (limits : Limits) (a : Around) (t length_code n : ℕ)
 unfolding read_by_descriptor scalar_at
 read_by_descriptor-body limits a t length_code n c d e = rw e refl
 
--- a descriptor with a body behind it is found
+-- a descriptor with a body after it is found
 body-found : (limits : Limits) (a : Around) (t q : ℕ) (v : Scalar Symbol) (head b : List ℕ) → Headed t (length b) head → ((length_code : ℕ) → length_code < 15 → shape_by t length_code ≡ body t length_code)
     → (1 ≤ t) × (t < 14) → scalar_of_body t b ≡ Ok v → Suits a (q + length (head ++ b)) → length b ≤ limits.scalar → Finds limits a q (a_scalar v) (head ++ b)
 body-found limits a t q v head b headed shapes codes means h limit =
@@ -301,7 +301,7 @@ sorted_shape : shape_of 209 ≡ sorted
 unfolding shape_of
 sorted_shape = refl
 
--- a struct in order has its length behind the octet, and every other descriptor another octet
+-- a struct in order has its length after the octet, and every other descriptor another octet
 not_in_order : (t n : ℕ) (head : List ℕ) (headed : Headed t n head) → head ≢ 209 ∷ [] → ((headed.length_code ≡ n) × (headed.more ≡ [])) ⊎ (headed.length_code ≡ 14) → 16 * t + headed.length_code ≡ 209 → ⊥
 not_in_order t n head headed other (inl kept) e = other (headed.is ∙ ap (λ l. (16 * t + headed.length_code) ∷ l) kept.1 ∙ ap (λ b. b ∷ []) e)
 not_in_order t n head headed other (inr kept) e = omega arith

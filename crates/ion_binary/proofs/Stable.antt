@@ -11,7 +11,7 @@ use Rattle.ion_value.specs.Scalar.{scalar_of_body}
 use Rattle.ion_value.specs.Number.{var_uint}
 use Rattle.ion_value.specs.Value as value
 use Rattle.ion_value.specs.Value.{Symbol, SymbolAt, Scalar, PlacedItem}
-use Rattle.ion_value.specs.Reading.{Reading, Stopped, behind, Step, Ends, Stops, Gives, GoesOn, next_reading, reading_for, reading_by, Shrinks}
+use Rattle.ion_value.specs.Reading.{Reading, Stopped, items_then, Step, Ends, Stops, Gives, GoesOn, next_reading, reading_for, reading_by, Shrinks}
 use Rattle.ion_value.proofs.Readings.{reading_by-step}
 use Rattle.ion_binary.specs.Positions.{symbol_id, Frame, State}
 use Rattle.ion_meter.specs.Sources.{Cursor, skip}
@@ -23,7 +23,7 @@ use Rattle.ion_binary.proofs.Complete.{Shrinking}
 
 -- ---- one result, and the one where more bytes follow
 
--- the same with more behind it, or the same fault, or a fault that the bytes' end makes
+-- the same with more after it, or the same fault, or a fault that the bytes' end makes
 data Grows {A E : Type 0} (T : E → Type 0) (G : A → A) : Result A E → Result A E → Type 0 where
   ok : (x : A) → Grows T G (Ok x) (Ok (G x))
   err : (e : E) → Grows T G (Err e) (Err e)
@@ -60,8 +60,8 @@ part-Grows G place _ _ (ended e r is) = ended (e, place) (part place r) is
 abbrev extend : List ℕ → Cursor → Cursor
 extend more c = record { place = c.place; rest = c.rest ++ more }
 
-abbrev extend_behind : {A : Type 0} → List ℕ → A × Cursor → A × Cursor
-extend_behind more p = (p.0, extend more p.1)
+abbrev extend_after : {A : Type 0} → List ℕ → A × Cursor → A × Cursor
+extend_after more p = (p.0, extend more p.1)
 
 abbrev extend_state : List ℕ → State → State
 extend_state more s = record { frames = s.frames; top = s.top; cursor = extend more s.cursor }
@@ -75,113 +75,113 @@ extend_step more (GoesOn after) = GoesOn (extend_state more after)
 -- ---- octets
 
 module _ (more : List ℕ) where
-  first_octet-Grows : (place : ℕ) (rest : List ℕ) → Grows IsEnd (extend_behind more) (first_octet place rest) (first_octet place (rest ++ more))
+  first_octet-Grows : (place : ℕ) (rest : List ℕ) → Grows IsEnd (extend_after more) (first_octet place rest) (first_octet place (rest ++ more))
   first_octet-Grows place [] = ended Truncated (first_octet place more) refl
   first_octet-Grows place (b ∷ bytes) = ok (b, record { place = place + 1; rest = bytes })
 
-  octet_at-Grows : (r : Region) (c : Cursor) → Grows IsEnd (extend_behind more) (octet_at r c) (octet_at r (extend more c))
+  octet_at-Grows : (r : Region) (c : Cursor) → Grows IsEnd (extend_after more) (octet_at r c) (octet_at r (extend more c))
   unfolding octet_at
-  octet_at-Grows r c = if-Grows IsEnd (extend_behind more) (is_at_end r c.place) _ _ _ _ (err Overrun) (first_octet-Grows c.place c.rest)
+  octet_at-Grows r c = if-Grows IsEnd (extend_after more) (is_at_end r c.place) _ _ _ _ (err Overrun) (first_octet-Grows c.place c.rest)
 
-  var_at-Grows : (most : ℕ) (r : Region) (c : Cursor) → Grows IsEnd (extend_behind more) (var_at most r c) (var_at most r (extend more c))
+  var_at-Grows : (most : ℕ) (r : Region) (c : Cursor) → Grows IsEnd (extend_after more) (var_at most r c) (var_at most r (extend more c))
   unfolding var_at
   var_at-Grows zero r c = err BadVar
   var_at-Grows (suc most) r c =
-      bind-Grows IsEnd (extend_behind more) (extend_behind more) _ _ _ _ (octet_at-Grows r c) (λ b.
-      if-Grows IsEnd (extend_behind more) (nat_lt b.0 128) _ _ _ _
-      (bind-Grows IsEnd (extend_behind more) (extend_behind more) _ _ _ _ (var_at-Grows most r b.1) (λ v. ok (b.0 ∷ v.0, v.1)))
+      bind-Grows IsEnd (extend_after more) (extend_after more) _ _ _ _ (octet_at-Grows r c) (λ b.
+      if-Grows IsEnd (extend_after more) (nat_lt b.0 128) _ _ _ _
+      (bind-Grows IsEnd (extend_after more) (extend_after more) _ _ _ _ (var_at-Grows most r b.1) (λ v. ok (b.0 ∷ v.0, v.1)))
       (ok (b.0 ∷ [], b.1)))
 
-  var_uint_at-Grows : (r : Region) (c : Cursor) → Grows IsEnd (extend_behind more) (var_uint_at r c) (var_uint_at r (extend more c))
+  var_uint_at-Grows : (r : Region) (c : Cursor) → Grows IsEnd (extend_after more) (var_uint_at r c) (var_uint_at r (extend more c))
   unfolding var_uint_at
-  var_uint_at-Grows r c = bind-Grows IsEnd (extend_behind more) (extend_behind more) _ _ _ _ (var_at-Grows 9 r c) (λ b. ok (var_uint b.0, b.1))
+  var_uint_at-Grows r c = bind-Grows IsEnd (extend_after more) (extend_after more) _ _ _ _ (var_at-Grows 9 r c) (λ b. ok (var_uint b.0, b.1))
 
-  length_at-Grows : (length_code : ℕ) (r : Region) (c : Cursor) → Grows IsEnd (extend_behind more) (length_at length_code r c) (length_at length_code r (extend more c))
+  length_at-Grows : (length_code : ℕ) (r : Region) (c : Cursor) → Grows IsEnd (extend_after more) (length_at length_code r c) (length_at length_code r (extend more c))
   unfolding length_at
-  length_at-Grows length_code r c = if-Grows IsEnd (extend_behind more) (nat_eq length_code 14) _ _ _ _ (var_uint_at-Grows r c) (ok (length_code, c))
+  length_at-Grows length_code r c = if-Grows IsEnd (extend_after more) (nat_eq length_code 14) _ _ _ _ (var_uint_at-Grows r c) (ok (length_code, c))
 
-  -- n octets, and what is behind them
+  -- n octets, and what is after them
   skip-extend : (n : ℕ) (c : Cursor) → n ≤ length c.rest → skip n (extend more c) ≡ extend more (skip n c)
   skip-extend n c le = ap (λ (rest : List ℕ). record { place = c.place + n; rest = rest }) (drop-append-le n c.rest more le)
 
   -- where they are not all there, the bytes end
-  counted-Grows : {A : Type 0} (n : ℕ) (c : Cursor) (p q : Result (A × Cursor) Reason) → (n ≤ length c.rest → Grows IsEnd (extend_behind more) p q)
-      → Grows IsEnd (extend_behind more) (refuse (nat_lt (length c.rest) n) Truncated >> p) (refuse (nat_lt (length (c.rest ++ more)) n) Truncated >> q)
+  counted-Grows : {A : Type 0} (n : ℕ) (c : Cursor) (p q : Result (A × Cursor) Reason) → (n ≤ length c.rest → Grows IsEnd (extend_after more) p q)
+      → Grows IsEnd (extend_after more) (refuse (nat_lt (length c.rest) n) Truncated >> p) (refuse (nat_lt (length (c.rest ++ more)) n) Truncated >> q)
   counted-Grows n c p q h = by_test (nat_lt (length c.rest) n) refl
     where
       by_test : (b : Bool) → nat_lt (length c.rest) n ≡ b
-          → Grows IsEnd (extend_behind more) (refuse (nat_lt (length c.rest) n) Truncated >> p) (refuse (nat_lt (length (c.rest ++ more)) n) Truncated >> q)
+          → Grows IsEnd (extend_after more) (refuse (nat_lt (length c.rest) n) Truncated >> p) (refuse (nat_lt (length (c.rest ++ more)) n) Truncated >> q)
       by_test true e = rw e (ended Truncated _ refl)
       by_test false e =
           let enough : n ≤ length c.rest = ltb-false _ _ e in
           rw (e, le-ltb (length (c.rest ++ more)) n (omega (arith, length-append c.rest more))) (h enough)
 
-  -- ---- the part behind a descriptor
+  -- ---- the part after a descriptor
 
-  marker_at-Grows : (r : Region) (c : Cursor) → Grows IsEnd (extend_behind more) (marker_at r c) (marker_at r (extend more c))
+  marker_at-Grows : (r : Region) (c : Cursor) → Grows IsEnd (extend_after more) (marker_at r c) (marker_at r (extend more c))
   unfolding marker_at
-  marker_at-Grows r c = then-Grows IsEnd (extend_behind more) _ _ _ (by_rest c.place c.rest)
+  marker_at-Grows r c = then-Grows IsEnd (extend_after more) _ _ _ (by_rest c.place c.rest)
     where
       by_rest : (place : ℕ) (rest : List ℕ)
-          → Grows IsEnd (extend_behind more) (marker_rest rest >> Ok (a_marker, skip 3 (record { place = place; rest = rest })))
+          → Grows IsEnd (extend_after more) (marker_rest rest >> Ok (a_marker, skip 3 (record { place = place; rest = rest })))
           (marker_rest (rest ++ more) >> Ok (a_marker, skip 3 (record { place = place; rest = rest ++ more })))
       by_rest place [] = ended Truncated _ refl
       by_rest place (x ∷ []) = ended Truncated _ refl
       by_rest place (x ∷ y ∷ []) = ended Truncated _ refl
-      by_rest place (x ∷ y ∷ z ∷ rest) = then-Grows IsEnd (extend_behind more) _ _ _ (ok (a_marker, record { place = place + 3; rest = rest }))
+      by_rest place (x ∷ y ∷ z ∷ rest) = then-Grows IsEnd (extend_after more) _ _ _ (ok (a_marker, record { place = place + 3; rest = rest }))
 
-  bare_at-Grows : (a : Around) (v : Scalar Symbol) (c : Cursor) → Grows IsEnd (extend_behind more) (bare_at a v c) (bare_at a v (extend more c))
+  bare_at-Grows : (a : Around) (v : Scalar Symbol) (c : Cursor) → Grows IsEnd (extend_after more) (bare_at a v c) (bare_at a v (extend more c))
   unfolding bare_at
-  bare_at-Grows a v c = then-Grows IsEnd (extend_behind more) _ _ _ (ok (a_scalar v, c))
+  bare_at-Grows a v c = then-Grows IsEnd (extend_after more) _ _ _ (ok (a_scalar v, c))
 
-  nop_pad_at-Grows : (a : Around) (length_code : ℕ) (c : Cursor) → Grows IsEnd (extend_behind more) (nop_pad_at a length_code c) (nop_pad_at a length_code (extend more c))
+  nop_pad_at-Grows : (a : Around) (length_code : ℕ) (c : Cursor) → Grows IsEnd (extend_after more) (nop_pad_at a length_code c) (nop_pad_at a length_code (extend more c))
   unfolding nop_pad_at
   nop_pad_at-Grows a length_code c =
-      bind-Grows IsEnd (extend_behind more) (extend_behind more) _ _ _ _ (length_at-Grows length_code a.region c) (λ n.
-      then-Grows IsEnd (extend_behind more) _ _ _ (counted-Grows n.0 n.1 _ _ (λ le. rw (skip-extend n.0 n.1 le) (ok (a_nop_pad, skip n.0 n.1)))))
+      bind-Grows IsEnd (extend_after more) (extend_after more) _ _ _ _ (length_at-Grows length_code a.region c) (λ n.
+      then-Grows IsEnd (extend_after more) _ _ _ (counted-Grows n.0 n.1 _ _ (λ le. rw (skip-extend n.0 n.1 le) (ok (a_nop_pad, skip n.0 n.1)))))
 
 module _ (limits : Limits) (more : List ℕ) where
-  body_at-Grows : (a : Around) (type_code n : ℕ) (c : Cursor) → Grows IsEnd (extend_behind more) (body_at limits a type_code n c) (body_at limits a type_code n (extend more c))
+  body_at-Grows : (a : Around) (type_code n : ℕ) (c : Cursor) → Grows IsEnd (extend_after more) (body_at limits a type_code n c) (body_at limits a type_code n (extend more c))
   unfolding body_at
   body_at-Grows a type_code n c =
-      then-Grows IsEnd (extend_behind more) (fits a c.place n) _ _ (then-Grows IsEnd (extend_behind more) (refuse (nat_lt limits.scalar n) ScalarLimit) _ _
+      then-Grows IsEnd (extend_after more) (fits a c.place n) _ _ (then-Grows IsEnd (extend_after more) (refuse (nat_lt limits.scalar n) ScalarLimit) _ _
       (counted-Grows more n c _ _ there-Grows))
     where
       same-Grows : (r : Result (Scalar Symbol) Reason)
-          → Grows IsEnd (extend_behind more) (r >>= λ v. Ok (a_scalar v, skip n c)) (r >>= λ v. Ok (a_scalar v, extend more (skip n c)))
+          → Grows IsEnd (extend_after more) (r >>= λ v. Ok (a_scalar v, skip n c)) (r >>= λ v. Ok (a_scalar v, extend more (skip n c)))
       same-Grows (Ok v) = ok (a_scalar v, skip n c)
       same-Grows (Err e) = err e
 
-      there-Grows : n ≤ length c.rest → Grows IsEnd (extend_behind more) (scalar_of_body type_code (take n c.rest) >>= λ v. Ok (a_scalar v, skip n c))
+      there-Grows : n ≤ length c.rest → Grows IsEnd (extend_after more) (scalar_of_body type_code (take n c.rest) >>= λ v. Ok (a_scalar v, skip n c))
           (scalar_of_body type_code (take n (c.rest ++ more)) >>= λ v. Ok (a_scalar v, skip n (extend more c)))
       there-Grows le = rw (skip-extend more n c le, take-append-le n c.rest more le) (same-Grows (scalar_of_body type_code (take n c.rest)))
 
   scalar_at-Grows : (a : Around) (type_code length_code : ℕ) (c : Cursor)
-      → Grows IsEnd (extend_behind more) (scalar_at limits a type_code length_code c) (scalar_at limits a type_code length_code (extend more c))
+      → Grows IsEnd (extend_after more) (scalar_at limits a type_code length_code c) (scalar_at limits a type_code length_code (extend more c))
   unfolding scalar_at
   scalar_at-Grows a type_code length_code c =
-      bind-Grows IsEnd (extend_behind more) (extend_behind more) _ _ _ _ (length_at-Grows more length_code a.region c) (λ n. body_at-Grows a type_code n.0 n.1)
+      bind-Grows IsEnd (extend_after more) (extend_after more) _ _ _ _ (length_at-Grows more length_code a.region c) (λ n. body_at-Grows a type_code n.0 n.1)
 
-  begin_at-Grows : (a : Around) (k : Kind) (n : ℕ) (c : Cursor) → Grows IsEnd (extend_behind more) (begin_at limits a k n c) (begin_at limits a k n (extend more c))
+  begin_at-Grows : (a : Around) (k : Kind) (n : ℕ) (c : Cursor) → Grows IsEnd (extend_after more) (begin_at limits a k n c) (begin_at limits a k n (extend more c))
   unfolding begin_at
   begin_at-Grows a k n c =
-      then-Grows IsEnd (extend_behind more) (fits a c.place n) _ _
-      (then-Grows IsEnd (extend_behind more) (refuse (nat_le limits.depth a.depth) DepthLimit) _ _ (ok (a_container k (c.place + n), c)))
+      then-Grows IsEnd (extend_after more) (fits a c.place n) _ _
+      (then-Grows IsEnd (extend_after more) (refuse (nat_le limits.depth a.depth) DepthLimit) _ _ (ok (a_container k (c.place + n), c)))
 
   container_at-Grows : (a : Around) (k : Kind) (length_code : ℕ) (c : Cursor)
-      → Grows IsEnd (extend_behind more) (container_at limits a k length_code c) (container_at limits a k length_code (extend more c))
+      → Grows IsEnd (extend_after more) (container_at limits a k length_code c) (container_at limits a k length_code (extend more c))
   unfolding container_at
   container_at-Grows a k length_code c =
-      bind-Grows IsEnd (extend_behind more) (extend_behind more) _ _ _ _ (length_at-Grows more length_code a.region c) (λ n. begin_at-Grows a k n.0 n.1)
+      bind-Grows IsEnd (extend_after more) (extend_after more) _ _ _ _ (length_at-Grows more length_code a.region c) (λ n. begin_at-Grows a k n.0 n.1)
 
-  sorted_at-Grows : (a : Around) (c : Cursor) → Grows IsEnd (extend_behind more) (sorted_at limits a c) (sorted_at limits a (extend more c))
+  sorted_at-Grows : (a : Around) (c : Cursor) → Grows IsEnd (extend_after more) (sorted_at limits a c) (sorted_at limits a (extend more c))
   unfolding sorted_at
   sorted_at-Grows a c =
-      bind-Grows IsEnd (extend_behind more) (extend_behind more) _ _ _ _ (var_uint_at-Grows more a.region c)
-      (λ n. then-Grows IsEnd (extend_behind more) _ _ _ (begin_at-Grows a kind.Struct n.0 n.1))
+      bind-Grows IsEnd (extend_after more) (extend_after more) _ _ _ _ (var_uint_at-Grows more a.region c)
+      (λ n. then-Grows IsEnd (extend_after more) _ _ _ (begin_at-Grows a kind.Struct n.0 n.1))
 
   read_by_descriptor-Grows : (a : Around) (s : Shape) (c : Cursor)
-      → Grows IsEnd (extend_behind more) (read_by_descriptor limits a s c) (read_by_descriptor limits a s (extend more c))
+      → Grows IsEnd (extend_after more) (read_by_descriptor limits a s c) (read_by_descriptor limits a s (extend more c))
   unfolding read_by_descriptor
   read_by_descriptor-Grows a (null t) c = bare_at-Grows more a (value.null t) c
   read_by_descriptor-Grows a (bool truth) c = bare_at-Grows more a (value.bool truth) c
@@ -194,29 +194,29 @@ module _ (limits : Limits) (more : List ℕ) where
   read_by_descriptor-Grows a (wrapper length_code) c = err BadAnnotation
   read_by_descriptor-Grows a illegal c = err BadDescriptor
 
-  typed_value_at-Grows : (a : Around) (b : ℕ) (c : Cursor) → Grows IsEnd (extend_behind more) (typed_value_at limits a b c) (typed_value_at limits a b (extend more c))
+  typed_value_at-Grows : (a : Around) (b : ℕ) (c : Cursor) → Grows IsEnd (extend_after more) (typed_value_at limits a b c) (typed_value_at limits a b (extend more c))
   unfolding typed_value_at
-  typed_value_at-Grows a b c = then-Grows IsEnd (extend_behind more) _ _ _ (read_by_descriptor-Grows a (shape_of b) c)
+  typed_value_at-Grows a b c = then-Grows IsEnd (extend_after more) _ _ _ (read_by_descriptor-Grows a (shape_of b) c)
 
   -- ---- an item
 
-  wrapper_at-Grows : (r : Region) (length_code : ℕ) (c : Cursor) → Grows IsEnd (extend_behind more) (wrapper_at r length_code c) (wrapper_at r length_code (extend more c))
+  wrapper_at-Grows : (r : Region) (length_code : ℕ) (c : Cursor) → Grows IsEnd (extend_after more) (wrapper_at r length_code c) (wrapper_at r length_code (extend more c))
   unfolding wrapper_at
   wrapper_at-Grows r length_code c =
-      bind-Grows IsEnd (extend_behind more) (extend_behind more) _ _ _ _ (length_at-Grows more length_code r c) (λ n.
-      bind-Grows IsEnd (extend_behind more) (extend_behind more) _ _ _ _ (var_uint_at-Grows more (Some (n.1.place + n.0)) n.1) (λ ids.
-      then-Grows IsEnd (extend_behind more) (refuse (passes r n.1.place n.0) Overrun) _ _ (then-Grows IsEnd (extend_behind more)
+      bind-Grows IsEnd (extend_after more) (extend_after more) _ _ _ _ (length_at-Grows more length_code r c) (λ n.
+      bind-Grows IsEnd (extend_after more) (extend_after more) _ _ _ _ (var_uint_at-Grows more (Some (n.1.place + n.0)) n.1) (λ ids.
+      then-Grows IsEnd (extend_after more) (refuse (passes r n.1.place n.0) Overrun) _ _ (then-Grows IsEnd (extend_after more)
       (refuse (nat_lt n.0 3 || nat_eq ids.0 0 || nat_le (n.1.place + n.0) (ids.1.place + ids.0)) BadAnnotation) _ _
       (ok (record { ids = ids.1.place + ids.0; end = n.1.place + n.0 }, ids.1)))))
 
-  ids_at-Grows : (most end count : ℕ) (c : Cursor) → Grows IsPlacedEnd (extend_behind more) (ids_at most limits end count c) (ids_at most limits end count (extend more c))
+  ids_at-Grows : (most end count : ℕ) (c : Cursor) → Grows IsPlacedEnd (extend_after more) (ids_at most limits end count c) (ids_at most limits end count (extend more c))
   unfolding ids_at
   ids_at-Grows zero end count c = ok ([], c)
   ids_at-Grows (suc most) end count c =
-      if-Grows IsPlacedEnd (extend_behind more) (nat_le end c.place) _ _ _ _ (ok ([], c))
-      (bind-Grows IsPlacedEnd (extend_behind more) (extend_behind more) _ _ _ _ (part-Grows (extend_behind more) c.place _ _ (var_uint_at-Grows more (Some end) c)) (λ i.
-      then-Grows IsPlacedEnd (extend_behind more) _ _ _
-      (bind-Grows IsPlacedEnd (extend_behind more) (extend_behind more) _ _ _ _ (ids_at-Grows most end (count + 1) i.1) (λ others.
+      if-Grows IsPlacedEnd (extend_after more) (nat_le end c.place) _ _ _ _ (ok ([], c))
+      (bind-Grows IsPlacedEnd (extend_after more) (extend_after more) _ _ _ _ (part-Grows (extend_after more) c.place _ _ (var_uint_at-Grows more (Some end) c)) (λ i.
+      then-Grows IsPlacedEnd (extend_after more) _ _ _
+      (bind-Grows IsPlacedEnd (extend_after more) (extend_after more) _ _ _ _ (ids_at-Grows most end (count + 1) i.1) (λ others.
       ok (symbol_id i.0 c.place ∷ others.0, others.1)))))
 
   -- what is found, as a step
@@ -231,23 +231,23 @@ module _ (limits : Limits) (more : List ℕ) where
       → Grows IsPlacedEnd (extend_step more) (plain_at limits frames top f place b c) (plain_at limits frames top f place b (extend more c))
   unfolding plain_at
   plain_at-Grows frames top f place b c =
-      bind-Grows IsPlacedEnd (extend_behind more) (extend_step more) _ _ _ _ (part-Grows (extend_behind more) place _ _ (typed_value_at-Grows _ b c))
+      bind-Grows IsPlacedEnd (extend_after more) (extend_step more) _ _ _ _ (part-Grows (extend_after more) place _ _ (typed_value_at-Grows _ b c))
       (λ v. step_for-extend frames top f [] place v.0 v.1)
 
   inner_at-Grows : (frames : List Frame) (top : ℕ) (f : Option SymbolAt) (annotations : List SymbolAt) (end : ℕ) (c : Cursor)
       → Grows IsPlacedEnd (extend_step more) (inner_at limits frames top f annotations end c) (inner_at limits frames top f annotations end (extend more c))
   unfolding inner_at
   inner_at-Grows frames top f annotations end c =
-      bind-Grows IsPlacedEnd (extend_behind more) (extend_step more) _ _ _ _ (part-Grows (extend_behind more) c.place _ _ (octet_at-Grows more (Some end) c)) (λ b.
-      bind-Grows IsPlacedEnd (extend_behind more) (extend_step more) _ _ _ _ (part-Grows (extend_behind more) c.place _ _ (typed_value_at-Grows _ b.0 b.1))
+      bind-Grows IsPlacedEnd (extend_after more) (extend_step more) _ _ _ _ (part-Grows (extend_after more) c.place _ _ (octet_at-Grows more (Some end) c)) (λ b.
+      bind-Grows IsPlacedEnd (extend_after more) (extend_step more) _ _ _ _ (part-Grows (extend_after more) c.place _ _ (typed_value_at-Grows _ b.0 b.1))
       (λ v. step_for-extend frames top f annotations c.place v.0 v.1))
 
   annotated_at-Grows : (frames : List Frame) (top : ℕ) (f : Option SymbolAt) (place length_code : ℕ) (c : Cursor)
       → Grows IsPlacedEnd (extend_step more) (annotated_at limits frames top f place length_code c) (annotated_at limits frames top f place length_code (extend more c))
   unfolding annotated_at
   annotated_at-Grows frames top f place length_code c =
-      bind-Grows IsPlacedEnd (extend_behind more) (extend_step more) _ _ _ _ (part-Grows (extend_behind more) place _ _ (wrapper_at-Grows (region_of frames) length_code c)) (λ w.
-      bind-Grows IsPlacedEnd (extend_behind more) (extend_step more) _ _ _ _ (ids_at-Grows w.0.ids w.0.ids 0 w.1) (λ annotations.
+      bind-Grows IsPlacedEnd (extend_after more) (extend_step more) _ _ _ _ (part-Grows (extend_after more) place _ _ (wrapper_at-Grows (region_of frames) length_code c)) (λ w.
+      bind-Grows IsPlacedEnd (extend_after more) (extend_step more) _ _ _ _ (ids_at-Grows w.0.ids w.0.ids 0 w.1) (λ annotations.
       inner_at-Grows frames top f annotations.0 w.0.end annotations.1))
 
   by_wrapper-Grows : (o : Option ℕ) (f g : ℕ → Placed (Step State)) (x y : Placed (Step State))
@@ -260,16 +260,16 @@ module _ (limits : Limits) (more : List ℕ) where
       → Grows IsPlacedEnd (extend_step more) (value_at limits frames top f c) (value_at limits frames top f (extend more c))
   unfolding value_at
   value_at-Grows frames top f c =
-      bind-Grows IsPlacedEnd (extend_behind more) (extend_step more) _ _ _ _ (part-Grows (extend_behind more) c.place _ _ (octet_at-Grows more (region_of frames) c)) (λ b.
+      bind-Grows IsPlacedEnd (extend_after more) (extend_step more) _ _ _ _ (part-Grows (extend_after more) c.place _ _ (octet_at-Grows more (region_of frames) c)) (λ b.
       by_wrapper-Grows (wrapper_length (shape_of b.0)) _ _ _ _ (λ length_code. annotated_at-Grows frames top f c.place length_code b.1) (plain_at-Grows frames top f c.place b.0 b.1))
 
-  field_in-Grows : (k : Kind) (r : Region) (c : Cursor) → Grows IsEnd (extend_behind more) (field_in k r c) (field_in k r (extend more c))
+  field_in-Grows : (k : Kind) (r : Region) (c : Cursor) → Grows IsEnd (extend_after more) (field_in k r c) (field_in k r (extend more c))
   field_in-Grows kind.List r c = ok (None, c)
   field_in-Grows kind.Sexp r c = ok (None, c)
   field_in-Grows kind.Struct r c =
-      bind-Grows IsEnd (extend_behind more) (extend_behind more) _ _ _ _ (var_uint_at-Grows more r c) (λ i. ok (Some (symbol_id i.0 c.place), i.1))
+      bind-Grows IsEnd (extend_after more) (extend_after more) _ _ _ _ (var_uint_at-Grows more r c) (λ i. ok (Some (symbol_id i.0 c.place), i.1))
 
-  field_at-Grows : (frames : List Frame) (c : Cursor) → Grows IsEnd (extend_behind more) (field_at frames c) (field_at frames (extend more c))
+  field_at-Grows : (frames : List Frame) (c : Cursor) → Grows IsEnd (extend_after more) (field_at frames c) (field_at frames (extend more c))
   field_at-Grows [] c = ok (None, c)
   field_at-Grows (f ∷ frames) c = field_in-Grows f.kind (Some f.end) c
 
@@ -277,7 +277,7 @@ module _ (limits : Limits) (more : List ℕ) where
       → Grows IsPlacedEnd (extend_step more) (member_at limits frames top c) (member_at limits frames top (extend more c))
   unfolding member_at
   member_at-Grows frames top c =
-      bind-Grows IsPlacedEnd (extend_behind more) (extend_step more) _ _ _ _ (part-Grows (extend_behind more) c.place _ _ (field_at-Grows frames c))
+      bind-Grows IsPlacedEnd (extend_after more) (extend_step more) _ _ _ _ (part-Grows (extend_after more) c.place _ _ (field_at-Grows frames c))
       (λ f. value_at-Grows frames (top_of frames top c.place) f.0 f.1)
 
 -- ---- a step, and all of them
@@ -321,24 +321,24 @@ module _ (limits : Limits) (more : List ℕ) where
   one_step-Grows s = step_in-Grows s.frames s.top s.cursor
 
   module _ (shrinks : Shrinks (step limits) size) (reason : Reason) (place : ℕ) (other : reason ≢ Truncated) where
-    -- the steps of one and of the other, where those behind agree
+    -- the steps of one and of the other, where those after agree
     next-stable : (x y : Step State) (f g : State → Reading) → StepGrows more x y
-        → ((s : State) (items : List PlacedItem) → f s ≡ behind items (Stopped reason place) → g (extend_state more s) ≡ behind items (Stopped reason place))
-        → (items : List PlacedItem) → next_reading f x ≡ behind items (Stopped reason place) → next_reading g y ≡ behind items (Stopped reason place)
+        → ((s : State) (items : List PlacedItem) → f s ≡ items_then items (Stopped reason place) → g (extend_state more s) ≡ items_then items (Stopped reason place))
+        → (items : List PlacedItem) → next_reading f x ≡ items_then items (Stopped reason place) → next_reading g y ≡ items_then items (Stopped reason place)
     next-stable _ _ f g (ends s) h [] e = absurd (cc e)
     next-stable _ _ f g (ends s) h (item ∷ items) e = absurd (cc e)
     next-stable _ _ f g (stops why q) h items e = e
     next-stable _ _ f g (ended_step q s) h [] e = let same : Truncated ≡ reason = cc e in absurd (other (sym same))
     next-stable _ _ f g (ended_step q s) h (item ∷ items) e = absurd (cc e)
-    next-stable _ _ f g (gives first after) h [] e = absurd (cc e)
-    next-stable _ _ f g (gives first after) h (item ∷ items) e =
+    next-stable _ _ f g (gives first next) h [] e = absurd (cc e)
+    next-stable _ _ f g (gives first next) h (item ∷ items) e =
         let same : first ≡ item = cc e in
-        let rest : f after ≡ behind items (Stopped reason place) = cc e in
-        rw (same, h after items rest) refl
-    next-stable _ _ f g (goes_on after) h items e = h after items e
+        let rest : f next ≡ items_then items (Stopped reason place) = cc e in
+        rw (same, h next items rest) refl
+    next-stable _ _ f g (goes_on next) h items e = h next items e
 
-    steps-stable : (steps : ℕ) (s : State) (items : List PlacedItem) → reading_for (step limits) steps s ≡ behind items (Stopped reason place)
-        → reading_by (step limits) size (extend_state more s) ≡ behind items (Stopped reason place)
+    steps-stable : (steps : ℕ) (s : State) (items : List PlacedItem) → reading_for (step limits) steps s ≡ items_then items (Stopped reason place)
+        → reading_by (step limits) size (extend_state more s) ≡ items_then items (Stopped reason place)
     steps-stable zero s [] e = absurd (cc e)
     steps-stable zero s (item ∷ items) e = absurd (cc e)
     steps-stable (suc steps) s items e =

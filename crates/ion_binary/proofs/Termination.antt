@@ -9,7 +9,7 @@ use Rattle.ion_value.specs.declared.ion_type.Kind.TheVariants as kind
 use Rattle.ion_value.specs.Scalar.{scalar_of_body}
 use Rattle.ion_value.specs.Value as value
 use Rattle.ion_value.specs.Value.{Symbol, SymbolAt, Scalar}
-use Rattle.ion_value.specs.Reading.{Step, Ends, Stops, Gives, GoesOn, Leaves, behind_item, behind_nothing, Shrinks}
+use Rattle.ion_value.specs.Reading.{Step, Ends, Stops, Gives, GoesOn, Leaves, after_item, after_nothing, Shrinks}
 use Rattle.ion_binary.specs.Positions.{Frame, State}
 use Rattle.ion_meter.specs.Sources.{Cursor, skip}
 use Rattle.ion_value.specs.Parts.{◌>>=◌, ◌>>◌, refuse, Placed, part}
@@ -174,7 +174,7 @@ field_at-stays (f ∷ frames) c = by_kind f.kind
     by_kind kind.Struct =
         bind-ok (Less ℕ (length c.rest)) (NoMore (Option SymbolAt) (length c.rest)) (var_uint_at (Some f.end) c) _ (var_uint_at-less (Some f.end) c) (λ i h. omega (arith, h))
 
--- what is true of the state behind a step, where there is one
+-- what is true of the state after a step, where there is one
 abbrev pub OnStep : (State → Type 0) → Step State → Type 0
 OnStep P Ends = Unit {0}
 OnStep P (Stops reason place) = Unit {0}
@@ -182,8 +182,8 @@ OnStep P (Gives item after) = P after
 OnStep P (GoesOn after) = P after
 
 pub leaves-on : (P : State → Type 0) (o : Step State) (after : State) → OnStep P o → Leaves o after → P after
-leaves-on P _ _ h (behind_item item after) = h
-leaves-on P _ _ h (behind_nothing after) = h
+leaves-on P _ _ h (after_item item after) = h
+leaves-on P _ _ h (after_nothing after) = h
 
 abbrev Smaller : ℕ → Step State → Type 0
 Smaller n o = OnStep (λ s. size s < n) o

@@ -8,7 +8,7 @@ use Rattle.ion_meter.specs.declared.fault.Reason.{Reason}
 use Rattle.ion_meter.specs.declared.fault.Reason.TheVariants.{BadTimestamp, Range}
 use Rattle.ion_value.specs.declared.timestamp.Timestamp.{Timestamp}
 use Rattle.ion_value.specs.Number.{var_uint, var_int_negative, var_int_magnitude, int_negative, int_magnitude, signed}
-use Rattle.ion_value.specs.Timestamp.{IsMoment, is_moment, IsOffset, is_date, local_of, fields, fields_cut, second_precision, digits_behind, exponent_in, is_fraction, offset_in, utc_fields, in_local_time, timestamp_in_utc, timestamp_of_fields, timestamp_of_cut, timestamp_of_bytes}
+use Rattle.ion_value.specs.Timestamp.{IsMoment, is_moment, IsOffset, is_date, local_of, fields, fields_cut, second_precision, digits_after_point, exponent_in, is_fraction, offset_in, utc_fields, in_local_time, timestamp_in_utc, timestamp_of_fields, timestamp_of_cut, timestamp_of_bytes}
 use Rattle.ion_value.proofs.Cut.{Cut, IfSome-Cut}
 use Rattle.ion_value.proofs.Days.{local-is}
 use Rattle.ion_value.proofs.TimestampOctets.{append-none, is_moment-is}
@@ -28,7 +28,7 @@ let_through false reason r x e = absurd (cc e)
 
 -- ---- what is cut
 
--- fields at the front of a body, and what stands behind them: nothing where there could be more fields
+-- fields at the front of a body, and what stands after them: nothing where there could be more fields
 record IsRun (most : ℕ) (b : List ℕ) (cut : List (List ℕ) × List ℕ) : Type 0 where
   pub whole : b ≡ run cut.0 ++ cut.1
   pub are : AllByRecursion IsField cut.0
@@ -60,49 +60,49 @@ fields_cut-IsRun (suc most) (x ∷ b) = IsRun-cut most (x ∷ b) _ (IfSome-Cut 9
 -- ---- what the fields tell is what they say
 
 -- a fraction is below 1, and only zero has a minus
-fraction-below : (e c : List ℕ) → is_fraction e c ≡ true → (int_magnitude c < 10 ^ digits_behind e) × ((int_negative c ≡ false) ⊎ (int_magnitude c ≡ 0))
+fraction-below : (e c : List ℕ) → is_fraction e c ≡ true → (int_magnitude c < 10 ^ digits_after_point e) × ((int_negative c ≡ false) ⊎ (int_magnitude c ≡ 0))
 fraction-below e c h =
-    elim (or_cases (int_magnitude c == 0) (not (int_negative c) && nat_lt (int_magnitude c) (10 ^ digits_behind e)) h) [
+    elim (or_cases (int_magnitude c == 0) (not (int_negative c) && nat_lt (int_magnitude c) (10 ^ digits_after_point e)) h) [
       | inl none ↦
           let zero_is : int_magnitude c ≡ 0 = eqb-true (int_magnitude c) 0 none in
-          let least : 0 ≤ digits_behind e = omega arith in
-          let powers : 10 ^ 0 ≤ 10 ^ digits_behind e = pow-le-pow_right {n = 10} (omega arith) least in
+          let least : 0 ≤ digits_after_point e = omega arith in
+          let powers : 10 ^ 0 ≤ 10 ^ digits_after_point e = pow-le-pow_right {n = 10} (omega arith) least in
           (omega arith, inr zero_is)
       | inr some ↦
-          let tests = and_parts (not (int_negative c)) (nat_lt (int_magnitude c) (10 ^ digits_behind e)) some in
-          (ltb-true (int_magnitude c) (10 ^ digits_behind e) tests.1, inl (not-true (int_negative c) tests.0))
+          let tests = and_parts (not (int_negative c)) (nat_lt (int_magnitude c) (10 ^ digits_after_point e)) some in
+          (ltb-true (int_magnitude c) (10 ^ digits_after_point e) tests.1, inl (not-true (int_negative c) tests.0))
     ]
 
--- where the exponent is below zero there are so many digits behind the point, and else none
-digits-minus : (e : List ℕ) → var_int_negative e ≡ true → digits_behind e ≡ var_int_magnitude e
+-- where the exponent is below zero there are so many digits after the point, and else none
+digits-minus : (e : List ℕ) → var_int_negative e ≡ true → digits_after_point e ≡ var_int_magnitude e
 digits-minus e minus = rw minus refl
 
-digits-plus : (e : List ℕ) → var_int_negative e ≡ false → digits_behind e ≡ 0
+digits-plus : (e : List ℕ) → var_int_negative e ≡ false → digits_after_point e ≡ 0
 digits-plus e plus = rw plus refl
 
 -- a second without a fraction
-whole-says : (y m d h i s e c : List ℕ) → digits_behind e ≡ 0 → int_magnitude c < 10 ^ digits_behind e → (var_int_negative e ≡ false) ⊎ (var_int_magnitude e ≡ 0)
-    → Says (y ∷ m ∷ d ∷ h ∷ i ∷ s ∷ e ∷ []) c (fields (second_precision (digits_behind e)) (var_uint y) (var_uint m) (var_uint d) (var_uint h) (var_uint i) (var_uint s) (int_magnitude c))
+whole-says : (y m d h i s e c : List ℕ) → digits_after_point e ≡ 0 → int_magnitude c < 10 ^ digits_after_point e → (var_int_negative e ≡ false) ⊎ (var_int_magnitude e ≡ 0)
+    → Says (y ∷ m ∷ d ∷ h ∷ i ∷ s ∷ e ∷ []) c (fields (second_precision (digits_after_point e)) (var_uint y) (var_uint m) (var_uint d) (var_uint h) (var_uint i) (var_uint s) (int_magnitude c))
 whole-says y m d h i s e c none small not_below =
     let one : int_magnitude c < 10 ^ 0 = rw none at small in
     let zero_is : int_magnitude c ≡ 0 = omega arith in
     rw (none, zero_is) (no_fraction y m d h i s e c not_below zero_is)
 
--- with so many digits behind the point
-digits-says : (y m d h i s e c : List ℕ) (n : ℕ) → var_int_negative e ≡ true → var_int_magnitude e ≡ n → digits_behind e ≤ 38 → int_magnitude c < 10 ^ digits_behind e
+-- with so many digits after the point
+digits-says : (y m d h i s e c : List ℕ) (n : ℕ) → var_int_negative e ≡ true → var_int_magnitude e ≡ n → digits_after_point e ≤ 38 → int_magnitude c < 10 ^ digits_after_point e
     → (int_negative c ≡ false) ⊎ (int_magnitude c ≡ 0)
-    → Says (y ∷ m ∷ d ∷ h ∷ i ∷ s ∷ e ∷ []) c (fields (second_precision (digits_behind e)) (var_uint y) (var_uint m) (var_uint d) (var_uint h) (var_uint i) (var_uint s) (int_magnitude c))
+    → Says (y ∷ m ∷ d ∷ h ∷ i ∷ s ∷ e ∷ []) c (fields (second_precision (digits_after_point e)) (var_uint y) (var_uint m) (var_uint d) (var_uint h) (var_uint i) (var_uint s) (int_magnitude c))
 digits-says y m d h i s e c zero minus is few small plus =
     whole-says y m d h i s e c (digits-minus e minus ∙ is) small (inr is)
 digits-says y m d h i s e c (suc n) minus is few small plus =
-    let digits_are : digits_behind e ≡ suc n = digits-minus e minus ∙ is in
+    let digits_are : digits_after_point e ≡ suc n = digits-minus e minus ∙ is in
     let within : suc n ≤ 38 = rw digits_are at few in
     let below : int_magnitude c < 10 ^ suc n = rw digits_are at small in
     rw digits_are (fraction y m d h i s e c (suc n) minus is (omega arith) within below plus)
 
 -- a second, with a fraction or none
-second-says : (y m d h i s e c : List ℕ) → digits_behind e ≤ 38 → is_fraction e c ≡ true
-    → Says (y ∷ m ∷ d ∷ h ∷ i ∷ s ∷ e ∷ []) c (fields (second_precision (digits_behind e)) (var_uint y) (var_uint m) (var_uint d) (var_uint h) (var_uint i) (var_uint s) (int_magnitude c))
+second-says : (y m d h i s e c : List ℕ) → digits_after_point e ≤ 38 → is_fraction e c ≡ true
+    → Says (y ∷ m ∷ d ∷ h ∷ i ∷ s ∷ e ∷ []) c (fields (second_precision (digits_after_point e)) (var_uint y) (var_uint m) (var_uint d) (var_uint h) (var_uint i) (var_uint s) (int_magnitude c))
 second-says y m d h i s e c few ok =
     let below = fraction-below e c ok in
     elim (cases_Bool (var_int_negative e)) [
@@ -115,7 +115,7 @@ Some-same : {A : Type 0} (x y : A) → Some x ≡ Some y → x ≡ y
 Some-same x y e = cc
 
 -- fields that tell a timestamp say it
-fields-says : (o : List ℕ) (others : List (List ℕ)) (c : List ℕ) (utc : Timestamp) → digits_behind (exponent_in (o ∷ others)) ≤ 38 → is_fraction (exponent_in (o ∷ others)) c ≡ true
+fields-says : (o : List ℕ) (others : List (List ℕ)) (c : List ℕ) (utc : Timestamp) → digits_after_point (exponent_in (o ∷ others)) ≤ 38 → is_fraction (exponent_in (o ∷ others)) c ≡ true
     → (length others < 7 → c ≡ []) → utc_fields others (int_magnitude c) ≡ Some utc → Says others c utc
 fields-says o [] c utc few ok ended e = absurd (cc e)
 fields-says o (y ∷ []) c utc few ok ended e = rw (← Some-same _ _ e, ended (omega arith)) (year y)
@@ -127,7 +127,7 @@ fields-says o (y ∷ m ∷ d ∷ h ∷ i ∷ s ∷ []) c utc few ok ended e = rw
 fields-says o (y ∷ m ∷ d ∷ h ∷ i ∷ s ∷ x ∷ []) c utc few ok ended e = rw (← Some-same _ _ e) (second-says y m d h i s x c few ok)
 fields-says o (y ∷ m ∷ d ∷ h ∷ i ∷ s ∷ x ∷ z ∷ f) c utc few ok ended e = absurd (cc e)
 
--- behind a date there are no octets
+-- after a date there are no octets
 Says-date : (others : List (List ℕ)) (c : List ℕ) (utc : Timestamp) → Says others c utc → is_date utc.precision ≡ true → c ≡ []
 Says-date _ _ _ (year y) h = refl
 Says-date _ _ _ (month y m) h = refl
@@ -207,7 +207,7 @@ timestamp_in_utc-InUtc o fits (Some utc) t e =
     record { utc = utc; observable = refl; moment = is_moment-is utc tests.0; fit = tests.1; local = found.1 }
 
 -- fields that are read
-timestamp_of_fields-body : (f : List (List ℕ)) (c : List ℕ) (t : Timestamp) → AllByRecursion IsField f → (length f < 8 → c ≡ []) → digits_behind (exponent_in f) ≤ 38
+timestamp_of_fields-body : (f : List (List ℕ)) (c : List ℕ) (t : Timestamp) → AllByRecursion IsField f → (length f < 8 → c ≡ []) → digits_after_point (exponent_in f) ≤ 38
     → timestamp_of_fields f c ≡ Ok t → TimestampBody t (run f ++ c)
 timestamp_of_fields-body [] c t are ended few e = absurd (cc e)
 timestamp_of_fields-body (o ∷ others) c t are ended few e =
@@ -219,8 +219,8 @@ timestamp_of_fields-body (o ∷ others) c t are ended few e =
 timestamp_of_cut-body : (b : List ℕ) (o : Option (List (List ℕ) × List ℕ)) (t : Timestamp) → IfSome o (IsRun 8 b) → timestamp_of_cut o ≡ Ok t → TimestampBody t b
 timestamp_of_cut-body b None t is e = absurd (cc e)
 timestamp_of_cut-body b (Some cut) t is e =
-    let within = kept (nat_le (2 ^ 128) (int_magnitude cut.1) || nat_lt 38 (digits_behind (exponent_in cut.0))) Range (timestamp_of_fields cut.0 cut.1) t e in
-    let tests = or_parts (nat_le (2 ^ 128) (int_magnitude cut.1)) (nat_lt 38 (digits_behind (exponent_in cut.0))) within.0 in
+    let within = kept (nat_le (2 ^ 128) (int_magnitude cut.1) || nat_lt 38 (digits_after_point (exponent_in cut.0))) Range (timestamp_of_fields cut.0 cut.1) t e in
+    let tests = or_parts (nat_le (2 ^ 128) (int_magnitude cut.1)) (nat_lt 38 (digits_after_point (exponent_in cut.0))) within.0 in
     rw is.whole (timestamp_of_fields-body cut.0 cut.1 t is.are is.ended (ltb-false _ _ tests.1) within.1)
 
 -- a body that is read as a timestamp is the body of that timestamp

@@ -6,7 +6,7 @@ use Rattle.std.proofs.lemmas.Bool.{or_right, ne_eqb, lt-ltb, le-ltb, le-leb, lt-
 use Rattle.std.proofs.Math.Nat.{pow-le-pow_right}
 use Rattle.ion_value.specs.declared.timestamp.Timestamp.{Timestamp}
 use Rattle.ion_value.specs.Number.{var_int_negative, var_int_magnitude, int_negative, int_magnitude, signed}
-use Rattle.ion_value.specs.Timestamp.{IsMoment, IsMoved, IsOffset, offset_minutes, in_years, moved, local_of, fields_cut, digits_behind, exponent_in, is_fraction, offset_in, utc_fields, in_local_time, timestamp_of_cut, timestamp_of_bytes}
+use Rattle.ion_value.specs.Timestamp.{IsMoment, IsMoved, IsOffset, offset_minutes, in_years, moved, local_of, fields_cut, digits_after_point, exponent_in, is_fraction, offset_in, utc_fields, in_local_time, timestamp_of_cut, timestamp_of_bytes}
 use Rattle.ion_value.proofs.Cut.{var_cut-IsVar}
 use Rattle.ion_value.proofs.Days.{moved-is, one_outcome, offset-bounds}
 use Rattle.ion_value.proofs.TimestampOctets.{joined, fields_cut-some, append-none, is_moment-true}
@@ -27,7 +27,7 @@ fewer : (n : ℕ) (c : List ℕ) → ((n ≡ 7) ⊎ (c ≡ [])) → ((suc n ≡ 
 fewer n c (inl full) = inl (omega arith)
 fewer n c (inr none) = inr none
 
--- fields, at most so many, and behind as many of them anything else
+-- fields, at most so many, and after as many of them anything else
 pub run-cut : (most : ℕ) (fields : List (List ℕ)) (c : List ℕ) → AllByRecursion IsField fields → length fields ≤ most → ((length fields ≡ most) ⊎ (c ≡ []))
     → fields_cut most (run fields ++ c) ≡ Some (fields, c)
 unfolding fields_cut
@@ -47,12 +47,12 @@ record Told (o : List ℕ) (others : List (List ℕ)) (c : List ℕ) (utc : Time
   pub few : length others ≤ 7
   pub ended : (length others ≡ 7) ⊎ (c ≡ [])
   pub small : nat_le (2 ^ 128) (int_magnitude c) ≡ false
-  pub digits : nat_lt 38 (digits_behind (exponent_in (o ∷ others))) ≡ false
+  pub digits : nat_lt 38 (digits_after_point (exponent_in (o ∷ others))) ≡ false
   pub fits : is_fraction (exponent_in (o ∷ others)) c ≡ true
   pub observable : utc_fields others (int_magnitude c) ≡ Some utc
 
--- an exponent that is not below zero has no digits behind the point
-no-digits : (e : List ℕ) → (var_int_negative e ≡ false) ⊎ (var_int_magnitude e ≡ 0) → digits_behind e ≡ 0
+-- an exponent that is not below zero has no digits after the point
+no-digits : (e : List ℕ) → (var_int_negative e ≡ false) ⊎ (var_int_magnitude e ≡ 0) → digits_after_point e ≡ 0
 no-digits e (inl plus) = rw plus refl
 no-digits e (inr none) = by (var_int_negative e)
   where
@@ -65,8 +65,8 @@ no-fraction : (e c : List ℕ) → int_magnitude c ≡ 0 → is_fraction e c ≡
 no-fraction e c none = rw none refl
 
 -- and so is a coefficient below one that has no minus
-a-fraction : (e c : List ℕ) (n : ℕ) → digits_behind e ≡ n → int_magnitude c < 10 ^ n → (int_negative c ≡ false) ⊎ (int_magnitude c ≡ 0) → is_fraction e c ≡ true
-a-fraction e c n is below (inl plus) = or_right (int_magnitude c == 0) (not (int_negative c) && nat_lt (int_magnitude c) (10 ^ digits_behind e)) (rw (plus, is) (lt-ltb _ _ below))
+a-fraction : (e c : List ℕ) (n : ℕ) → digits_after_point e ≡ n → int_magnitude c < 10 ^ n → (int_negative c ≡ false) ⊎ (int_magnitude c ≡ 0) → is_fraction e c ≡ true
+a-fraction e c n is below (inl plus) = or_right (int_magnitude c == 0) (not (int_negative c) && nat_lt (int_magnitude c) (10 ^ digits_after_point e)) (rw (plus, is) (lt-ltb _ _ below))
 a-fraction e c n is below (inr none) = no-fraction e c none
 
 -- each way of saying is one of telling
@@ -88,7 +88,7 @@ Says-Told o _ _ _ (no_fraction y m d h i s e c not_below none) =
     }
 Says-Told o _ _ _ (fraction y m d h i s e c zero minus is some few below plus) = absurd (omega arith)
 Says-Told o _ _ _ (fraction y m d h i s e c (suc n) minus is some few below plus) =
-    let digits_are : digits_behind e ≡ suc n = rw minus is in
+    let digits_are : digits_after_point e ≡ suc n = rw minus is in
     let powers : 10 ^ suc n ≤ 10 ^ 38 = pow-le-pow_right {n = 10} (omega arith) few in
     record {
       few = omega arith;

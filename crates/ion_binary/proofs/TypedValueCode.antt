@@ -32,7 +32,7 @@ then-mapped (Ok p) (Ok q) x f = refl
 then-mapped (Ok p) (Err e) x f = refl
 then-mapped (Err e) s x f = refl
 
--- what is made of a value, and where reading stands behind it
+-- what is made of a value, and where reading stands after it
 abbrev pub beside : {A B C E : Type 0} → (A → B) → C → A → Result (B × C) E
 beside f c v = Ok (f v, c)
 
@@ -45,14 +45,14 @@ bind-mapped (Ok p) (Err e) t c f = refl
 bind-mapped (Err e) s t c f = refl
 
 -- what is made of a call's answer
-pub answers-mapped : {T A B : Type 0} (view : T → A) (f : A → B) (r : Result T Fault) (behind : Cursor) (place : ℕ) (one : Result (A × Cursor) Reason) (all : Result (B × Cursor) Reason)
-    → Answers view r behind place one → all ≡ (one >>= λ p. beside f p.1 p.0) → Answers (λ x. f (view x)) r behind place all
-answers-mapped view f (Ok x) behind place one all h e = e ∙ ap (λ o. o >>= λ p. beside f p.1 p.0) h
-answers-mapped view f (Err (Refused reason at)) behind place one all h e = (e ∙ ap (λ o. o >>= λ p. beside f p.1 p.0) h.0, h.1)
-answers-mapped view f (Err Memory) behind place one all h e = tt
-answers-mapped view f (Err ReadFault) behind place one all h e = tt
-answers-mapped view f (Err WriteFault) behind place one all h e = tt
-answers-mapped view f (Err InputLimit) behind place one all h e = tt
+pub answers-mapped : {T A B : Type 0} (view : T → A) (f : A → B) (r : Result T Fault) (after : Cursor) (place : ℕ) (one : Result (A × Cursor) Reason) (all : Result (B × Cursor) Reason)
+    → Answers view r after place one → all ≡ (one >>= λ p. beside f p.1 p.0) → Answers (λ x. f (view x)) r after place all
+answers-mapped view f (Ok x) after place one all h e = e ∙ ap (λ o. o >>= λ p. beside f p.1 p.0) h
+answers-mapped view f (Err (Refused reason at)) after place one all h e = (e ∙ ap (λ o. o >>= λ p. beside f p.1 p.0) h.0, h.1)
+answers-mapped view f (Err Memory) after place one all h e = tt
+answers-mapped view f (Err ReadFault) after place one all h e = tt
+answers-mapped view f (Err WriteFault) after place one all h e = tt
+answers-mapped view f (Err InputLimit) after place one all h e = tt
 
 -- ---- the header of a container
 
@@ -78,7 +78,7 @@ pub container_at-refused : (limits : Limits) (a : Around) (k : Kind) (length_cod
 unfolding container_at
 container_at-refused limits a k length_code c n d e h m = rw h (begin_at-refused limits a k n d e m)
 
--- a container begins behind its length
+-- a container begins after its length
 pub container_at-begun : (limits : Limits) (a : Around) (k : Kind) (length_code : ℕ) (c : Cursor) (n : ℕ) (d : Cursor) (end : ℕ)
     → length_at length_code a.region c ≡ Ok (n, d) → end_by limits a d.place n ≡ Ok end → container_at limits a k length_code c ≡ Ok (a_container k end, d)
 unfolding container_at
@@ -103,7 +103,7 @@ pub sorted_at-refused : (limits : Limits) (a : Around) (c : Cursor) (n : ℕ) (d
     → var_uint_at a.region c ≡ Ok (n, d) → 0 < n → end_by limits a d.place n ≡ Err e → sorted_at limits a c ≡ Err e
 sorted_at-refused limits a c n d e h z m = sorted_at-some limits a c n d h z ∙ begin_at-refused limits a kind.Struct n d e m
 
--- and such a struct begins behind its length
+-- and such a struct begins after its length
 pub sorted_at-begun : (limits : Limits) (a : Around) (c : Cursor) (n : ℕ) (d : Cursor) (end : ℕ)
     → var_uint_at a.region c ≡ Ok (n, d) → 0 < n → end_by limits a d.place n ≡ Ok end → sorted_at limits a c ≡ Ok (a_container kind.Struct end, d)
 sorted_at-begun limits a c n d end h z m = sorted_at-some limits a c n d h z ∙ begin_at-begun limits a kind.Struct n d end m
@@ -128,7 +128,7 @@ scalar_at-body limits a type_code length_code c n d x h m = rw h (rw m (bind-map
 
 -- ---- version markers
 
--- the octets of a marker behind its first
+-- the octets of a marker after its first
 abbrev pub is_version : List ℕ → Bool
 is_version bytes = pointwise eqb bytes (1 ∷ 0 ∷ 234 ∷ [])
 

@@ -1,4 +1,4 @@
--- What the part behind fields and wrappers is found to be stands in the bytes so.
+-- What the part after fields and wrappers is found to be stands in the bytes so.
 use Rattle.std.proofs.Common.{◌≡◌, ◌≢◌, ℕ, zero, suc, ◌+◌, ◌*◌, ◌/◌, ◌%◌, ◌<◌, ◌≤◌, true, false, eqb, ltb, leb, List, [], ◌∷◌, ◌++◌, length, take, drop, Some, None, Ok, refl, sym, ap, subst, ◌∙◌, arith, inl, inr, add-zero, not, ◌&&◌}
 use Rattle.std.specs.Prelude.{slice_index_or}
 use Rattle.std.proofs.lemmas.Bool.{ltb-false, eqb-true, eqb-false, and_cases, and_parts, not-false, cases_Bool}
@@ -259,7 +259,7 @@ module _ (bodies : Bodies) where
   read_by_descriptor-finds limits a b Shape.float c p is free h = not_ok _ _ h
   read_by_descriptor-finds limits a b Shape.illegal c p is free h = not_ok _ _ h
 
-  -- what is found behind a descriptor octet, the octets up to the next cursor spell
+  -- what is found after a descriptor octet, the octets up to the next cursor spell
   pub typed_value_at-finds : (limits : Limits) (a : Around) (b : ℕ) (c : Cursor) (p : TypedValue × Cursor) → typed_value_at limits a b c ≡ Ok p → Finds a b c p
   unfolding typed_value_at
   typed_value_at-finds limits a b c p h =

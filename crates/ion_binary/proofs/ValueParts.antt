@@ -18,41 +18,41 @@ use Rattle.ion_binary.specs.Values.{GivesStep}
 
 module _ (frames : List Frame) (top : ℕ) (f : Option SymbolAt) (annotations : List SymbolAt) (text : List ℕ) (scalar : Body) where
   -- a part that is refused, by itself or with the place of its fault
-  pub step-refused : {T A : Type 0} (view : T → A) (fault : Fault) (behind after : Cursor) (place : ℕ) (one : Result (A × Cursor) Reason) (k : A × Cursor → Placed (Step State))
-      → Answers view (Err fault) behind place one → GivesStep frames top f annotations text scalar (Err fault) after (part place one >>= k)
-  step-refused view (Refused reason at) behind after place one k h = ap (λ r. part place r >>= k) h.0 ∙ ap (λ p. Err (reason, p)) (sym h.1)
-  step-refused view Memory behind after place one k h = tt
-  step-refused view ReadFault behind after place one k h = tt
-  step-refused view WriteFault behind after place one k h = tt
-  step-refused view InputLimit behind after place one k h = tt
+  pub step-refused : {T A : Type 0} (view : T → A) (fault : Fault) (after next : Cursor) (place : ℕ) (one : Result (A × Cursor) Reason) (k : A × Cursor → Placed (Step State))
+      → Answers view (Err fault) after place one → GivesStep frames top f annotations text scalar (Err fault) next (part place one >>= k)
+  step-refused view (Refused reason at) after next place one k h = ap (λ r. part place r >>= k) h.0 ∙ ap (λ p. Err (reason, p)) (sym h.1)
+  step-refused view Memory after next place one k h = tt
+  step-refused view ReadFault after next place one k h = tt
+  step-refused view WriteFault after next place one k h = tt
+  step-refused view InputLimit after next place one k h = tt
 
-  pub step-refused_at : {T A : Type 0} (view : T → A) (fault : Fault) (behind after : Cursor) (one : Placed (A × Cursor)) (k : A × Cursor → Placed (Step State))
-      → AnswersAt view (Err fault) behind one → GivesStep frames top f annotations text scalar (Err fault) after (one >>= k)
-  step-refused_at view (Refused reason at) behind after one k h = ap (λ r. r >>= k) h
-  step-refused_at view Memory behind after one k h = tt
-  step-refused_at view ReadFault behind after one k h = tt
-  step-refused_at view WriteFault behind after one k h = tt
-  step-refused_at view InputLimit behind after one k h = tt
+  pub step-refused_at : {T A : Type 0} (view : T → A) (fault : Fault) (after next : Cursor) (one : Placed (A × Cursor)) (k : A × Cursor → Placed (Step State))
+      → AnswersAt view (Err fault) after one → GivesStep frames top f annotations text scalar (Err fault) next (one >>= k)
+  step-refused_at view (Refused reason at) after next one k h = ap (λ r. r >>= k) h
+  step-refused_at view Memory after next one k h = tt
+  step-refused_at view ReadFault after next one k h = tt
+  step-refused_at view WriteFault after next one k h = tt
+  step-refused_at view InputLimit after next one k h = tt
 
   -- equal steps
-  pub step-same : (r : Result (typed.TypedValue × ℕ) Fault) (behind : Cursor) (s t : Placed (Step State)) → s ≡ t → GivesStep frames top f annotations text scalar r behind t → GivesStep frames top f annotations text scalar r behind s
-  step-same r behind s t e h = subst (λ u. GivesStep frames top f annotations text scalar r behind u) (sym e) h
+  pub step-same : (r : Result (typed.TypedValue × ℕ) Fault) (after : Cursor) (s t : Placed (Step State)) → s ≡ t → GivesStep frames top f annotations text scalar r after t → GivesStep frames top f annotations text scalar r after s
+  step-same r after s t e h = subst (λ u. GivesStep frames top f annotations text scalar r after u) (sym e) h
 
--- behind the octet of a descriptor in a wrapper
+-- after the octet of a descriptor in a wrapper
 pub inner_at-octet : (limits : Limits) (frames : List Frame) (top : ℕ) (f : Option SymbolAt) (annotations : List SymbolAt) (end : ℕ) (c d : Cursor) (depth b : ℕ)
     → length frames ≡ depth → octet_at (Some end) c ≡ Ok (b, d)
     → inner_at limits frames top f annotations end c ≡ (part c.place (typed_value_at limits (record { wrapped = true; region = Some end; depth = depth }) b d) >>= λ v. Ok (step_for frames top f annotations c.place v.0 v.1))
 unfolding inner_at
 inner_at-octet limits frames top f annotations end c d depth b e o = rw (o, e) refl
 
--- behind a wrapper's lengths
+-- after a wrapper's lengths
 pub annotated_at-wrapper : (limits : Limits) (frames : List Frame) (top : ℕ) (f : Option SymbolAt) (place length_code : ℕ) (c d : Cursor) (r : Region) (w : Wrapped)
     → region_of frames ≡ r → wrapper_at r length_code c ≡ Ok (w, d)
     → annotated_at limits frames top f place length_code c ≡ (ids_at w.ids limits w.ids 0 d >>= λ annotations. inner_at limits frames top f annotations.0 w.end annotations.1)
 unfolding annotated_at
 annotated_at-wrapper limits frames top f place length_code c d r w e h = rw (e, h) refl
 
--- behind a descriptor's octet
+-- after a descriptor's octet
 pub value_at-plain : (limits : Limits) (frames : List Frame) (top : ℕ) (f : Option SymbolAt) (c d : Cursor) (r : Region) (depth b : ℕ)
     → region_of frames ≡ r → length frames ≡ depth → octet_at r c ≡ Ok (b, d) → wrapper_length (shape_of b) ≡ None
     → value_at limits frames top f c ≡ (part c.place (typed_value_at limits (record { wrapped = false; region = r; depth = depth }) b d) >>= λ v. Ok (step_for frames top f [] c.place v.0 v.1))

@@ -12,7 +12,7 @@ use Rattle.ion_value.specs.Parts.{◌>>=◌}
 use Rattle.ion_binary.specs.Descriptor.{Region, octet_at, var_at, var_uint_at}
 use Rattle.ion_binary.specs.Parts.{var_from}
 
--- the number of octets behind others that spell a number already
+-- the number of octets after others that spell a number already
 abbrev with_prefix : ℕ → List ℕ × Cursor → Result (ℕ × Cursor) Reason
 with_prefix value b = Ok (value * 128 ^ length b.0 + var_uint b.0, b.1)
 

@@ -5,10 +5,10 @@ use Rattle.ion_value.specs.Value as value
 use Rattle.ion_value.specs.Value.{UserSymbol, Scalar, Value, scalar, container, Members, nothing, member, Top, version, tree, Item, bare_item, value_items, member_items, one_top, top_items}
 use Rattle.ion_value.specs.Writable.{field_symbols, members_symbols, scalar_symbols, value_symbols}
 use Rattle.ion_binary.specs.Grammar.{type_code}
-use Rattle.ion_binary.specs.Canonical.{annotation_octets, binary, declaration, field_octets, headed, id_in, is_over, marker_if, marker_octets, member_octets, members_octets, octets_behind, scalar_octets, texts_kept, tree_octets, value_octets, with_symbols, wrapped}
+use Rattle.ion_binary.specs.Canonical.{annotation_octets, binary, declaration, field_octets, headed, id_in, is_over, marker_if, marker_octets, member_octets, members_octets, octets_after, scalar_octets, texts_kept, tree_octets, value_octets, with_symbols, wrapped}
 use Rattle.ion_binary.specs.Writing.{Unclosed, Written, after_all, at_begin, forgetting, opened_with, with_head}
 use Rattle.ion_binary.specs.WritingLaws.{ItemsPutTheForm}
-use Rattle.ion_binary.specs.Refusals.{texts_behind}
+use Rattle.ion_binary.specs.Refusals.{texts_after}
 use Rattle.ion_binary.proofs.KnownIds.{Extends, extends_same, extends_trans, extends_all, with_symbols-append, AreKnown, all_known, known_left, known_right, annotation_octets-same, field_octets-same, scalar_octets-same}
 
 abbrev pub written : List (List ℕ) → ℕ → Bool → List Unclosed → List ℕ → Written
@@ -121,9 +121,9 @@ pub forgotten : (over : Bool) (t : List (List ℕ)) (out : List ℕ) → forgett
 forgotten true t out = refl
 forgotten false t out = refl
 
--- what is written behind a value at top level
-abbrev pub behind_tree : Bool → List (List ℕ) → List (List ℕ) → List ℕ → List ℕ → Written
-behind_tree over kept all out x = written all (length all) false [] (out ++ (marker_if over ++ (declaration (drop (length kept) all) ++ x)))
+-- what is written after a value at top level
+abbrev pub after_tree : Bool → List (List ℕ) → List (List ℕ) → List ℕ → List ℕ → Written
+after_tree over kept all out x = written all (length all) false [] (out ++ (marker_if over ++ (declaration (drop (length kept) all) ++ x)))
 
 -- a container that begins at top level
 pub opens_top : (m : ℕ) (t : List (List ℕ)) (out : List ℕ) (top p : ℕ) (annotations : List UserSymbol) (k : Kind) (rest : List UserItem)
@@ -141,7 +141,7 @@ after_top : (m : ℕ) (t : List (List ℕ)) (out : List ℕ) (top p : ℕ) (anno
     → (let kept = texts_kept (is_over m t) t in
     let all = with_symbols kept (value_symbols None annotations v) in
     after_all m (written t (length t) false [] out) (value_items top None annotations p v ++ rest)
-    ≡ after_all m (behind_tree (is_over m t) kept all out (member_octets (id_in all) None annotations (value_octets (id_in all) v))) rest)
+    ≡ after_all m (after_tree (is_over m t) kept all out (member_octets (id_in all) None annotations (value_octets (id_in all) v))) rest)
 after_top m t out top p annotations (scalar v) rest =
     let begins : Written → Written = λ b.
     (let n : Written = record b { texts = with_symbols b.texts (annotations ++ scalar_symbols v) } in
@@ -160,7 +160,7 @@ after_top m t out top p annotations (container k ms last) rest =
     ∙ (ap (λ (o : Unclosed). after_all m (written t1 (length kept) over (o ∷ []) out) (member_items top ms ++ end ∷ rest))
     (same_opened kept all None annotations k [] (extends_left kept all own (members_symbols ms) (extends_same all)))
     ∙ (after_members m t1 all (length kept) over (opened_with (id_in all) None annotations k []) [] out top ms (end ∷ rest) (extends_right kept all own (members_symbols ms) (extends_same all))
-    ∙ ap (λ (w : List (List ℕ)). after_all m (behind_tree over kept w out (member_octets (id_in all) None annotations (headed (type_code k) x))) rest)
+    ∙ ap (λ (w : List (List ℕ)). after_all m (after_tree over kept w out (member_octets (id_in all) None annotations (headed (type_code k) x))) rest)
     (sym (with_symbols-append kept own (members_symbols ms))))))
 
 abbrev pub nothing_open : List (List ℕ) → List ℕ → Written
@@ -168,7 +168,7 @@ nothing_open t out = written t (length t) false [] out
 
 -- values at top level that come whole
 pub after_tops : (m : ℕ) (t : List (List ℕ)) (out : List ℕ) (ts : List (Top UserSymbol ℕ)) (rest : List UserItem)
-    → after_all m (nothing_open t out) (top_items ts ++ rest) ≡ after_all m (nothing_open (texts_behind m t ts) (out ++ octets_behind m t ts)) rest
+    → after_all m (nothing_open t out) (top_items ts ++ rest) ≡ after_all m (nothing_open (texts_after m t ts) (out ++ octets_after m t ts)) rest
 after_tops m t out [] rest = ap (λ (o : List ℕ). after_all m (nothing_open t o) rest) (sym (append-nil out))
 after_tops m t out (version place ∷ ts) rest = after_tops m t out ts rest
 after_tops m t out (tree first annotations place v ∷ ts) rest =
@@ -178,10 +178,10 @@ after_tops m t out (tree first annotations place v ∷ ts) rest =
     ap (λ (is : List UserItem). after_all m (nothing_open t out) is) (append_assoc (value_items first None annotations place v) (top_items ts) rest)
     ∙ (after_top m t out first place annotations v (top_items ts ++ rest)
     ∙ (after_tops m all (out ++ tree_octets over kept all annotations v) ts rest
-    ∙ ap (λ (o : List ℕ). after_all m (nothing_open (texts_behind m all ts) o) rest) (append_assoc out (tree_octets over kept all annotations v) (octets_behind m all ts))))
+    ∙ ap (λ (o : List ℕ). after_all m (nothing_open (texts_after m all ts) o) rest) (append_assoc out (tree_octets over kept all annotations v) (octets_after m all ts))))
 
 -- all of them
-pub after_all_tops : (m : ℕ) (ts : List (Top UserSymbol ℕ)) → after_all m at_begin (top_items ts) ≡ nothing_open (texts_behind m [] ts) (binary m ts)
+pub after_all_tops : (m : ℕ) (ts : List (Top UserSymbol ℕ)) → after_all m at_begin (top_items ts) ≡ nothing_open (texts_after m [] ts) (binary m ts)
 after_all_tops m ts = ap (λ (is : List UserItem). after_all m at_begin is) (sym (append-nil (top_items ts))) ∙ after_tops m [] marker_octets ts []
 
 pub items_put_the_form : ItemsPutTheForm

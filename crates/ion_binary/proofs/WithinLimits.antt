@@ -252,7 +252,7 @@ module _ (limits : Limits) where
   abbrev m : ℕ
   m = limits.symbols
 
-  -- in an open container the texts so far, and the value closed here, are within the limits, and so are the items behind
+  -- in an open container the texts so far, and the value closed here, are within the limits, and so are the items after
   abbrev Within : List (List ℕ) → ℕ → Bool → Unclosed → List Unclosed → List ℕ → List UserItem → Type 0
   Within t n due c cs out rest =
       (texts_cost t ≤ limits.symbols) × (length (all_closed cs (closed_with c c.body)) ≤ limits.value) × AllWithin limits (written t n due (c ∷ cs) out) rest
@@ -344,8 +344,8 @@ module _ (limits : Limits) where
 
   -- ---- values at top level
 
-  abbrev Behind : Bool → List (List ℕ) → List ℕ → List ℕ → List UserItem → List (List ℕ) → Type 0
-  Behind over kept out y rest w =
+  abbrev After : Bool → List (List ℕ) → List ℕ → List ℕ → List UserItem → List (List ℕ) → Type 0
+  After over kept out y rest w =
       (texts_cost w ≤ limits.symbols) × (length y ≤ limits.value)
       × AllWithin limits (nothing_open w (out ++ (marker_if over ++ (declaration (drop (length kept) w) ++ y)))) rest
 
@@ -353,7 +353,7 @@ module _ (limits : Limits) where
       → (let kept = texts_left m t in
       let all = with_symbols kept (value_symbols None annotations v) in
       AllWithin limits (nothing_open t out) (value_items top None annotations p v ++ rest)
-      ↔ Behind (is_over m t) kept out (member_octets (id_in all) None annotations (value_octets (id_in all) v)) rest all)
+      ↔ After (is_over m t) kept out (member_octets (id_in all) None annotations (value_octets (id_in all) v)) rest all)
   tree-within t out top p annotations (scalar v) rest =
       let own : List UserSymbol = annotations ++ scalar_symbols v in
       iff-same (λ (b : Written).
@@ -378,7 +378,7 @@ module _ (limits : Limits) where
       (same_opened kept all None annotations k [] (extends_left kept all own (members_symbols ms) (extends_same all))))
       (iff-then (container-within t1 (with_symbols t1 (members_symbols ms)) (length kept) over (opened_with (id_in all) None annotations k []) (put_in (opened_with (id_in all) None annotations k []) x) [] out top ms last rest
       (members-within t1 all (length kept) over (opened_with (id_in all) None annotations k []) [] out top ms (bare_item value.end last top ∷ rest) (extends_right kept all own (members_symbols ms) (extends_same all))))
-      (iff-same (Behind over kept out (member_octets (id_in all) None annotations (headed (type_code k) x)) rest) (with_symbols t1 (members_symbols ms)) all
+      (iff-same (After over kept out (member_octets (id_in all) None annotations (headed (type_code k) x)) rest) (with_symbols t1 (members_symbols ms)) all
       (sym (with_symbols-append kept own (members_symbols ms))))))
 
   tops-within : (t : List (List ℕ)) (out : List ℕ) (ts : List (Top UserSymbol ℕ)) → texts_cost t ≤ limits.symbols

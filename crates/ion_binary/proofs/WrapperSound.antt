@@ -30,7 +30,7 @@ Took-wide r e c x d t le h = record { parts = t.parts; place = t.place; inside =
 
 -- ---- a wrapper's lengths
 
--- behind a wrapper's descriptor octet: the octets of its length, and those of its ids' length
+-- after a wrapper's descriptor octet: the octets of its length, and those of its ids' length
 pub record TookWrapper (r : Region) (length_code : ℕ) (c : Cursor) (w : Wrapped × Cursor) : Type 0 where
   pub head : List ℕ
   pub len : List ℕ

@@ -1,4 +1,4 @@
--- What an item leaves held is what the streaming definition has behind it.
+-- What an item leaves held is what the streaming definition has after it.
 use Rattle.std.proofs.Common.{◌≡◌, ℕ, suc, ◌+◌, ◌*◌, ◌<◌, ◌≤◌, Bool, false, not, ◌&&◌, List, [], ◌∷◌, ◌++◌, length, map, drop, Option, Some, None, is_some, option_map, Result, Ok, Err, OnOk, IfErr, refl, ap, sym, subst, ◌∙◌, arith, lit<}
 use Rattle.ion_meter.specs.declared.fault.Fault.{Fault}
 use Rattle.ion_meter.specs.declared.fault.Fault.TheVariants.{Refused, WriteFault}
@@ -6,7 +6,7 @@ use Rattle.ion_meter.specs.declared.fault.Reason.{Reason}
 use Rattle.ion_meter.specs.declared.limits.Limits.{Limits}
 use Rattle.ion_value.specs.declared.ion_type.Kind.{Kind}
 use Rattle.ion_value.specs.declared.ion_type.Kind.TheVariants as kind
-use Rattle.ion_value.specs.Standing.{Continues, HasAnnotations, HasPlace, InRange, has_field, is_marker, open_after, open_behind}
+use Rattle.ion_value.specs.Standing.{Continues, HasAnnotations, HasPlace, InRange, has_field, is_marker, open_after, open_after_all}
 use Rattle.ion_value.specs.Value as value
 use Rattle.ion_value.specs.Value.{Head, Item, PlacedItem, Scalar, SymbolAt, UserSymbol, map_head, map_scalar, user_item, user_items, user_symbol_at}
 use Rattle.ion_binary.specs.declared.headers.HeaderPlace.{HeaderPlace}
@@ -18,7 +18,7 @@ use Rattle.ion_binary.specs.Held.{HaveCodes, Held, MayCome, headers_of, held_for
 use Rattle.ion_binary.specs.Opening.{IsOpen, MayAdd}
 use Rattle.ion_binary.specs.Places.{unheaded}
 use Rattle.ion_binary.specs.Writer.{ComesAt, Follows, Holds, Stands, added, adds_at, held_in, item_refusal}
-use Rattle.ion_binary.specs.Writing.{Unclosed, Written, after, after_all, begun, closed_size, closed_with, first_over, item_puts, item_symbols, refused_at, refused_by, unless_refused, with_end, with_head, with_ids_given, with_value, written_behind}
+use Rattle.ion_binary.specs.Writing.{Unclosed, Written, after, after_all, begun, closed_size, closed_with, first_over, item_puts, item_symbols, refused_at, refused_by, unless_refused, with_end, with_head, with_ids_given, with_value, written_after}
 use Rattle.ion_binary.specs.ItemPuts.{after_all-last}
 use Rattle.ion_binary.proofs.HeldMoves.{forgetting-moves, forgetting-open, what_is_held_moves}
 
@@ -81,9 +81,9 @@ pub may-add : {A : Type 0} (limits : Limits) (v : OpenValue A) (s : Written) (it
     → MayCome limits.depth s (user_item item) → MayAdd limits v item.head item
 may-add limits v s item e come = may-add-by limits v s item item.head e come
 
-pub may-add-behind : {A : Type 0} (old new : BinWriter A) (s : Written) (item : PlacedItem) → ComesAt old s item → new.open_value ≡ old.open_value → new.limits ≡ old.limits
+pub may-add-after : {A : Type 0} (old new : BinWriter A) (s : Written) (item : PlacedItem) → ComesAt old s item → new.open_value ≡ old.open_value → new.limits ≡ old.limits
     → MayAdd new.limits new.open_value item.head item
-may-add-behind {A} old new s item comes ev el =
+may-add-after {A} old new s item comes ev el =
     let P : OpenValue A → Type 0 = λ v. MayAdd old.limits v item.head item in
     let Q : Limits → Type 0 = λ l. MayAdd l new.open_value item.head item in
     subst Q (sym el) (subst P (sym ev) (may-add old.limits old.open_value s item (ap (λ (h : Held). h.headers) comes.0.held) comes.1))
@@ -144,10 +144,10 @@ level-after limit w kinds item e =
     let o : length n.open_containers ≡ length w.open_containers = ap (λ (cs : List Unclosed). length cs) (same-open limit w i) in
     level-head n _ i.field i.annotations kinds item.head (e ∙ sym o)
 
-level-behind : (limit : ℕ) (w : Written) (kinds : List Kind) (path : List PlacedItem) → length kinds ≡ length w.open_containers
-    → length (open_behind kinds path) ≡ length (after_all limit w (user_items path)).open_containers
-level-behind limit w kinds [] e = e
-level-behind limit w kinds (i ∷ path) e = level-behind limit (after limit w (user_item i)) (open_after kinds i.head) path (level-after limit w kinds i e)
+level-after-all : (limit : ℕ) (w : Written) (kinds : List Kind) (path : List PlacedItem) → length kinds ≡ length w.open_containers
+    → length (open_after_all kinds path) ≡ length (after_all limit w (user_items path)).open_containers
+level-after-all limit w kinds [] e = e
+level-after-all limit w kinds (i ∷ path) e = level-after-all limit (after limit w (user_item i)) (open_after kinds i.head) path (level-after limit w kinds i e)
 
 has-place : (depth : ℕ) (kinds : List Kind) (h : Head SymbolAt) → HasPlace depth kinds h → HasPlace depth kinds (map_head user_symbol_at h)
 has-place depth kinds (value.whole body) p = in-range-of-user body p
@@ -183,13 +183,13 @@ marker-mapped (value.begin k) = refl
 marker-mapped value.end = refl
 marker-mapped value.marker = refl
 
-pub may-come : (limits : Limits) (path : List PlacedItem) (item : PlacedItem) → Continues limits path item → MayCome limits.depth (written_behind limits path) (user_item item)
+pub may-come : (limits : Limits) (path : List PlacedItem) (item : PlacedItem) → Continues limits path item → MayCome limits.depth (written_after limits path) (user_item item)
 may-come limits path item c = record {
-  kinds = open_behind [] path;
-  level = level-behind limits.symbols _ [] path refl;
+  kinds = open_after_all [] path;
+  level = level-after-all limits.symbols _ [] path refl;
   fits = record {
-    place = has-place limits.depth (open_behind [] path) item.head c.fits.place;
-    field = same-field (open_behind [] path) item.field item.head c.fits.field;
+    place = has-place limits.depth (open_after_all [] path) item.head c.fits.place;
+    field = same-field (open_after_all [] path) item.field item.head c.fits.field;
     annotations = has-annotations item.head item.annotations c.fits.annotations;
   };
   value = marker-mapped item.head ∙ c.value;
@@ -225,14 +225,14 @@ value-put-same n octets (h ∷ hs) gs = refl
 
 module _ (limit depth : ℕ) (s : Written) (item : PlacedItem) (b : Held) (e : b ≡ held_forgotten limit (held_of s) (user_item item).head)
     (codes : HaveCodes s.open_containers) (come : MayCome depth s (user_item item)) where
-  pub held-behind : value_held (added b item) (added b item).headers (added b item).octets ≡ held_of (after limit s (user_item item))
-  held-behind =
+  pub held-after : value_held (added b item) (added b item).headers (added b item).octets ≡ held_of (after limit s (user_item item))
+  held-after =
       value-held-same (with_names b (user_item item)) (added b item).octets (added b item).headers (added b item).headers
       ∙ (ap (λ (x : Held). value_held (with_names x (user_item item)) (added x item).headers (added x item).octets) e
       ∙ (what_is_held_moves limit depth s (user_item item) codes come).held)
 
-  pub put-behind : value_put (added b item) (added b item).headers (added b item).octets ≡ item_puts limit s (user_item item)
-  put-behind =
+  pub put-then : value_put (added b item) (added b item).headers (added b item).octets ≡ item_puts limit s (user_item item)
+  put-then =
       value-put-same (with_names b (user_item item)) (added b item).octets (added b item).headers (added b item).headers
       ∙ (ap (λ (x : Held). value_put (with_names x (user_item item)) (added x item).headers (added x item).octets) e
       ∙ (what_is_held_moves limit depth s (user_item item) codes come).puts)
@@ -249,7 +249,7 @@ pub follows-out : {A : Type 0} (old mid new : BinWriter A) (s : Written) (item :
     → IfErr result (λ f. f ≡ WriteFault) → Follows old new s item result
 follows-out old mid new s item (Ok x) b comes e m none held opened cause = record {
   holds = record {
-    held = held ∙ (ap (λ (h : Held). value_held h h.headers h.octets) m ∙ held-behind old.limits.symbols old.limits.depth s item b e comes.0.codes comes.1);
+    held = held ∙ (ap (λ (h : Held). value_held h h.headers h.octets) m ∙ held-after old.limits.symbols old.limits.depth s item b e comes.0.codes comes.1);
     is_open = opened;
     codes = codes-after old.limits.symbols s (user_item item) comes.0.codes;
   };
@@ -276,17 +276,17 @@ pub adds-are : {A : Type 0} (old mid : BinWriter A) (s : Written) (item : Placed
     → value_put (held_in mid) mid.open_value.headers mid.open_value.octets.all ≡ adds_at old.limits s item
 adds-are old mid s item b comes e m none =
     ap (λ (h : Held). value_put h h.headers h.octets) m
-    ∙ (put-behind old.limits.symbols old.limits.depth s item b e comes.0.codes comes.1
+    ∙ (put-then old.limits.symbols old.limits.depth s item b e comes.0.codes comes.1
     ∙ ap (λ (r : Option (Reason × ℕ)). unless_refused r (item_puts old.limits.symbols s (user_item item))) (sym none ∙ refusal-is old.limits s item b e comes.0.codes comes.1))
 
--- ---- behind a path
+-- ---- after a path
 
-pub written-last : (limits : Limits) (path : List PlacedItem) (item : PlacedItem) → after limits.symbols (written_behind limits path) (user_item item) ≡ written_behind limits (path ++ item ∷ [])
+pub written-last : (limits : Limits) (path : List PlacedItem) (item : PlacedItem) → after limits.symbols (written_after limits path) (user_item item) ≡ written_after limits (path ++ item ∷ [])
 written-last limits path item = sym (after_all-last limits.symbols _ path item)
 
-pub stands-behind : {A : Type 0} (limits : Limits) (new : BinWriter A) (path : List PlacedItem) (item : PlacedItem) → new.limits ≡ limits → new.failed ≡ None
-    → Holds new (after limits.symbols (written_behind limits path) (user_item item)) → Stands new (path ++ item ∷ [])
-stands-behind {A} limits new path item e well holds =
+pub stands-after : {A : Type 0} (limits : Limits) (new : BinWriter A) (path : List PlacedItem) (item : PlacedItem) → new.limits ≡ limits → new.failed ≡ None
+    → Holds new (after limits.symbols (written_after limits path) (user_item item)) → Stands new (path ++ item ∷ [])
+stands-after {A} limits new path item e well holds =
     let P : Written → Type 0 = λ s. Holds new s in
-    let Q : Limits → Type 0 = λ l. Holds new (written_behind l (path ++ item ∷ [])) in
+    let Q : Limits → Type 0 = λ l. Holds new (written_after l (path ++ item ∷ [])) in
     record { well = well; holds = subst Q (sym e) (subst P (written-last limits path item) holds) }

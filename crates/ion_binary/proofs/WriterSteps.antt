@@ -192,7 +192,7 @@ may-follow {A} limits v h item octets place head eo o front at is may =
     ∙ (ap (λ (x : Option SymbolAt). h.octets ++ (field_octets ids (option_map user_symbol_at x) ++ id_octets ids (user_item item).annotations)) f
     ∙ (ap (λ (x : List SymbolAt). h.octets ++ id_octets ids (map user_symbol_at x)) bare ∙ (append-nil h.octets ∙ eo)))) may)
 
--- what is there behind a head is what the definition has
+-- what is there after a head is what the definition has
 module _ (h : Held) (item : PlacedItem) (place : ℕ) (octets : List ℕ) (head : Head SymbolAt) (at : place ≡ ids_place (with_names h (user_item item)) (user_item item))
     (front : octets ≡ with_front (with_names h (user_item item)) (user_item item)) (is : head ≡ item.head) where
   pub octets-moved : moved_octets place octets h.headers (id_in (with_names h (user_item item)).texts) (map_head user_symbol_at head) ≡ (added h item).octets

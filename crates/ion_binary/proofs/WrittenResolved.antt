@@ -17,7 +17,7 @@ use Rattle.ion_symbols.specs.UserValues.{IsUser}
 use Rattle.ion_symbols.proofs.OtherSymbols.{value_symbols-map}
 use Rattle.ion_binary.specs.Grammar.{Stream, Tops}
 use Rattle.ion_binary.specs.Laws.{Bodies}
-use Rattle.ion_binary.specs.Canonical.{binary, declaration, id_in, is_over, marker_if, marker_octets, member_octets, octets_behind, texts_kept, tree_octets, value_octets, with_symbols}
+use Rattle.ion_binary.specs.Canonical.{binary, declaration, id_in, is_over, marker_if, marker_octets, member_octets, octets_after, texts_kept, tree_octets, value_octets, with_symbols}
 use Rattle.ion_binary.specs.Refusals.{AreWithin}
 use Rattle.ion_binary.specs.Spelling.{AreShort, HasRoom, bare_symbol, with_id, with_texts}
 use Rattle.ion_binary.specs.WrittenSymbols.{WhatIsWrittenIsResolved}
@@ -211,7 +211,7 @@ module _ (catalog : List Shared) (limit : ℕ) where
 
 module _ (catalog : List Shared) (limits : Limits) where
   stream : (texts : List (List ℕ)) (b : List ℕ) (tops : List (Top UserSymbol ℕ)) → AllByRecursion IsUser tops → AreShort limits.symbols texts tops → AreWithin limits texts tops
-      → Sofar catalog limits.symbols (table_of texts) b → (t : Table) × Sofar catalog limits.symbols t (b ++ octets_behind limits.symbols texts tops)
+      → Sofar catalog limits.symbols (table_of texts) b → (t : Table) × Sofar catalog limits.symbols t (b ++ octets_after limits.symbols texts tops)
   stream texts b [] users short within s = (table_of texts, moved catalog limits.symbols _ _ _ _ refl (sym (append-nil b)) s)
   stream texts b (version place ∷ ts) users short within s = absurd users.0
   stream texts b (tree first annotations place x ∷ ts) users short within s =
@@ -225,7 +225,7 @@ module _ (catalog : List Shared) (limits : Limits) where
       (with-marker-if catalog limits.symbols over texts b s)
       in
       let r = stream all (b ++ whole) ts users.1 short.1.1.1 within.2 (moved catalog limits.symbols _ _ _ _ refl (append_assoc b (marker_if over) octets) one) in
-      (r.0, moved catalog limits.symbols _ _ _ _ refl (append_assoc b whole (octets_behind limits.symbols all ts)) r.1)
+      (r.0, moved catalog limits.symbols _ _ _ _ refl (append_assoc b whole (octets_after limits.symbols all ts)) r.1)
 
   at-start : Sofar catalog limits.symbols system marker_octets
   at-start = record { raw = version 0 ∷ []; spells = Tops.marker [] [] Tops.nothing; leads = λ more h. h }

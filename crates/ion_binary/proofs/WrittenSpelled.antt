@@ -106,7 +106,7 @@ record PlainAt (ids : UserSymbol → ℕ) (u : Scalar UserSymbol) (v : Scalar Sy
   pub spells : Plain v x
   pub fits : (limits : Limits) → IdsFit ids limits → ScalarFits limits u → PlainFits limits spells
 
--- a body behind its header
+-- a body after its header
 headed-Plain : (ids : UserSymbol → ℕ) (u : Scalar UserSymbol) (t : ℕ) (v : Scalar Symbol) (b : List ℕ) → Body t v b → length (headed t b) < 2 ^ 62
     → ((limits : Limits) → IdsFit ids limits → ScalarFits limits u → length b ≤ limits.scalar) → PlainAt ids u v (headed t b)
 headed-Plain ids u t v b spells short fits = record {

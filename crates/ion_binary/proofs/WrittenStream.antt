@@ -11,7 +11,7 @@ use Rattle.ion_meter.specs.declared.limits.Limits.{Limits}
 use Rattle.ion_value.specs.declared.ion_type.Kind.TheVariants as kind
 use Rattle.ion_value.specs.Items.{named, text_or_id}
 use Rattle.ion_value.specs.Path.{closed, path_items}
-use Rattle.ion_value.specs.Reading.{Finished, behind}
+use Rattle.ion_value.specs.Reading.{Finished, items_then}
 use Rattle.ion_value.specs.Value as value
 use Rattle.ion_value.specs.Value.{Symbol, Text, Id, SymbolAt, UserSymbol, Known, Unknown, user_symbol, Scalar, Value, Members, scalar, container, nothing, member, Top, version, tree, map_scalar, map_value, map_members, no_place, unplaced_top}
 use Rattle.ion_value.specs.Writable.{IsText, field_symbols, members_symbols, scalar_symbols, value_symbols}
@@ -23,7 +23,7 @@ use Rattle.ion_symbols.specs.Users.{is_declaration}
 use Rattle.ion_symbols.specs.UserValues.{IsUser, is_declaring}
 use Rattle.ion_binary.specs.Grammar.{Bin, Stream, Tops}
 use Rattle.ion_binary.specs.Laws.{Bodies}
-use Rattle.ion_binary.specs.Canonical.{binary, declaration, id_in, is_over, marker_if, marker_octets, member_octets, octets_behind, texts_kept, tree_octets, value_octets, with_symbol, with_symbols, with_text}
+use Rattle.ion_binary.specs.Canonical.{binary, declaration, id_in, is_over, marker_if, marker_octets, member_octets, octets_after, texts_kept, tree_octets, value_octets, with_symbol, with_symbols, with_text}
 use Rattle.ion_binary.specs.Spelling.{AreShort, IsDeclared, TheFormIsRead, bare_symbol, with_id, with_texts}
 use Rattle.ion_binary.specs.WrittenLimits.{AllowDeclarations, FitsBinary, MayBeDeclared, SymbolFits, WhatIsWrittenIsWithinLimits}
 use Rattle.ion_binary.proofs.Complete.{Shrinking, fitting_streams, one_stream}
@@ -61,9 +61,9 @@ position-at (u ∷ us) t n h = position-at-by (bytes_eq u t) u us t (position us
 own-text : (texts : List (List ℕ)) (t : List ℕ) (n : ℕ) → position texts t ≡ Some n → text_at (table_of texts) (n + 10) ≡ Some t
 own-text texts t n h =
     let above : nat_lt (n + 10) 10 ≡ false = le-ltb (n + 10) 10 (omega arith) in
-    let behind : n + 10 - 10 ≡ n = omega arith in
+    let after : n + 10 - 10 ≡ n = omega arith in
     ap (λ b. text_of_slot (if b then local_slot (slice_get system_slots (n + 10)) else slot_in [] (map (λ u. Some u) texts) (n + 10 - 10))) above
-    ∙ (ap (λ i. text_of_slot (local_slot (slice_get (map (λ u. Some u) texts) i))) behind
+    ∙ (ap (λ i. text_of_slot (local_slot (slice_get (map (λ u. Some u) texts) i))) after
     ∙ ap (λ s. text_of_slot (local_slot s)) (position-at texts t n h))
 
 system-text : (texts : List (List ℕ)) (t : List ℕ) (n : ℕ) → position system_texts t ≡ Some n → text_at (table_of texts) (n + 1) ≡ Some t
@@ -212,7 +212,7 @@ stay-known texts (s ∷ ss) h = (symbol-seen texts s h.0, stay-known texts ss h.
 
 -- ---- what is read so far
 
--- behind these values at top level the table is another, and these are the user values among them
+-- after these values at top level the table is another, and these are the user values among them
 abbrev Leads : List Shared → Table → List (Top SymbolAt ℕ) → List (Top UserSymbol ℕ) → Table → Type 0
 Leads catalog t tops us u = (more : List (Top SymbolAt ℕ)) → user_tops catalog t (tops ++ more) ≡ option_map (λ vs. us ++ vs) (user_tops catalog u more)
 
@@ -358,7 +358,7 @@ same-value texts q first place annotations x own h raw k n e =
 -- ---- all values, under limits that they are within where that is wanted
 
 module _ (limits : Limits) (Wanted : Type 0) where
-  -- the bytes so far spell a stream, within the limits where that is wanted; these values were written, and the table behind them is this one
+  -- the bytes so far spell a stream, within the limits where that is wanted; these values were written, and the table after them is this one
   record Sofar (catalog : List Shared) (t : Table) (b : List ℕ) (done : List (Top UserSymbol ℕ)) : Type 0 where
     pub raw : List (Top SymbolAt ℕ)
     pub users : List (Top UserSymbol ℕ)
@@ -454,7 +454,7 @@ module _ (limits : Limits) (Wanted : Type 0) where
 
   stream : (catalog : List Shared) (limit : ℕ) (texts : List (List ℕ)) (b : List ℕ) (done tops : List (Top UserSymbol ℕ)) → AllByRecursion IsUser tops → (Wanted → AllByRecursion (FitsBinary limits) tops)
       → AreShort limit texts tops
-      → Sofar catalog (table_of texts) b done → (t : Table) × Sofar catalog t (b ++ octets_behind limit texts tops) (done ++ tops)
+      → Sofar catalog (table_of texts) b done → (t : Table) × Sofar catalog t (b ++ octets_after limit texts tops) (done ++ tops)
   stream catalog limit texts b done [] users within short s = (table_of texts, moved catalog _ _ _ _ _ _ refl (sym (append-nil b)) (sym (append-nil done)) s)
   stream catalog limit texts b done (version place ∷ ts) users within short s = absurd users.0
   stream catalog limit texts b done (tree first annotations place x ∷ ts) users within short s =
@@ -469,7 +469,7 @@ module _ (limits : Limits) (Wanted : Type 0) where
       let r = stream catalog limit all (b ++ whole) (done ++ tree first annotations place x ∷ []) ts users.1
       (λ wanted. let fits = within wanted in fits.1) short.1.1.1
       (moved catalog _ _ _ _ _ _ refl (append_assoc b (marker_if over) octets) refl one) in
-      (r.0, moved catalog _ _ _ _ _ _ refl (append_assoc b whole (octets_behind limit all ts)) (append_assoc done (tree first annotations place x ∷ []) ts) r.1)
+      (r.0, moved catalog _ _ _ _ _ _ refl (append_assoc b whole (octets_after limit all ts)) (append_assoc done (tree first annotations place x ∷ []) ts) r.1)
 
   at-start : (catalog : List Shared) → Sofar catalog system marker_octets []
   at-start catalog = record {
@@ -495,7 +495,7 @@ the_form_is_read catalog limit tops users short =
     record {
       raw = r.raw;
       users = r.users ++ [];
-      stream = record { begins = (1 ∷ 0 ∷ 234 ∷ octets_behind limit [] tops, refl); spells = r.spells };
+      stream = record { begins = (1 ∷ 0 ∷ 234 ∷ octets_after limit [] tops, refl); spells = r.spells };
       users_are = ap (user_tops catalog system) (sym (append-nil r.raw)) ∙ r.leads [];
       same = ap (map unplaced_top) (append-nil r.users) ∙ r.same;
     }
@@ -507,4 +507,4 @@ what_is_written_is_within_limits bodies shrinks limits us raw checked users with
     let spelled : Stream (binary limits.symbols us) r.raw = record { begins = stream.begins; spells = r.spells } in
     let same : r.raw ≡ raw = one_stream bodies shrinks (binary limits.symbols us) r.raw raw spelled stream in
     fitting_streams bodies shrinks limits (binary limits.symbols us) r.raw r.spells (r.fits tt)
-    ∙ ap (λ (tops : List (Top SymbolAt ℕ)). behind (path_items (closed tops)) Finished) same
+    ∙ ap (λ (tops : List (Top SymbolAt ℕ)). items_then (path_items (closed tops)) Finished) same

@@ -1,4 +1,4 @@
--- The canonical binary form: one spelling of each value, behind the declaration of the symbols that it needs.
+-- The canonical binary form: one spelling of each value, after the declaration of the symbols that it needs.
 use Rattle.std.specs.Prelude.{ℕ, ◌+◌, ◌*◌, ◌/◌, Bool, true, false, nat_lt, if◌then◌else◌, List, [], ◌∷◌, ◌++◌, length, drop, Option, Some, None, unwrap_or, codes, ⊤}
 use Rattle.std.specs.List.{flat_map}
 use Rattle.ion_value.specs.declared.ion_type.Kind.TheVariants as kind
@@ -17,7 +17,7 @@ use Rattle.ion_binary.specs.Grammar.{type_code}
 abbrev pub length_code : ℕ → ℕ
 length_code n = if nat_lt n 14 then n else 14
 
--- the length of n octets as a VarUInt behind the descriptor, and nothing where the descriptor itself has it
+-- the length of n octets as a VarUInt after the descriptor, and nothing where the descriptor itself has it
 abbrev pub length_octets : ℕ → List ℕ
 length_octets n = if nat_lt n 14 then [] else var_uint_octets n
 
@@ -25,18 +25,18 @@ length_octets n = if nat_lt n 14 then [] else var_uint_octets n
 abbrev pub header : ℕ → ℕ → List ℕ
 header t n = (16 * t + length_code n) ∷ length_octets n
 
--- a body behind its shortest header with this type code
+-- a body after its shortest header with this type code
 abbrev pub headed : ℕ → List ℕ → List ℕ
 headed t body = header t (length body) ++ body
 
--- a value behind its annotations, in a wrapper where there are any
+-- a value after its annotations, in a wrapper where there are any
 abbrev pub wrapped : List ℕ → List ℕ → List ℕ
 wrapped [] x = x
 wrapped (n ∷ ns) x = headed 14 ((n ∷ ns) ++ x)
 
 -- ---- values, where symbols have ids
 
--- the ids of symbols as VarUInts, one behind the other; the first argument says which id a symbol has
+-- the ids of symbols as VarUInts, one after the other; the first argument says which id a symbol has
 abbrev pub id_octets : (UserSymbol → ℕ) → List UserSymbol → List ℕ
 id_octets ids symbols = flat_map (λ s. var_uint_octets (ids s)) symbols
 
@@ -66,7 +66,7 @@ abbrev mutual
   value_octets ids (scalar body) = scalar_octets ids body
   value_octets ids (container kind members last) = headed (type_code kind) (members_octets ids members)
 
-  -- the members of a container, each behind its field and its annotations
+  -- the members of a container, each after its field and its annotations
   pub members_octets : {P : Type 0} → (UserSymbol → ℕ) → Members UserSymbol P → List ℕ
   members_octets ids nothing = []
   members_octets ids (member before f annotations place x) = members_octets ids before ++ member_octets ids f annotations (value_octets ids x)
@@ -78,24 +78,24 @@ unfoldable pub id_in : List (List ℕ) → UserSymbol → ℕ
 id_in texts (Known t) = unwrap_or (known_id texts t) 0
 id_in texts Unknown = 0
 
--- the texts with t behind them, where t has no id yet: the last argument is the id that it has
+-- the texts with t after them, where t has no id yet: the last argument is the id that it has
 abbrev pub with_text : List (List ℕ) → List ℕ → Option ℕ → List (List ℕ)
 with_text texts t (Some id) = texts
 with_text texts t None = texts ++ t ∷ []
 
--- the texts with that of a symbol behind them, where it has no id yet
+-- the texts with that of a symbol after them, where it has no id yet
 unfoldable pub with_symbol : List (List ℕ) → UserSymbol → List (List ℕ)
 with_symbol texts (Known t) = with_text texts t (known_id texts t)
 with_symbol texts Unknown = texts
 
--- the texts with those of the symbols behind them, in order of the symbols, where they have no id yet
+-- the texts with those of the symbols after them, in order of the symbols, where they have no id yet
 abbrev pub with_symbols : List (List ℕ) → List UserSymbol → List (List ℕ)
 with_symbols texts [] = texts
 with_symbols texts (s ∷ ss) = with_symbols (with_symbol texts s) ss
 
 -- ---- declarations
 
--- these members, and behind them a string for each text, without field and annotations
+-- these members, and after them a string for each text, without field and annotations
 abbrev pub string_members : Members UserSymbol ⊤ → List (List ℕ) → Members UserSymbol ⊤
 string_members before [] = before
 string_members before (t ∷ ts) = string_members (member before None [] tt (scalar (value.string t))) ts
@@ -124,7 +124,7 @@ abbrev pub marker_if : Bool → List ℕ
 marker_if true = marker_octets
 marker_if false = []
 
--- the texts cost more than half of what they may: the next value begins without them, behind a version marker
+-- the texts cost more than half of what they may: the next value begins without them, after a version marker
 unfoldable pub is_over : ℕ → List (List ℕ) → Bool
 is_over limit texts = nat_lt (limit / 2) (texts_cost texts)
 
@@ -133,22 +133,22 @@ abbrev pub texts_kept : Bool → List (List ℕ) → List (List ℕ)
 texts_kept true texts = []
 texts_kept false texts = texts
 
--- a value at top level, behind a version marker where the texts were forgotten before it, and behind the declaration of those of all its
+-- a value at top level, after a version marker where the texts were forgotten before it, and after the declaration of those of all its
 -- texts that are not among the ones kept
 abbrev pub tree_octets : {P : Type 0} → Bool → List (List ℕ) → List (List ℕ) → List UserSymbol → Value UserSymbol P → List ℕ
 tree_octets emptied kept all annotations x =
     marker_if emptied ++ (declaration (drop (length kept) all) ++ member_octets (id_in all) None annotations (value_octets (id_in all) x))
 
 -- each value at top level, where these texts have been declared before the first; version markers of the values have no octets
-abbrev pub octets_behind : {P : Type 0} → ℕ → List (List ℕ) → List (Top UserSymbol P) → List ℕ
-octets_behind limit texts [] = []
-octets_behind limit texts (version place ∷ ts) = octets_behind limit texts ts
-octets_behind limit texts (tree first annotations place x ∷ ts) =
+abbrev pub octets_after : {P : Type 0} → ℕ → List (List ℕ) → List (Top UserSymbol P) → List ℕ
+octets_after limit texts [] = []
+octets_after limit texts (version place ∷ ts) = octets_after limit texts ts
+octets_after limit texts (tree first annotations place x ∷ ts) =
     let emptied = is_over limit texts in
     let kept = texts_kept emptied texts in
     let all = with_symbols kept (value_symbols None annotations x) in
-    tree_octets emptied kept all annotations x ++ octets_behind limit all ts
+    tree_octets emptied kept all annotations x ++ octets_after limit all ts
 
--- a version marker, and each value behind the declaration of those of its texts that are new
+-- a version marker, and each value after the declaration of those of its texts that are new
 abbrev pub binary : {P : Type 0} → ℕ → List (Top UserSymbol P) → List ℕ
-binary limit tops = marker_octets ++ octets_behind limit [] tops
+binary limit tops = marker_octets ++ octets_after limit [] tops

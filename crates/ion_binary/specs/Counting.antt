@@ -55,7 +55,7 @@ pub record IsCountedTo (level : ℕ) (counts : List ℕ) (n : ℕ) (hs : List He
 abbrev pub IsCounted : List ℕ → ℕ → List HeaderPlace → Type 0
 IsCounted counts n hs = IsCountedTo 5 counts n hs
 
--- each header stands behind those around it, and within n octets
+-- each header stands after those around it, and within n octets
 abbrev pub ArePlaced : ℕ → List HeaderPlace → Type 0
 ArePlaced n [] = ⊤
 ArePlaced n (h ∷ hs) = (h.place ≤ n) × ArePlaced h.place hs

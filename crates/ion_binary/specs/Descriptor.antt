@@ -1,4 +1,4 @@
--- Descriptor octets, and the octets and lengths behind them (binary encoding, "Typed Value Formats").
+-- Descriptor octets, and the octets and lengths after them (binary encoding, "Typed Value Formats").
 use Rattle.std.specs.Prelude.{ℕ, zero, suc, ◌+◌, ◌/◌, ◌%◌, Bool, true, false, nat_le, nat_lt, nat_eq, if◌then◌else◌, List, [], ◌∷◌, slice_index_or, Option, Some, None, Result, Ok, Err}
 use Rattle.ion_meter.specs.declared.fault.Reason.{Reason}
 use Rattle.ion_meter.specs.declared.fault.Reason.TheVariants.{Truncated, BadVar, Overrun}
@@ -33,7 +33,7 @@ falls_short (Some end) place n = nat_lt (place + n) end
 
 -- ---- octets and lengths
 
--- the first of these bytes, which stands at a place, and the cursor behind it; Truncated where there is none
+-- the first of these bytes, which stands at a place, and the cursor after it; Truncated where there is none
 abbrev pub first_octet : ℕ → List ℕ → Result (ℕ × Cursor) Reason
 first_octet place [] = Err Truncated
 first_octet place (b ∷ bytes) = Ok (b, record { place = place + 1; rest = bytes })
@@ -49,7 +49,7 @@ var_at (suc most) r c = do
   b ← octet_at r c
   if nat_lt b.0 128 then (var_at most r b.1 >>= λ more. Ok (b.0 ∷ more.0, more.1)) else Ok (b.0 ∷ [], b.1)
 
--- the number that a VarUInt of at most nine octets spells, and the cursor behind it
+-- the number that a VarUInt of at most nine octets spells, and the cursor after it
 unfoldable pub var_uint_at : Region → Cursor → Result (ℕ × Cursor) Reason
 var_uint_at r c = do
   b ← var_at 9 r c
@@ -92,7 +92,7 @@ wrapper_shape length_code =
     if nat_eq length_code 0 then marker
     else (if nat_lt length_code 3 then illegal else wrapper length_code)
 
--- a struct whose length code is 1 has its fields in order, and a length behind the descriptor
+-- a struct whose length code is 1 has its fields in order, and a length after the descriptor
 abbrev pub struct_shape : ℕ → Shape
 struct_shape length_code =
     if nat_eq length_code 1 then sorted else container kind.Struct length_code

@@ -27,7 +27,7 @@ pub record IsFresh (texts : List (List ℕ)) (item : PlacedItem) (fresh : Fresh)
 abbrev pub MayBeFresh : List (List ℕ) → PlacedItem → Fresh → Type 0
 MayBeFresh texts item fresh = known_id texts fresh.text.now ≡ None → IsFresh texts item fresh
 
--- with the new text these are the octets of the item, behind the ids of its field and of its annotation
+-- with the new text these are the octets of the item, after the ids of its field and of its annotation
 abbrev pub AreFresh : List (List ℕ) → PlacedItem → Fresh → ℕ → List ℕ → Type 0
 AreFresh texts item fresh note octets =
     known_id texts fresh.text.now ≡ None

@@ -45,7 +45,7 @@ IsNullOf type.Struct t = t ≡ 13
 abbrev pub IsField : List ℕ → Type 0
 IsField f = IsVar f × (length f ≤ 9)
 
--- what the fields behind the offset say, in UTC; behind a second there may be an exponent and a coefficient: zero without places behind
+-- what the fields after the offset say, in UTC; after a second there may be an exponent and a coefficient: zero without places after
 -- the point is no fraction
 pub data Says : List (List ℕ) → List ℕ → Timestamp → Type 0 where
   year : (y : List ℕ) → Says (y ∷ []) [] (fields Year (var_uint y) 1 1 0 0 0 0)

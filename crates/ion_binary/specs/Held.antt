@@ -60,7 +60,7 @@ HaveCodes cs = AllByRecursion (λ c. c.code < 14) cs
 abbrev pub put_at : ℕ → List ℕ → List ℕ → List ℕ
 put_at place x octets = take place octets ++ (x ++ drop place octets)
 
--- the header of all that is behind its place
+-- the header of all that is after its place
 abbrev pub headed_at : HeaderPlace → List ℕ → List ℕ
 headed_at h octets = put_at h.place (header h.code (length octets - h.place)) octets
 
@@ -89,16 +89,16 @@ headers_around hs = without_wrapper (drop 1 hs)
 
 -- ---- an item more
 
--- the ids of annotations behind the length of all of them, and nothing where there are no annotations
+-- the ids of annotations after the length of all of them, and nothing where there are no annotations
 abbrev pub counted_ids : List ℕ → List ℕ
 counted_ids [] = []
 counted_ids (n ∷ ns) = var_uint_octets (length (n ∷ ns)) ++ (n ∷ ns)
 
--- octets with a scalar's behind them, in a wrapper where the ids of annotations stand from the place on
+-- octets with a scalar's after them, in a wrapper where the ids of annotations stand from the place on
 abbrev pub whole_at : ℕ → List ℕ → List ℕ → List ℕ
 whole_at place octets x = take place octets ++ wrapped (counted_ids (drop place octets)) x
 
--- octets behind which a container begins: where the ids of annotations stand from the place on, their length goes in there
+-- octets after which a container begins: where the ids of annotations stand from the place on, their length goes in there
 abbrev pub begun_at : ℕ → List ℕ → List ℕ
 begun_at place octets = take place octets ++ counted_ids (drop place octets)
 
@@ -106,14 +106,14 @@ begun_at place octets = take place octets ++ counted_ids (drop place octets)
 abbrev pub begun_headers : ℕ → List ℕ → Kind → List HeaderPlace → List HeaderPlace
 begun_headers place octets kind hs = header_at (length (begun_at place octets)) (type_code kind) ∷ (wrapper_headers (drop place octets) place ++ hs)
 
--- the octets behind an item, before a value that is whole is put
+-- the octets after an item, before a value that is whole is put
 abbrev pub moved_octets : ℕ → List ℕ → List HeaderPlace → (UserSymbol → ℕ) → Head UserSymbol → List ℕ
 moved_octets place octets hs ids (value.whole body) = whole_at place octets (scalar_octets ids body)
 moved_octets place octets hs ids (value.begin kind) = begun_at place octets
 moved_octets place octets hs ids value.end = closed_in octets hs
 moved_octets place octets hs ids value.marker = octets
 
--- the headers that are missing behind an item: a container's beginning adds its own, and its end takes them away
+-- the headers that are missing after an item: a container's beginning adds its own, and its end takes them away
 abbrev pub moved_headers : {S : Type 0} → ℕ → List ℕ → List HeaderPlace → Head S → List HeaderPlace
 moved_headers place octets hs (value.whole body) = hs
 moved_headers place octets hs (value.begin kind) = begun_headers place octets kind hs
@@ -138,7 +138,7 @@ with_names h i = record h { texts = with_symbols h.texts (item_symbols i) }
 abbrev pub held_with_ids : ℕ → Held → Item UserSymbol ℕ → Held
 held_with_ids limit h i = with_names (held_forgotten limit h i.head) i
 
--- where the ids of an item's annotations begin, behind its field: the number of octets before them
+-- where the ids of an item's annotations begin, after its field: the number of octets before them
 abbrev pub ids_place : Held → Item UserSymbol ℕ → ℕ
 ids_place h i = length h.octets + length (field_octets (id_in h.texts) i.field)
 
@@ -164,13 +164,13 @@ abbrev pub value_held : Held → List HeaderPlace → List ℕ → Held
 value_held h [] octets = record h { octets = []; headers = []; declared = length h.texts; due = false }
 value_held h (e ∷ es) octets = record h { octets = octets; headers = e ∷ es }
 
--- what is held behind an item, by what is held before it and the limit on symbol tables
+-- what is held after an item, by what is held before it and the limit on symbol tables
 abbrev pub held_after : ℕ → Held → Item UserSymbol ℕ → Held
 held_after limit h i =
     let n = held_with_ids limit h i in
     value_held n (headers_with n i) (octets_with n i)
 
--- what is put as an item comes: the value at top level that it makes whole, behind its declaration; nothing while that is open
+-- what is put as an item comes: the value at top level that it makes whole, after its declaration; nothing while that is open
 abbrev pub held_puts : ℕ → Held → Item UserSymbol ℕ → List ℕ
 held_puts limit h i =
     let n = held_with_ids limit h i in

@@ -45,6 +45,6 @@ abbrev pub strings_octets : List (List ℕ) → List ℕ
 strings_octets texts = flat_map (λ t. headed 8 t) texts
 
 -- what stands before strings of so many octets: the annotation `$ion_symbol_table`, the field `imports` with that symbol, and the field
--- `symbols`, each behind its header
+-- `symbols`, each after its header
 abbrev pub declaration_front : ℕ → List ℕ
 declaration_front n = opening 14 (129 ∷ 131 ∷ opening 13 (134 ∷ 113 ∷ 3 ∷ 135 ∷ opening 11 [] n) n) n

@@ -7,7 +7,7 @@ use Rattle.ion_value.specs.Standing.{is_marker}
 use Rattle.ion_value.specs.Value as value
 use Rattle.ion_value.specs.Value.{UserSymbol, Head, Item, PlacedItem, user_item, user_items}
 use Rattle.ion_binary.specs.Canonical.{id_in, is_over}
-use Rattle.ion_binary.specs.Writing.{Unclosed, Written, after, after_all, at_begin, binary_adds, binary_puts, binary_refusal, closed_with, end_puts, forgetting, head_puts, item_puts, with_ids_given, unless_refused, value_puts, with_end, with_head, with_value, written_behind}
+use Rattle.ion_binary.specs.Writing.{Unclosed, Written, after, after_all, at_begin, binary_adds, binary_puts, binary_refusal, closed_with, end_puts, forgetting, head_puts, item_puts, with_ids_given, unless_refused, value_puts, with_end, with_head, with_value, written_after}
 
 value-octets : (w : Written) (cs : List Unclosed) (x : List ℕ) → (with_value w cs x).octets ≡ w.octets ++ value_puts w cs x
 value-octets w [] x = refl
@@ -36,17 +36,17 @@ after-octets limit w i =
     head-octets n (id_in n.texts) i.field i.annotations i.head
     ∙ ap (λ (o : List ℕ). o ++ item_puts limit w i) (forgetting-octets w w.open_containers (not (is_marker i.head) && is_over limit w.texts))
 
--- the state behind items and one more is that which the last makes of the state behind the others
+-- the state after items and one more is that which the last makes of the state after the others
 pub after_all-last : (limit : ℕ) (w : Written) (path : List PlacedItem) (item : PlacedItem)
     → after_all limit w (user_items (path ++ item ∷ [])) ≡ after limit (after_all limit w (user_items path)) (user_item item)
 after_all-last limit w [] item = refl
 after_all-last limit w (i ∷ path) item = after_all-last limit (after limit w (user_item i)) path item
 
--- behind what is put for items comes what one more adds, where it is not refused
+-- after what is put for items comes what one more adds, where it is not refused
 pub binary_grows : (limits : Limits) (path : List PlacedItem) (item : PlacedItem) → binary_refusal limits path item ≡ None
     → binary_puts limits (path ++ item ∷ []) ≡ binary_puts limits path ++ binary_adds limits path item
 binary_grows limits path item none =
-    let w : Written = written_behind limits path in
+    let w : Written = written_after limits path in
     let x : List ℕ = item_puts limits.symbols w (user_item item) in
     ap (λ (y : Written). y.octets) (after_all-last limits.symbols at_begin path item)
     ∙ (after-octets limits.symbols w (user_item item)
@@ -56,4 +56,4 @@ binary_grows limits path item none =
 pub binary_silent : (limits : Limits) (path : List PlacedItem) (item : PlacedItem) (why : Reason × ℕ) → binary_refusal limits path item ≡ Some why
     → binary_adds limits path item ≡ []
 binary_silent limits path item why some =
-    ap (λ (r : Option (Reason × ℕ)). unless_refused r (item_puts limits.symbols (written_behind limits path) (user_item item))) some
+    ap (λ (r : Option (Reason × ℕ)). unless_refused r (item_puts limits.symbols (written_after limits path) (user_item item))) some

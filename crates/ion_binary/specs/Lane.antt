@@ -14,7 +14,7 @@ use Rattle.ion_value.specs.declared.plain_item.TextAt.{TextAt}
 use Rattle.ion_value.specs.Items.{named_at}
 use Rattle.ion_value.specs.Digits.{first_is}
 use Rattle.ion_value.specs.Name.{raw_id}
-use Rattle.ion_value.specs.PlainItems.{HaveNoDollar, IsRightlyQuoted, StandsBehind, listed, placed_text, with_second}
+use Rattle.ion_value.specs.PlainItems.{HaveNoDollar, IsRightlyQuoted, StandsAfter, listed, placed_text, with_second}
 use Rattle.ion_value.specs.Standing.{in_struct}
 use Rattle.ion_value.specs.Value.{PlacedItem, SymbolAt}
 use Rattle.ion_binary.specs.declared.wrapper.Frame as frame
@@ -79,7 +79,7 @@ pub record Handed {I A W O : Type 0} (device : InputOf I) (w : WriterOf W O A) (
   pub keeps : KeepsOn w old new pen then from to before after
   pub goes : held_by new ≤ held_by old + 16 * (left_to old - left_to new)
 
--- items were handed on, one after the other, behind so many values: where the two stand then, what stays, and memory
+-- items were handed on, one after the other, after so many values: where the two stand then, what stays, and memory
 pub record HandsOn {I A W O : Type 0} (device : InputOf I) (w : WriterOf W O A) (see : PlacedItem → PlacedItem) (old new : BinReader I A) (pen then : W) (from to : Outgoing O) (before after : Counts) (had values : ℕ) : Type 0 where
   pub keeps : KeepsOn w old new pen then from to before after
   pub further : old.source.place ≤ new.source.place
@@ -91,7 +91,7 @@ pub record HandsOn {I A W O : Type 0} (device : InputOf I) (w : WriterOf W O A) 
   pub grows : had ≤ values
   pub falls : values + left_to new ≤ had + left_to old
 
--- items may be handed on, behind so many values
+-- items may be handed on, after so many values
 pub record CanHandOn {I A W O : Type 0} (w : WriterOf W O A) (r : BinReader I A) (pen : W) (sink : Outgoing O) (meter : Counts) (values : ℕ) : Type 0 where
   pub room : meter.held ≤ 2 ^ 61 + (held_by r + w.own pen)
   pub held : held_by r + w.own pen ≤ meter.held
@@ -102,13 +102,13 @@ pub record CanHandOn {I A W O : Type 0} (w : WriterOf W O A) (r : BinReader I A)
   pub few : values + left_to r < 2 ^ 64 - 1
 
 -- octets show what stands before a member: its field's name, which its id has, and how many octets the id has; or nothing outside structs
-pub record ShowsField (texts : ℕ → Option (List ℕ)) (octets : List ℕ) (here : ℕ) (frames : List Frame) (field : Option TextAt) (behind : ℕ) : Type 0 where
+pub record ShowsField (texts : ℕ → Option (List ℕ)) (octets : List ℕ) (here : ℕ) (frames : List Frame) (field : Option TextAt) (after : ℕ) : Type 0 where
   pub raw : Option SymbolAt
-  pub within : behind ≤ length octets
+  pub within : after ≤ length octets
   pub named : option_map (named_at texts) raw ≡ option_map placed_text field
   pub quoted : IfSome field IsRightlyQuoted
   pub there : is_some field ≡ in_struct (map (λ f. f.kind) frames)
-  pub gives : (more : List ℕ) → Reaches (region_of frames) (here + behind) → field_at frames (window here octets more) ≡ Ok (raw, skip behind (window here octets more))
+  pub gives : (more : List ℕ) → Reaches (region_of frames) (here + after) → field_at frames (window here octets more) ≡ Ok (raw, skip after (window here octets more))
 
 -- the region of a value: the wrapper around it, or else its container
 abbrev pub inner_region : Region → Region → Region
@@ -145,10 +145,10 @@ pub record ShowsFront (texts : ℕ → Option (List ℕ)) (limits : Limits) (oct
   pub named : map (named_at texts) raws ≡ notes_of f
   pub free : HaveNoDollar (notes_of f)
   pub quoted : IfSome f.annotation IsRightlyQuoted
-  pub second : IfSome f.second (StandsBehind f.annotation)
+  pub second : IfSome f.second (StandsAfter f.annotation)
   pub within : f.head ≤ length octets
-  pub gives : (depth behind : ℕ) (found : Shown) → ShowsValue limits octets here (inner_region f.wrapper (region_of frames)) depth f.head behind found
-      → FillsTo f.wrapper (far_end here behind found) → ShowsItem limits octets here (region_of frames) depth f.at f.head behind raws found
+  pub gives : (depth after : ℕ) (found : Shown) → ShowsValue limits octets here (inner_region f.wrapper (region_of frames)) depth f.head after found
+      → FillsTo f.wrapper (far_end here after found) → ShowsItem limits octets here (region_of frames) depth f.at f.head after raws found
 
 -- the container around a member, by where the member stands
 abbrev pub kind_around : Level → Option Kind
@@ -163,7 +163,7 @@ frame_of around end = option_map (λ kind. record { kind = kind; end = end }) ar
 abbrev pub frame_in : Around → Option frame.Frame
 frame_in a = frame_of (kind_around a.level) a.end
 
--- the members of the innermost container stand so; at top level the end is behind all places
+-- the members of the innermost container stand so; at top level the end is after all places
 pub record IsAround (frames : List Frame) (a : Around) : Type 0 where
   pub innermost : IsInnermost frames (frame_in a)
   pub top : kind_around a.level ≡ None → a.end ≡ 2 ^ 64 - 1

@@ -7,10 +7,10 @@ use Rattle.ion_meter.specs.declared.limits.Limits.{Limits}
 use Rattle.ion_value.specs.declared.ion_type.Kind.{Kind}
 use Rattle.ion_value.specs.Number.{VarUInt}
 use Rattle.ion_value.specs.Scalar.{scalar_of_body}
-use Rattle.ion_value.specs.Standing.{open_behind}
+use Rattle.ion_value.specs.Standing.{open_after_all}
 use Rattle.ion_value.specs.Value.{Symbol, SymbolAt, Scalar, Top, PlacedItem}
 use Rattle.ion_value.specs.Path.{Path, closed, path_items}
-use Rattle.ion_value.specs.Reading.{Reading, Finished, Stopped, Shrinks, items_of, behind}
+use Rattle.ion_value.specs.Reading.{Reading, Finished, Stopped, Shrinks, items_of, items_then}
 use Rattle.ion_value.specs.ReadingLaws.{ending_of, IsLimit, Allows, AreWithin, IsBegun}
 use Rattle.ion_value.specs.Writable.{AreBytes, IsRaw}
 use Rattle.ion_binary.specs.Bodies.{IsBodyTypeCode}
@@ -48,13 +48,13 @@ EachStepFalls = (limits : Limits) → Shrinks (step limits) size
 abbrev pub Complete : Type 0
 Complete =
     (limits : Limits) (bytes : List ℕ) (q : ℕ) (path : Path SymbolAt ℕ) → Allows limits bytes → IsPath bytes q path
-    → (rest : Reading) × (reading limits bytes ≡ behind (path_items path) rest)
+    → (rest : Reading) × (reading limits bytes ≡ items_then (path_items path) rest)
 
 -- and a stream is read to its end
 abbrev pub StreamsAreRead : Type 0
 StreamsAreRead =
     (limits : Limits) (bytes : List ℕ) (ts : List (Top SymbolAt ℕ)) → Allows limits bytes → Tops ts bytes
-    → reading limits bytes ≡ behind (path_items (closed ts)) Finished
+    → reading limits bytes ≡ items_then (path_items (closed ts)) Finished
 
 -- the values of a stream of bytes are as streams have them: their numbers are in range, strings are text, and clobs and blobs bytes
 abbrev pub StreamsAreRaw : Type 0
@@ -89,8 +89,8 @@ RightlyRefused =
 abbrev pub Stable : Type 0
 Stable =
     (limits : Limits) (bytes more : List ℕ) (items : List PlacedItem) (reason : Reason) (place : ℕ)
-    → reading limits bytes ≡ behind items (Stopped reason place) → reason ≢ Truncated
-    → reading limits (bytes ++ more) ≡ behind items (Stopped reason place)
+    → reading limits bytes ≡ items_then items (Stopped reason place) → reason ≢ Truncated
+    → reading limits (bytes ++ more) ≡ items_then items (Stopped reason place)
 
 -- and then, where the reason is no limit's either, no stream begins with the bytes
 abbrev pub NoStreamBegins : Type 0
@@ -104,7 +104,7 @@ abbrev pub IsBefore : List Frame → ℕ → Type 0
 IsBefore [] place = ⊤
 IsBefore (frame ∷ frames) place = place < frame.end
 
--- these octets stand next at a state, at a place: no container ends there, and they are behind the field of a member, where it has one
+-- these octets stand next at a state, at a place: no container ends there, and they are after the field of a member, where it has one
 pub record StandNext (s : State) (place : ℕ) (x : List ℕ) : Type 0 where
   pub inside : IsBefore s.frames s.cursor.place
   pub field : Option SymbolAt
@@ -114,7 +114,7 @@ pub record StandNext (s : State) (place : ℕ) (x : List ℕ) : Type 0 where
   pub split : s.cursor.rest ≡ name ++ (x ++ rest)
   pub place_is : place ≡ s.cursor.place + length name
 
--- these begin the next value: behind the header of a wrapper, where it has one
+-- these begin the next value: after the header of a wrapper, where it has one
 pub record BeginNext (s : State) (place : ℕ) (x : List ℕ) : Type 0 where
   pub first : ℕ
   pub annotations : List SymbolAt
@@ -124,7 +124,7 @@ pub record BeginNext (s : State) (place : ℕ) (x : List ℕ) : Type 0 where
   pub before : Annotated first annotations n wrapper
   pub place_is : place ≡ first + length wrapper
 
--- an annotation of the next wrapper, behind others, within the length of its ids, behind which it has room for a value: the first with which they
+-- an annotation of the next wrapper, after others, within the length of its ids, after which it has room for a value: the first with which they
 -- cost more than the limit, each counting 16
 pub record PassesLimit (limits : Limits) (s : State) (place : ℕ) : Type 0 where
   pub first : ℕ
@@ -156,14 +156,14 @@ pub data Passes (limits : Limits) (s : State) (place : ℕ) : Reason → Type 0 
       → Passes limits s place ScalarLimit
   annotation : PassesLimit limits s place → Passes limits s place AnnotationLimit
 
--- a reading stops behind a path, where so many containers are open, since a limit is passed there
+-- a reading stops after a path, where so many containers are open, since a limit is passed there
 pub record StopsAtLimit (limits : Limits) (bytes : List ℕ) (reason : Reason) (place : ℕ) : Type 0 where
   pub path : Path SymbolAt ℕ
   pub state : State
   pub stands : At bytes path state
-  pub level : length (open_behind [] (path_items path)) ≡ length state.frames
+  pub level : length (open_after_all [] (path_items path)) ≡ length state.frames
   pub passes : Passes limits state place reason
-  pub read : reading limits bytes ≡ behind (path_items path) (Stopped reason place)
+  pub read : reading limits bytes ≡ items_then (path_items path) (Stopped reason place)
 
 -- a reading stops at a limit only where it is passed
 abbrev pub ExactLimits : Type 0
@@ -176,7 +176,7 @@ abbrev pub WithinLimitsAreRead : Type 0
 WithinLimitsAreRead =
     (limits : Limits) (bytes : List ℕ) (tops : List (Top SymbolAt ℕ)) → Stream bytes tops
     → ((path : Path SymbolAt ℕ) (s : State) (reason : Reason) (place : ℕ) → At bytes path s → Passes limits s place reason → ⊥)
-    → reading limits bytes ≡ behind (path_items (closed tops)) Finished
+    → reading limits bytes ≡ items_then (path_items (closed tops)) Finished
 
 -- and one that passes a limit at some place is not: its reading stops at a limit
 abbrev pub PassedLimitsStop : Type 0

@@ -54,7 +54,7 @@ pub record Numbers {T : Type 0} (most : ℕ) (old new : Numbering) (result : Res
   pub memory : MemoryCauses (fault_of result) old.meter new.meter
   pub no_device : (n : ℕ) → WriteCauses (fault_of result) n n
 
--- these octets were put behind others, as long as all of them stay within the most that may be held: `before` and `after` say whether all
+-- these octets were put after others, as long as all of them stay within the most that may be held: `before` and `after` say whether all
 -- were put so far
 pub record PutsWithin (most : ℕ) (before after : Bool) (old new octets : List ℕ) : Type 0 where
   pub there : after ≡ true → (before ≡ true) × (new ≡ old ++ octets)

@@ -49,7 +49,7 @@ pub record IsOpen {A : Type 0} (limits : Limits) (v : OpenValue A) : Type 0 wher
   pub reached : AreReached v.counts (length v.octets.all) v.headers
   pub fits : size_of v.octets.all v.headers ≤ limits.value
 
--- the same before a place behind which there are more octets
+-- the same before a place after which there are more octets
 pub record IsOpenTo {A : Type 0} (v : OpenValue A) (place : ℕ) : Type 0 where
   pub within : place ≤ length v.octets.all
   pub placed : ArePlaced place v.headers
@@ -107,11 +107,11 @@ both_octets s = s.front.now ++ s.rest.now
 abbrev pub name_octets : ℕ → List ℕ
 name_octets id = if nat_eq id 0 then [] else var_uint_octets id
 
--- a value behind its field, by the id, 0 where there is none, and in the wrapper of its annotations, by the octets of their ids
+-- a value after its field, by the id, 0 where there is none, and in the wrapper of its annotations, by the octets of their ids
 abbrev pub noted_by : ℕ → List ℕ → List ℕ → List ℕ
 noted_by name notes x = name_octets name ++ wrapped (counted_ids notes) x
 
--- a value behind its field and in the wrapper of one annotation at most: its id, 0 where there is none
+-- a value after its field and in the wrapper of one annotation at most: its id, 0 where there is none
 abbrev pub noted : ℕ → ℕ → List ℕ → List ℕ
 noted name note x = noted_by name (name_octets note) x
 
@@ -119,18 +119,18 @@ noted name note x = noted_by name (name_octets note) x
 abbrev pub spelled_octets : Spelled → List ℕ
 spelled_octets s = s.front.items ++ s.lent.now
 
--- what stands before the ids of annotations, and a value of so many octets behind them
+-- what stands before the ids of annotations, and a value of so many octets after them
 abbrev pub wrapper_octets : ℕ → ℕ → List ℕ
 wrapper_octets ids value = if nat_eq ids 0 then [] else opening 14 (var_uint_octets ids) (ids + value)
 
--- an item may come behind these octets
+-- an item may come after these octets
 abbrev pub MayAdd : {A S P : Type 0} → Limits → OpenValue A → Head S → Item S P → Type 0
 MayAdd limits v (value.whole body) i = InRange body
 MayAdd limits v (value.begin kind) i = length v.headers + 2 ≤ 2 * limits.depth
 MayAdd limits v value.end i = (i.field ≡ None) × (i.annotations ≡ [])
 MayAdd limits v value.marker i = ⊥
 
--- the open value is counted, and the item may come behind it
+-- the open value is counted, and the item may come after it
 pub record MayCome {A : Type 0} (limits : Limits) (v : OpenValue A) (i : PlacedItem) : Type 0 where
   pub counted : IsOpen limits v
   pub follows : MayAdd limits v i.head i

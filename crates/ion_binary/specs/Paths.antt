@@ -22,7 +22,7 @@ Within (frame ∷ frames) q = q ≤ frame.end
 abbrev pub frame_of : Kind → ℕ → Frame
 frame_of k end = record { kind = k; end = end }
 
--- the path behind a container's beginning and some of its members
+-- the path after a container's beginning and some of its members
 abbrev pub open_in : Path SymbolAt ℕ → ℕ → Option SymbolAt → List SymbolAt → ℕ → Kind → Members SymbolAt ℕ → Path SymbolAt ℕ
 open_in (closed ts) q f annotations h k ms = opened ts q (outermost annotations h k ms)
 open_in (opened ts first nest) q f annotations h k ms =
@@ -61,11 +61,11 @@ abbrev pub IsTop : Path SymbolAt ℕ → ℕ → Type 0
 IsTop (closed ts) place = Unit {0}
 IsTop (opened ts first nest) place = first ≡ place
 
--- the reading stands behind the path: the bytes before its cursor spell it, and its top is the open value's place
+-- the reading stands after the path: the bytes before its cursor spell it, and its top is the open value's place
 abbrev pub At : List ℕ → Path SymbolAt ℕ → State → Type 0
 At bytes path s = IsSpelledTo bytes path s.frames s.cursor × IsTop path s.top
 
--- a step gives an item, and a path that has it behind the items so far, or it keeps the path; it ends where nothing is open and nothing is left
+-- a step gives an item, and a path that has it after the items so far, or it keeps the path; it ends where nothing is open and nothing is left
 abbrev pub Follows : List ℕ → Path SymbolAt ℕ → List Frame → Cursor → Step State → Type 0
 Follows bytes path frames c Ends = (frames ≡ []) × (c.rest ≡ [])
 Follows bytes path frames c (Stops reason place) = Unit {0}

@@ -13,7 +13,7 @@ abbrev pub header_size : ℕ → ℕ
 header_size n = suc (length (length_octets n))
 
 -- ---- the headers that are missing, the innermost first: a container's, and its wrapper's where it has annotations; each is of all that is
--- there behind its place
+-- there after its place
 
 -- the place of a wrapper's header, by the ids of the annotations and where they begin; none where there are no annotations
 abbrev pub wrapper_places : List ℕ → ℕ → List ℕ
@@ -26,7 +26,7 @@ header_places [] = []
 header_places (c ∷ cs) =
     (length (unheaded cs) + (length c.field + length c.annotations)) ∷ (wrapper_places c.annotations (length (unheaded cs) + length c.field) ++ header_places cs)
 
--- how many octets are missing among n, of which some are missing behind the first of the places
+-- how many octets are missing among n, of which some are missing after the first of the places
 abbrev pub missing : ℕ → List ℕ → ℕ → ℕ
 missing n [] m = m
 missing n (p ∷ ps) m = missing n ps (m + header_size (n - p + m))
@@ -35,7 +35,7 @@ missing n (p ∷ ps) m = missing n ps (m + header_size (n - p + m))
 abbrev pub closed_length : ℕ → List ℕ → ℕ
 closed_length n places = n + missing n places 0
 
--- an open value with any octets behind it is, once all its containers are closed, as long as the places say
+-- an open value with any octets after it is, once all its containers are closed, as long as the places say
 abbrev pub ClosedSizeByPlaces : Type 0
 ClosedSizeByPlaces = (cs : List Unclosed) (x : List ℕ) → closed_length (length (unheaded cs) + length x) (header_places cs) ≡ length (all_closed cs x)
 

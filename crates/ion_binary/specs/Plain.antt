@@ -50,7 +50,7 @@ abbrev pub HaveIds : List (List ℕ) → List SymbolAt → Type 0
 HaveIds texts [] = ⊤
 HaveIds texts (s ∷ ss) = (with_symbol texts (user_symbol_at s) ≡ texts) × HaveIds texts ss
 
--- the item was added to a value that is open behind it, no text being forgotten as it comes, and is not refused; or it was declined, and
+-- the item was added to a value that is open after it, no text being forgotten as it comes, and is not refused; or it was declined, and
 -- nothing is changed
 pub record AddsPlain {A : Type 0} (old new : BinWriter A) (before after : Counts) (item : PlacedItem) (result : Bool) : Type 0 where
   pub held : result ≡ true → held_in new ≡ added (held_in old) item

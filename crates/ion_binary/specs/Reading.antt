@@ -30,7 +30,7 @@ pub data TypedValue : Type 0 where
   a_scalar : (body : Scalar Symbol) → TypedValue
   a_container : (kind : Kind) → (end : ℕ) → TypedValue
 
--- a marker behind its first octet
+-- a marker after its first octet
 abbrev pub marker_rest : List ℕ → Result (Unit {0}) Reason
 marker_rest [] = Err Truncated
 marker_rest (a ∷ []) = Err Truncated
@@ -42,7 +42,7 @@ abbrev pub is_top : Region → Bool
 is_top None = true
 is_top (Some end) = false
 
--- a version marker behind its first octet, which stands at top level alone
+-- a version marker after its first octet, which stands at top level alone
 unfoldable pub marker_at : Region → Cursor → Result (TypedValue × Cursor) Reason
 marker_at r c = do
   refuse (not (is_top r)) BadDescriptor
@@ -61,7 +61,7 @@ bare_at a v c = do
   refuse (a.wrapped && falls_short a.region c.place 0) BadAnnotation
   Ok (a_scalar v, c)
 
--- a NOP pad behind its descriptor octet: its length, and then so many octets that are passed over
+-- a NOP pad after its descriptor octet: its length, and then so many octets that are passed over
 unfoldable pub nop_pad_at : Around → ℕ → Cursor → Result (TypedValue × Cursor) Reason
 nop_pad_at a length_code c = do
   n ← length_at length_code a.region c
@@ -78,7 +78,7 @@ body_at limits a type_code n c = do
   v ← scalar_of_body type_code (take n c.rest)
   Ok (a_scalar v, skip n c)
 
--- a scalar behind its descriptor octet: its length, and then its body
+-- a scalar after its descriptor octet: its length, and then its body
 unfoldable pub scalar_at : Limits → Around → ℕ → ℕ → Cursor → Result (TypedValue × Cursor) Reason
 scalar_at limits a type_code length_code c = do
   n ← length_at length_code a.region c
@@ -91,21 +91,21 @@ begin_at limits a k n c = do
   refuse (nat_le limits.depth a.depth) DepthLimit
   Ok (a_container k (c.place + n), c)
 
--- a container's beginning behind its descriptor octet: its length, which tells its end
+-- a container's beginning after its descriptor octet: its length, which tells its end
 unfoldable pub container_at : Limits → Around → Kind → ℕ → Cursor
     → Result (TypedValue × Cursor) Reason
 container_at limits a k length_code c = do
   n ← length_at length_code a.region c
   begin_at limits a k n.0 n.1
 
--- the beginning of a struct whose fields are in order, behind its descriptor octet: its length is a VarUInt other than 0
+-- the beginning of a struct whose fields are in order, after its descriptor octet: its length is a VarUInt other than 0
 unfoldable pub sorted_at : Limits → Around → Cursor → Result (TypedValue × Cursor) Reason
 sorted_at limits a c = do
   n ← var_uint_at a.region c
   refuse (nat_eq n.0 0) BadDescriptor
   begin_at limits a kind.Struct n.0 n.1
 
--- the part behind its descriptor octet, by what that says
+-- the part after its descriptor octet, by what that says
 unfoldable pub read_by_descriptor : Limits → Around → Shape → Cursor
     → Result (TypedValue × Cursor) Reason
 read_by_descriptor limits a (null t) c = bare_at a (value.null t) c
@@ -120,7 +120,7 @@ read_by_descriptor limits a float c = Err Float
 read_by_descriptor limits a (wrapper length_code) c = Err BadAnnotation
 read_by_descriptor limits a illegal c = Err BadDescriptor
 
--- behind its descriptor octet
+-- after its descriptor octet
 unfoldable pub typed_value_at : Limits → Around → ℕ → Cursor → Result (TypedValue × Cursor) Reason
 typed_value_at limits a b c = do
   refuse (a.wrapped && is_unwrappable b) BadAnnotation
@@ -133,7 +133,7 @@ pub record Wrapped : Type 0 where
   pub ids : ℕ
   pub end : ℕ
 
--- behind its descriptor octet: all octets of its lengths first, those of the ids' length within what the wrapper's own length says
+-- after its descriptor octet: all octets of its lengths first, those of the ids' length within what the wrapper's own length says
 unfoldable pub wrapper_at : Region → ℕ → Cursor → Result (Wrapped × Cursor) Reason
 wrapper_at r length_code c = do
   n ← length_at length_code r c
@@ -168,7 +168,7 @@ field_in kind.Struct r c = do
   i ← var_uint_at r c
   Ok (Some (symbol_id i.0 c.place), i.1)
 
--- the field of what stands in these open containers, and the cursor behind it; there is none at top level
+-- the field of what stands in these open containers, and the cursor after it; there is none at top level
 abbrev pub field_at : List Frame → Cursor → Result (Option SymbolAt × Cursor) Reason
 field_at [] c = Ok (None, c)
 field_at (f ∷ frames) c = field_in f.kind (Some f.end) c
@@ -188,7 +188,7 @@ step_for frames top f annotations place (a_scalar v) c =
 step_for frames top f annotations place (a_container k end) c =
     Gives (placed_item top f annotations place (value.begin k)) (record { frames = record { kind = k; end = end } ∷ frames; top = top; cursor = c })
 
--- a value behind its field, and behind its descriptor octet
+-- a value after its field, and after its descriptor octet
 unfoldable pub plain_at : Limits → List Frame → ℕ → Option SymbolAt → ℕ → ℕ → Cursor → Placed (Step State)
 plain_at limits frames top f place b c = do
   v ← part place (typed_value_at limits (record { wrapped = false; region = region_of frames; depth = length frames }) b c)
@@ -201,7 +201,7 @@ inner_at limits frames top f annotations end c = do
   v ← part c.place (typed_value_at limits (record { wrapped = true; region = Some end; depth = length frames }) b.0 b.1)
   Ok (step_for frames top f annotations c.place v.0 v.1)
 
--- a wrapper and its value, behind its descriptor octet
+-- a wrapper and its value, after its descriptor octet
 unfoldable pub annotated_at : Limits → List Frame → ℕ → Option SymbolAt → ℕ → ℕ → Cursor → Placed (Step State)
 annotated_at limits frames top f place length_code c = do
   w ← part place (wrapper_at (region_of frames) length_code c)
@@ -226,7 +226,7 @@ abbrev pub by_wrapper : {A : Type 0} → Option ℕ → (ℕ → A) → A → A
 by_wrapper None annotated plain = plain
 by_wrapper (Some length_code) annotated plain = annotated length_code
 
--- what stands behind a field, as a step: a value with or without annotations, a NOP pad, or a version marker
+-- what stands after a field, as a step: a value with or without annotations, a NOP pad, or a version marker
 unfoldable pub value_at : Limits → List Frame → ℕ → Option SymbolAt → Cursor → Placed (Step State)
 value_at limits frames top f c = do
   b ← part c.place (octet_at (region_of frames) c)

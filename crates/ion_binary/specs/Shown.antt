@@ -51,45 +51,45 @@ IsShown limits depth (shown.Scalar scalar) = InRange (shown_scalar scalar)
 IsShown limits depth (shown.Begin kind end) = depth < limits.depth
 
 -- these octets show a VarUInt from one place of them to another, whatever follows them, where the region holds it
-pub record ShowsVar (octets : List ℕ) (at behind number : ℕ) : Type 0 where
-  pub further : at < behind
-  pub within : behind ≤ length octets
-  pub gives : (here : ℕ) (more : List ℕ) (region : Region) → Reaches region (here + behind)
-      → var_uint_at region (skip at (window here octets more)) ≡ Ok (number, skip behind (window here octets more))
+pub record ShowsVar (octets : List ℕ) (at after number : ℕ) : Type 0 where
+  pub further : at < after
+  pub within : after ≤ length octets
+  pub gives : (here : ℕ) (more : List ℕ) (region : Region) → Reaches region (here + after)
+      → var_uint_at region (skip at (window here octets more)) ≡ Ok (number, skip after (window here octets more))
 
 -- the same of a length, by the length code of its descriptor
-pub record ShowsLength (octets : List ℕ) (length_code at behind number : ℕ) : Type 0 where
-  pub further : at ≤ behind
-  pub within : behind ≤ length octets
-  pub gives : (here : ℕ) (more : List ℕ) (region : Region) → Reaches region (here + behind)
-      → length_at length_code region (skip at (window here octets more)) ≡ Ok (number, skip behind (window here octets more))
+pub record ShowsLength (octets : List ℕ) (length_code at after number : ℕ) : Type 0 where
+  pub further : at ≤ after
+  pub within : after ≤ length octets
+  pub gives : (here : ℕ) (more : List ℕ) (region : Region) → Reaches region (here + after)
+      → length_at length_code region (skip at (window here octets more)) ≡ Ok (number, skip after (window here octets more))
 
--- a scalar with a body, behind its descriptor at a place: where its length ends, its length, and its octets
-pub record ShowsBody (limits : Limits) (octets : List ℕ) (here : ℕ) (region : Region) (type_code length_code at behind : ℕ) (found : Shown) : Type 0 where
+-- a scalar with a body, after its descriptor at a place: where its length ends, its length, and its octets
+pub record ShowsBody (limits : Limits) (octets : List ℕ) (here : ℕ) (region : Region) (type_code length_code at after : ℕ) (found : Shown) : Type 0 where
   pub scalar : ShownScalar
   pub is : found ≡ shown.Scalar scalar
   pub range : InRange (shown_scalar scalar)
   pub from : ℕ
   pub number : ℕ
   pub length_is : ShowsLength octets length_code (at + 1) from number
-  pub ends : behind ≡ from + number
-  pub within : behind ≤ length octets
+  pub ends : after ≡ from + number
+  pub within : after ≤ length octets
   pub few : number ≤ limits.scalar
-  pub reaches : Reaches region (here + behind)
+  pub reaches : Reaches region (here + after)
   pub meaning : scalar_of_body type_code (take number (drop from octets)) ≡ Ok (shown_scalar scalar)
 
--- a container's beginning, behind its descriptor at a place
-pub record ShowsBegin (limits : Limits) (octets : List ℕ) (here : ℕ) (region : Region) (depth : ℕ) (kind : Kind) (length_code at behind : ℕ) (found : Shown) : Type 0 where
+-- a container's beginning, after its descriptor at a place
+pub record ShowsBegin (limits : Limits) (octets : List ℕ) (here : ℕ) (region : Region) (depth : ℕ) (kind : Kind) (length_code at after : ℕ) (found : Shown) : Type 0 where
   pub number : ℕ
-  pub is : found ≡ shown.Begin kind (here + behind + number)
-  pub length_is : ShowsLength octets length_code (at + 1) behind number
+  pub is : found ≡ shown.Begin kind (here + after + number)
+  pub length_is : ShowsLength octets length_code (at + 1) after number
   pub deep : depth < limits.depth
-  pub reaches : Reaches region (here + behind + number)
+  pub reaches : Reaches region (here + after + number)
 
 -- the place where what is shown ends, a container with its members
 abbrev pub far_end : ℕ → ℕ → Shown → ℕ
-far_end here behind (shown.Scalar scalar) = here + behind
-far_end here behind (shown.Begin kind end) = end
+far_end here after (shown.Scalar scalar) = here + after
+far_end here after (shown.Begin kind end) = end
 
 -- what is in a wrapper fills it
 abbrev pub Fills : Bool → Region → ℕ → Type 0
@@ -97,18 +97,18 @@ Fills false region place = ⊤
 Fills true None place = ⊥
 Fills true (Some end) place = end ≡ place
 
--- a descriptor at a place, and the part behind it, in a wrapper or not
-pub record ShowsValue (limits : Limits) (octets : List ℕ) (here : ℕ) (region : Region) (depth at behind : ℕ) (found : Shown) : Type 0 where
-  pub further : at + 1 ≤ behind
-  pub within : behind ≤ length octets
+-- a descriptor at a place, and the part after it, in a wrapper or not
+pub record ShowsValue (limits : Limits) (octets : List ℕ) (here : ℕ) (region : Region) (depth at after : ℕ) (found : Shown) : Type 0 where
+  pub further : at + 1 ≤ after
+  pub within : after ≤ length octets
   pub may_be : IsShown limits depth found
   pub reaches : Reaches region (here + (at + 1))
   pub octet : ℕ
   pub first : (more : List ℕ) → octet_at region (skip at (window here octets more)) ≡ Ok (octet, skip (at + 1) (window here octets more))
   pub plain : wrapper_length (shape_of octet) ≡ None
-  pub gives : (wrapped : Bool) (more : List ℕ) → Fills wrapped region (far_end here behind found)
+  pub gives : (wrapped : Bool) (more : List ℕ) → Fills wrapped region (far_end here after found)
       → typed_value_at limits (record { wrapped = wrapped; region = region; depth = depth }) octet (skip (at + 1) (window here octets more))
-      ≡ Ok (shown_value found, skip behind (window here octets more))
+      ≡ Ok (shown_value found, skip after (window here octets more))
 
 -- these octets show a second id and its offset, where there is one, from an offset to where the ids end
 abbrev pub ShowsSecond : List ℕ → ℕ → Option (ℕ × ℕ) → ℕ → Type 0
@@ -140,13 +140,13 @@ pub record ShowsNote (limits : Limits) (octets : List ℕ) (here : ℕ) (region 
   pub ids : (more : List ℕ) → ids_at (here + n.inner) limits (here + n.inner) 0 (skip n.from (window here octets more))
       ≡ Ok (noted_ids here n, skip n.inner (window here octets more))
 
--- what stands behind a field: a value with these annotations, whose head is at a place
-pub record ShowsItem (limits : Limits) (octets : List ℕ) (here : ℕ) (region : Region) (depth at head behind : ℕ) (annotations : List SymbolAt) (found : Shown) : Type 0 where
-  pub further : at + 1 ≤ behind
-  pub starts : head ≤ behind
-  pub within : behind ≤ length octets
+-- what stands after a field: a value with these annotations, whose head is at a place
+pub record ShowsItem (limits : Limits) (octets : List ℕ) (here : ℕ) (region : Region) (depth at head after : ℕ) (annotations : List SymbolAt) (found : Shown) : Type 0 where
+  pub further : at + 1 ≤ after
+  pub starts : head ≤ after
+  pub within : after ≤ length octets
   pub may_be : IsShown limits depth found
   pub reaches : Reaches region (here + (at + 1))
   pub gives : (more : List ℕ) (frames : List Frame) (top : ℕ) (field : Option SymbolAt) → region_of frames ≡ region → length frames ≡ depth
       → value_at limits frames top field (skip at (window here octets more))
-      ≡ Ok (step_for frames top field annotations (here + head) (shown_value found) (skip behind (window here octets more)))
+      ≡ Ok (step_for frames top field annotations (here + head) (shown_value found) (skip after (window here octets more)))

@@ -45,11 +45,11 @@ ValuesAreSpelled =
 
 -- ---- declarations
 
--- a symbol table with these texts behind its own, as local symbols
+-- a symbol table with these texts after its own, as local symbols
 abbrev pub with_texts : Table → List (List ℕ) → Table
 with_texts old texts = record { imports = old.imports; locals = old.locals ++ map (λ t. Some t) texts }
 
--- from a place on the octets of a declaration spell one, and behind a table it leaves that table with the texts
+-- from a place on the octets of a declaration spell one, and after a table it leaves that table with the texts
 pub record IsDeclared (catalog : List Shared) (old : Table) (q : ℕ) (texts : List (List ℕ)) : Type 0 where
   pub own : List SymbolAt
   pub place : ℕ
@@ -70,7 +70,7 @@ pub record HasRoom (g : Ground) (t : Table) : Type 0 where
   pub cost : table_cost t ≤ g.limit
   pub count : count_of t ≤ most_slots
 
--- from a place on the octets of a declaration spell one that is accepted behind a table, and leaves that table with the texts
+-- from a place on the octets of a declaration spell one that is accepted after a table, and leaves that table with the texts
 pub record IsAccepted (g : Ground) (q : ℕ) (texts : List (List ℕ)) : Type 0 where
   pub own : List SymbolAt
   pub place : ℕ

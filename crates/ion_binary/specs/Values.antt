@@ -1,4 +1,4 @@
--- What contracts of the code say of a value behind its field.
+-- What contracts of the code say of a value after its field.
 use Rattle.std.specs.Prelude.{ℕ, List, Option, Result}
 use Rattle.ion_meter.specs.declared.fault.Fault.{Fault}
 use Rattle.ion_value.specs.Value.{SymbolAt}
@@ -14,5 +14,5 @@ use Rattle.ion_value.specs.Answers.{AnswersPlaced}
 
 -- what a call answers that reads a value: what it is and the place of its first octet, as the step that reading gives of it
 abbrev pub GivesStep : List Frame → ℕ → Option SymbolAt → List SymbolAt → List ℕ → Body → Result (typed.TypedValue × ℕ) Fault → Cursor → Placed (Step State) → Type 0
-GivesStep frames top f annotations text scalar result behind s =
-    AnswersPlaced (λ r. step_for frames top f annotations r.1 (as_typed_value text scalar r.0) behind) result s
+GivesStep frames top f annotations text scalar result after s =
+    AnswersPlaced (λ r. step_for frames top f annotations r.1 (as_typed_value text scalar r.0) after) result s

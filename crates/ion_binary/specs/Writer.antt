@@ -14,7 +14,7 @@ use Rattle.ion_symbols.specs.Output.{texts_cost}
 use Rattle.ion_binary.specs.declared.writer.BinWriter.{BinWriter}
 use Rattle.ion_binary.specs.Held.{HaveCodes, Held, MayCome, headers_with, held_of, octets_with, size_of, with_names}
 use Rattle.ion_binary.specs.Opening.{IsOpen, IsWithin, open_cost, open_most}
-use Rattle.ion_binary.specs.Writing.{Written, after, at_begin, first_over, item_puts, item_symbols, refused_at, refused_by, unless_refused, written_behind}
+use Rattle.ion_binary.specs.Writing.{Written, after, at_begin, first_over, item_puts, item_symbols, refused_at, refused_by, unless_refused, written_after}
 
 -- what it holds
 abbrev pub held_in : {A : Type 0} → BinWriter A → Held
@@ -51,7 +51,7 @@ pub record Holds {A : Type 0} (w : BinWriter A) (s : Written) : Type 0 where
 -- no call has failed, and it is where these items lead
 pub record Stands {A : Type 0} (w : BinWriter A) (path : List PlacedItem) : Type 0 where
   pub well : w.failed ≡ None
-  pub holds : Holds w (written_behind w.limits path)
+  pub holds : Holds w (written_after w.limits path)
 
 -- a call may begin
 pub record CanTake {A : Type 0} (w : BinWriter A) (meter : Counts) : Type 0 where
@@ -111,7 +111,7 @@ added h item =
     let n = with_names h (user_item item) in
     record n { octets = octets_with n (user_item item); headers = headers_with n (user_item item) }
 
--- why an item is refused behind what is held, and the place, if it is: the limit on symbol tables first, then that on values
+-- why an item is refused after what is held, and the place, if it is: the limit on symbol tables first, then that on values
 abbrev pub item_refusal : Limits → Held → PlacedItem → Option (Reason × ℕ)
 item_refusal limits h item =
     refused_by limits.value (size_of (added h item).octets (added h item).headers) item.top (first_over limits.symbols h.texts (item_symbols item))

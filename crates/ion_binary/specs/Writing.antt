@@ -62,7 +62,7 @@ abbrev pub value_puts : Written → List Unclosed → List ℕ → List ℕ
 value_puts w [] x = marker_if w.due ++ (declaration (drop w.declared w.texts) ++ x)
 value_puts w (c ∷ cs) x = []
 
--- the state behind a whole value of these octets: they are put at top level, or else belong to the innermost open container
+-- the state after a whole value of these octets: they are put at top level, or else belong to the innermost open container
 abbrev pub with_value : Written → List Unclosed → List ℕ → Written
 with_value w [] x = record w { declared = length w.texts; due = false; open_containers = []; octets = w.octets ++ value_puts w [] x }
 with_value w (c ∷ cs) x = record w { open_containers = (record c { body = c.body ++ x }) ∷ cs }
@@ -101,7 +101,7 @@ head_puts w ids f annotations (value.begin kind) = []
 head_puts w ids f annotations value.end = end_puts w w.open_containers
 head_puts w ids f annotations value.marker = []
 
--- the state behind an item, by the ids of symbols and the item's own parts
+-- the state after an item, by the ids of symbols and the item's own parts
 abbrev pub with_head : Written → (UserSymbol → ℕ) → Option UserSymbol → List UserSymbol → Head UserSymbol → Written
 with_head w ids f annotations (value.whole body) = with_value w w.open_containers (member_octets ids f annotations (scalar_octets ids body))
 with_head w ids f annotations (value.begin kind) = record w { open_containers = opened_with ids f annotations kind [] ∷ w.open_containers }
@@ -114,13 +114,13 @@ with_ids_given limit w i =
     let b = begun limit w i.head in
     record b { texts = with_symbols b.texts (item_symbols i) }
 
--- the state behind an item, under the limit on symbol tables
+-- the state after an item, under the limit on symbol tables
 abbrev pub after : {P : Type 0} → ℕ → Written → Item UserSymbol P → Written
 after limit w i =
     let n = with_ids_given limit w i in
     with_head n (id_in n.texts) i.field i.annotations i.head
 
--- the state behind items, one after the other
+-- the state after items, one after the other
 abbrev pub after_all : {P : Type 0} → ℕ → Written → List (Item UserSymbol P) → Written
 after_all limit w [] = w
 after_all limit w (i ∷ is) = after_all limit (after limit w i) is
@@ -135,7 +135,7 @@ item_puts limit w i =
     let n = with_ids_given limit w i in
     head_puts n (id_in n.texts) i.field i.annotations i.head
 
--- the length of the open value with an item, where all containers are closed behind it
+-- the length of the open value with an item, where all containers are closed after it
 abbrev pub closed_size : {P : Type 0} → ℕ → Written → Item UserSymbol P → ℕ
 closed_size limit w i =
     let n = with_ids_given limit w i in
@@ -166,9 +166,9 @@ refused_at limits w item =
     refused_by limits.value (closed_size limits.symbols w (user_item item)) item.top
     (first_over limits.symbols (begun limits.symbols w (user_item item).head).texts (item_symbols item))
 
--- the state behind items, from the beginning of the output on
-abbrev pub written_behind : Limits → List PlacedItem → Written
-written_behind limits path = after_all limits.symbols at_begin (user_items path)
+-- the state after items, from the beginning of the output on
+abbrev pub written_after : Limits → List PlacedItem → Written
+written_after limits path = after_all limits.symbols at_begin (user_items path)
 
 -- these octets, and none where there is a refusal
 abbrev pub unless_refused : Option (Reason × ℕ) → List ℕ → List ℕ
@@ -177,13 +177,13 @@ unless_refused None octets = octets
 
 -- what is put for items
 abbrev pub binary_puts : Limits → List PlacedItem → List ℕ
-binary_puts limits path = (written_behind limits path).octets
+binary_puts limits path = (written_after limits path).octets
 
--- the reason and the place for which an item behind others is refused, if it is
+-- the reason and the place for which an item after others is refused, if it is
 abbrev pub binary_refusal : Limits → List PlacedItem → PlacedItem → Option (Reason × ℕ)
-binary_refusal limits path item = refused_at limits (written_behind limits path) item
+binary_refusal limits path item = refused_at limits (written_after limits path) item
 
--- what an item behind others adds: nothing where it is refused
+-- what an item after others adds: nothing where it is refused
 abbrev pub binary_adds : Limits → List PlacedItem → PlacedItem → List ℕ
 binary_adds limits path item =
-    unless_refused (binary_refusal limits path item) (item_puts limits.symbols (written_behind limits path) (user_item item))
+    unless_refused (binary_refusal limits path item) (item_puts limits.symbols (written_after limits path) (user_item item))

@@ -14,7 +14,7 @@ use Rattle.ion_binary.specs.Writing.{after_all, at_begin, binary_adds, binary_pu
 abbrev pub ItemsPutTheForm : Type 0
 ItemsPutTheForm = (limit : ℕ) (tops : List (Top UserSymbol ℕ)) → (after_all limit at_begin (top_items tops)).octets ≡ binary limit tops
 
--- behind them the items of a value that is open put nothing, no version marker that is due either
+-- after them the items of a value that is open put nothing, no version marker that is due either
 abbrev pub OpenItemsPutWhatIsWhole : Type 0
 OpenItemsPutWhatIsWhole =
     (limit : ℕ) (tops : List (Top UserSymbol ℕ)) (first : ℕ) (nest : Nest UserSymbol ℕ)
@@ -50,15 +50,15 @@ top_size ids (version place) = 0
 top_size ids (tree first annotations place x) = length (member_octets ids None annotations (value_octets ids x))
 
 -- the length of the last of these, value or version marker, and `size` where there are none
-abbrev pub size_behind : {P : Type 0} → (UserSymbol → ℕ) → ℕ → List (Top UserSymbol P) → ℕ
-size_behind ids size [] = size
-size_behind ids size (t ∷ ts) = size_behind ids (top_size ids t) ts
+abbrev pub size_after : {P : Type 0} → (UserSymbol → ℕ) → ℕ → List (Top UserSymbol P) → ℕ
+size_after ids size [] = size
+size_after ids size (t ∷ ts) = size_after ids (top_size ids t) ts
 
 -- the length of the last of these, value or version marker, and 0 where there are none
 abbrev pub last_size : {P : Type 0} → (UserSymbol → ℕ) → List (Top UserSymbol P) → ℕ
-last_size ids tops = size_behind ids 0 tops
+last_size ids tops = size_after ids 0 tops
 
--- the closed size of a path with an item is the length of its last value where all that is open behind the item is closed there
+-- the closed size of a path with an item is the length of its last value where all that is open after the item is closed there
 abbrev pub ClosedSizeIsThatOfTheClosing : Type 0
 ClosedSizeIsThatOfTheClosing =
     (limit depth last : ℕ) (path : Path UserSymbol ℕ) (item : Item UserSymbol ℕ) → Fits depth (path_kinds path) item → is_marker item.head ≡ false

@@ -8,7 +8,7 @@ use Rattle.ion_value.specs.declared.timestamp.Timestamp.{Timestamp}
 use Rattle.ion_value.specs.Decimal.{IsDecimal, decimal_body}
 use Rattle.ion_value.specs.Number.{uint_octets}
 use Rattle.ion_value.specs.Path.{closed, path_items}
-use Rattle.ion_value.specs.Reading.{Finished, behind}
+use Rattle.ion_value.specs.Reading.{Finished, items_then}
 use Rattle.ion_value.specs.Timestamp.{IsTimestamp, timestamp_body}
 use Rattle.ion_value.specs.Value as value
 use Rattle.ion_value.specs.Value.{SymbolAt, UserSymbol, Known, Unknown, Scalar, Value, Members, scalar, container, nothing, member, Top, version, tree}
@@ -93,4 +93,4 @@ abbrev pub WhatIsWrittenIsWithinLimits : Type 0
 WhatIsWrittenIsWithinLimits =
     (limits : Limits) (us : List (Top UserSymbol ℕ)) (raw : List (Top SymbolAt ℕ)) → AreChecked limits
     → AllByRecursion IsUser us → AreWithin limits [] us → AllByRecursion (FitsBinary limits) us → Stream (binary limits.symbols us) raw
-    → reading limits (binary limits.symbols us) ≡ behind (path_items (closed raw)) Finished
+    → reading limits (binary limits.symbols us) ≡ items_then (path_items (closed raw)) Finished

@@ -68,7 +68,7 @@ impl Few {
 
     /// An octet, and these after it.
     #[inline(always)]
-    pub fn behind(&self, octet: u8) -> Few
+    pub fn after(&self, octet: u8) -> Few
         requires { length self.now < 8 }
         ensures { result ≡ octet ∷ self.now }
     {
@@ -90,7 +90,7 @@ pub(crate) fn few_header(code: u8, n: usize) -> Option<Few>
         return Some(Few::one(16 * code + n as u8));
     }
     if n < 128 {
-        return Some(Few::one(128 + n as u8).behind(16 * code + 14));
+        return Some(Few::one(128 + n as u8).after(16 * code + 14));
     }
     None
 }
@@ -150,11 +150,11 @@ pub(crate) fn noted_front(front: &Few, more: usize, name: u32, note: u32) -> Opt
         return Some(inside);
     }
     if name < 128 {
-        return Some(inside.behind(128 + name as u8));
+        return Some(inside.after(128 + name as u8));
     }
     if name < 16_384 {
-        let last = inside.behind(128 + (name % 128) as u8);
-        return Some(last.behind((name / 128) as u8));
+        let last = inside.after(128 + (name % 128) as u8);
+        return Some(last.after((name / 128) as u8));
     }
     None
 }
@@ -174,9 +174,9 @@ fn wrapped_front(front: &Few, more: usize, note: u32) -> Option<Few>
         return None;
     }
     let inside = 2 + front.len() + more;
-    let ids = front.behind(128 + note as u8).behind(129);
+    let ids = front.after(128 + note as u8).after(129);
     if inside < 14 {
-        return Some(ids.behind(224 + inside as u8));
+        return Some(ids.after(224 + inside as u8));
     }
-    Some(ids.behind(128 + inside as u8).behind(238))
+    Some(ids.after(128 + inside as u8).after(238))
 }

@@ -624,7 +624,7 @@ fn fill<A: Allocator + Copy>(octets: &mut Buf<A>, late: &[LateHeader], there: us
         let next = late[i];
         let offset = next.offset as usize;
         let header = headed(next);
-        octets.move_behind(offset, end, left, header.as_slice());
+        octets.move_after(offset, end, left, header.as_slice());
         end = offset;
         left -= header.len();
     }

@@ -247,14 +247,14 @@ fn shown_begin<'a>(
     ensures { IfSome result (λ r. ShowsBegin limits octets.entry.now here (Some most) depth kind
         length_code at r.1 r.0) }
 {
-    let Some((count, behind)) = shown_length(octets, at + 1, length_code) else {
+    let Some((count, after)) = shown_length(octets, at + 1, length_code) else {
         return None;
     };
-    let end = here + behind as u64 + count;
+    let end = here + after as u64 + count;
     if limits.depth <= depth || most < end {
         return None;
     }
-    Some((Shown::Begin(kind, end), behind))
+    Some((Shown::Begin(kind, end), after))
 }
 
 // The second id of a wrapper, from an offset on, unless its ids end there; and their end.
@@ -291,10 +291,10 @@ pub(crate) fn shown_note(
     let Some(length_code) = wrapper_length_code(octets[at]) else {
         return None;
     };
-    let Some((count, behind)) = shown_length(octets, at + 1, length_code) else {
+    let Some((count, after)) = shown_length(octets, at + 1, length_code) else {
         return None;
     };
-    let Some((ids, from)) = shown_var(octets, behind) else {
+    let Some((ids, from)) = shown_var(octets, after) else {
         return None;
     };
     let Some((id, first)) = shown_var(octets, from) else {
@@ -303,7 +303,7 @@ pub(crate) fn shown_note(
     let Some((second, inner)) = shown_second(octets, first, from as u64 + ids) else {
         return None;
     };
-    let end = here + behind as u64 + count;
+    let end = here + after as u64 + count;
     if limits.scalar < 32 || count < 3 || ids == 0 || end <= here + inner as u64 || most < end {
         return None;
     }

@@ -89,13 +89,13 @@ fn passes_end(region: Option<u64>, here: u64, count: u64) -> bool
 }
 
 // Whether a wrapper of these lengths may not be: it has fewer than three octets, no annotation, or
-// no octet for a value. `behind` is the place after the length of its annotations.
+// no octet for a value. `after` is the place after the length of its annotations.
 #[inline]
-fn is_no_wrapper(count: u64, ids: u64, behind: u64, end: u64) -> bool
-    requires { behind + ids < 2 ^ 64 }
-    ensures { result ≡ (nat_lt count 3 || nat_eq ids 0 || nat_le end (behind + ids)) }
+fn is_no_wrapper(count: u64, ids: u64, after: u64, end: u64) -> bool
+    requires { after + ids < 2 ^ 64 }
+    ensures { result ≡ (nat_lt count 3 || nat_eq ids 0 || nat_le end (after + ids)) }
 {
-    count < 3 || ids == 0 || end <= behind + ids
+    count < 3 || ids == 0 || end <= after + ids
 }
 
 /// The lengths of an annotation wrapper after its descriptor octet.
@@ -128,12 +128,12 @@ pub(crate) fn next_wrapper<I: Input, A: Allocator + Copy>(
     if passes_end(region, here, count) {
         return Err(Fault::Refused(Reason::Overrun, place));
     }
-    let behind = source.place();
-    if is_no_wrapper(count, ids, behind, end) {
+    let after = source.place();
+    if is_no_wrapper(count, ids, after, end) {
         return Err(Fault::Refused(Reason::BadAnnotation, place));
     }
     Ok(Wrapper {
-        ids: behind + ids,
+        ids: after + ids,
         end,
     })
 }

@@ -1,4 +1,4 @@
--- A writer can take what comes behind the items that were handed on.
+-- A writer can take what comes after the items that were handed on.
 use Rattle.std.proofs.Common.{◌≡◌, ℕ, List, [], ◌∷◌, ◌++◌, None, ap, sym, subst, ◌∙◌}
 use Rattle.ion_meter.specs.Counts.{Counts}
 use Rattle.ion_meter.specs.Windows.{Outgoing}
@@ -7,13 +7,13 @@ use Rattle.ion_value.specs.declared.ion_type.Kind.{Kind}
 use Rattle.ion_value.specs.declared.writer.ValueWriter.{Ghosts as WriterOf}
 use Rattle.ion_value.specs.Value.{PlacedItem}
 use Rattle.ion_value.specs.Feeding.{CanTake, Joint, Feeds, nothing, more, StaysWell}
-use Rattle.ion_value.specs.Standing.{Continues, Fits, is_marker, open_after, open_behind}
+use Rattle.ion_value.specs.Standing.{Continues, Fits, is_marker, open_after, open_after_all}
 use Rattle.ion_symbols.specs.User.{MayCome}
-use Rattle.ion_value.proofs.Outcomes.{open_behind-append}
+use Rattle.ion_value.proofs.Outcomes.{open_after_all-append}
 
--- a writer stands behind items that leave these containers open
+-- a writer stands after items that leave these containers open
 abbrev StandsIn : {W O A : Type 0} → WriterOf W O A → List Kind → W → Type 0
-StandsIn w opened writer = (path : List PlacedItem) × w.stands writer path × (open_behind [] path ≡ opened)
+StandsIn w opened writer = (path : List PlacedItem) × w.stands writer path × (open_after_all [] path ≡ opened)
 
 stands-fed : {W O A : Type 0} (w : WriterOf W O A) (reads : Type 0) (old new : Joint W)
     → Feeds w (λ item. item) reads old new → StandsIn w old.opened old.writer → StandsIn w new.opened new.writer
@@ -24,7 +24,7 @@ stands-fed w reads old new (more now _ feeds hands) s =
     let item = hands.item in (
       path ++ item ∷ [],
       hands.stands path t.1 t.2,
-      open_behind-append [] path item ∙ (ap (λ k. open_after k item.head) t.2 ∙ sym hands.opens),
+      open_after_all-append [] path item ∙ (ap (λ k. open_after k item.head) t.2 ∙ sym hands.opens),
     )
 
 pub takes-fed : {W O A : Type 0} (w : WriterOf W O A) (reads : Type 0) (old new : Joint W) (depth depth_then : ℕ) (from to : Outgoing O) (earlier later : Counts)
@@ -36,33 +36,33 @@ takes-fed w reads old new depth depth_then from to earlier later t feeds s e =
       fresh = s.failed ∙ t.fresh;
       well = s.fault ∙ t.well;
       depth_of = ap (λ (l : Limits). l.depth) s.limits ∙ (t.depth_of ∙ sym e);
-      behind = stands-fed w reads old new feeds t.behind;
+      after = stands-fed w reads old new feeds t.after;
     }
 
--- what comes behind these containers may be put
+-- what comes after these containers may be put
 pub may-go-on : {W O A : Type 0} (w : WriterOf W O A) {depth : ℕ} {opened then : List Kind} {old : W} {from : Outgoing O} {item own : PlacedItem}
-    → (t : CanTake w depth opened old from) → own ≡ item → MayCome depth opened then item → Continues (w.limits old) t.behind.0 own
+    → (t : CanTake w depth opened old from) → own ≡ item → MayCome depth opened then item → Continues (w.limits old) t.after.0 own
 may-go-on w {depth} {opened} {then} {old} {from} {item} {own} t same comes =
     let as_item : Fits depth opened own = subst (λ (i : PlacedItem). Fits depth opened i) (sym same) comes.fits in
-    let as_path : Fits depth (open_behind [] t.behind.0) own = subst (λ (k : List Kind). Fits depth k own) (sym t.behind.2) as_item in
+    let as_path : Fits depth (open_after_all [] t.after.0) own = subst (λ (k : List Kind). Fits depth k own) (sym t.after.2) as_item in
     record {
-      fits = subst (λ (n : ℕ). Fits n (open_behind [] t.behind.0) own) (sym t.depth_of) as_path;
+      fits = subst (λ (n : ℕ). Fits n (open_after_all [] t.after.0) own) (sym t.depth_of) as_path;
       value = ap (λ (i : PlacedItem). is_marker i.head) same ∙ comes.value;
     }
 
--- and behind it the next one can be taken
+-- and after it the next one can be taken
 pub takes-put : {W O A : Type 0} (w : WriterOf W O A) {depth depth_then : ℕ} {opened then : List Kind} {old new : W} {from to : Outgoing O} {item own : PlacedItem}
     → (t : CanTake w depth opened old from) → MayCome depth opened then item → own ≡ item → depth_then ≡ depth
-    → w.sound new → w.failed new ≡ None → to.fault ≡ None → w.limits new ≡ w.limits old → w.stands new (t.behind.0 ++ own ∷ [])
+    → w.sound new → w.failed new ≡ None → to.fault ≡ None → w.limits new ≡ w.limits old → w.stands new (t.after.0 ++ own ∷ [])
     → CanTake w depth_then then new to
 takes-put w {depth} {depth_then} {opened} {then} {old} {new} {from} {to} {item} {own} t comes same e sound fresh well limits stands = record {
   sound = sound;
   fresh = fresh;
   well = well;
   depth_of = ap (λ (l : Limits). l.depth) limits ∙ (t.depth_of ∙ sym e);
-  behind = (
-    t.behind.0 ++ own ∷ [],
+  after = (
+    t.after.0 ++ own ∷ [],
     stands,
-    open_behind-append [] t.behind.0 own ∙ (ap (λ k. open_after k own.head) t.behind.2 ∙ (ap (λ (i : PlacedItem). open_after opened i.head) same ∙ sym comes.opens)),
+    open_after_all-append [] t.after.0 own ∙ (ap (λ k. open_after k own.head) t.after.2 ∙ (ap (λ (i : PlacedItem). open_after opened i.head) same ∙ sym comes.opens)),
   );
 }

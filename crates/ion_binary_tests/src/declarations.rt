@@ -81,7 +81,7 @@ EA 81 83 D7 87 B2 81 61 86 71 03 EA 81 83 D7 87 B2 81 62 86 71 03 71 0A 71 0B|Sy
 E7 81 83 D4 87 B2 81 61 EC 81 83 D9 87 B2 81 62 86 B0 86 71 03|BadTable at 22|symbols=33|
 EA 81 83 D7 87 B2 81 61 86 71 03 EA 81 83 D7 87 B2 81 62 86 71 03 71 0A 71 0B|26/26 symbol 'a'@26; 28/28 symbol 'b'@28; end|symbols=34|
 EA 81 83 D7 87 B2 81 61 86 71 03 EA 81 83 D7 87 B2 81 62 86 71 03 71 0A 71 0B|SymbolLimit at 10|symbols=16|
-# A string behind its annotation, whose place is its own.
+# A string after its annotation, whose place is its own.
 EA 81 83 D7 87 B5 E4 81 84 81 62|SymbolLimit at 13|symbols=16|
 # One without a text costs 16.
 E7 81 83 D4 87 B2 21 05|end|symbols=16|

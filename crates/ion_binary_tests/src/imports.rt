@@ -59,7 +59,7 @@ EC 81 83 D9 86 B7 D6 87 21 01 87 21 01|end|
 pub const LIMITED: &str = "
 EC 81 83 D9 86 B7 D6 84 84 24 69 6F 6E 20|SymbolLimit at 12|symbols=3|
 EC 81 83 D9 86 B7 D6 84 84 24 69 6F 6E 20|17/17 int 0; end|symbols=4|
-# With the local symbol behind it, it is 49.
+# With the local symbol after it, it is 49.
 EE 94 81 83 DE 90 86 BA D9 84 81 78 85 21 01 88 21 02 87 B2 81 61 71 0C 71 0A|SymbolLimit at 24|symbols=48|
 EE 94 81 83 DE 90 86 BA D9 84 81 78 85 21 01 88 21 02 87 B2 81 61 71 0C 71 0A|26/26 symbol 'a'@26; 28/28 symbol 'p'@28; end|symbols=49|
 # Ids end at 2,147,483,647.

@@ -70,12 +70,12 @@ const IGNORED: Long = (
 
 // The octets after a version marker.
 fn long_octets(rt: &impl Abort, alloc: Global, long: Long) -> Vec<u8> {
-    let (front, again, times, behind, _) = long;
+    let (front, again, times, after, _) = long;
     let mut stream = octets(rt, alloc, MARKER, front);
     for _ in 0..times {
         add(rt, &mut stream, again);
     }
-    octets(rt, alloc, stream.as_slice(), behind)
+    octets(rt, alloc, stream.as_slice(), after)
 }
 
 // Asserts what is read in pieces of each size.

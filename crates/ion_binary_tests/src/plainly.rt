@@ -3,7 +3,7 @@ ghost use Rattle.std.specs.Prelude.{◌≡◌, ◌==◌, ◌+◌, List, [], true
 ghost use Rattle.ion_value.specs.Digits.{first_is};
 ghost use Rattle.ion_value.specs.Items.{raw_head};
 ghost use Rattle.ion_value.specs.PlainItems.{HasNoDollar, IsPlainHead, IsPlainItem, IsRightlyQuoted, IsSpelled, SaysRightly, placed_item};
-ghost use Rattle.ion_value.specs.Standing.{Fits, HeadInRange, is_marker, open_behind};
+ghost use Rattle.ion_value.specs.Standing.{Fits, HeadInRange, is_marker, open_after_all};
 ghost use Rattle.ion_value.specs.Value.{PlacedItem, Text};
 
 use crate::reading::expect_little;
@@ -148,7 +148,7 @@ pub fn is_put<W: ValueWriter<O, Global>, O: Output>(
     requires well { W.failed writer.old ≡ None }
     requires sink { sink.old.fault ≡ None }
     requires stands { (path : List PlacedItem) × W.stands writer.old path
-        × (open_behind [] path ≡ kinds.old.items) }
+        × (open_after_all [] path ≡ kinds.old.items) }
     requires depth { (W.limits writer.old).depth ≡ depth }
     requires held { meter.old.held ≡ 4096 + W.own writer.old }
     requires range { HeadInRange (raw_head item.head) }
@@ -160,7 +160,7 @@ pub fn is_put<W: ValueWriter<O, Global>, O: Output>(
     ensures well { W.failed writer.new ≡ None }
     ensures sink { sink.new.fault ≡ None }
     ensures stands { (path : List PlacedItem) × W.stands writer.new path
-        × (open_behind [] path ≡ kinds.new.items) }
+        × (open_after_all [] path ≡ kinds.new.items) }
     ensures depth { (W.limits writer.new).depth ≡ depth }
     ensures held { meter.new.held ≡ 4096 + W.own writer.new }
 {

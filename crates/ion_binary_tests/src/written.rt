@@ -3,7 +3,7 @@ ghost use Rattle.std.specs.Prelude.{◌≡◌, ◌+◌, List, [], true, false, N
 ghost use Rattle.ion_meter.specs.Limits.{AreChecked};
 ghost use Rattle.ion_value.specs.Items.{item_of, raw_head};
 ghost use Rattle.ion_value.specs.PlainItems.{IsPlainItem, IsSpelled, SaysRightly, placed_item};
-ghost use Rattle.ion_value.specs.Standing.{open_after, open_behind, is_marker, Fits, HeadInRange};
+ghost use Rattle.ion_value.specs.Standing.{open_after, open_after_all, is_marker, Fits, HeadInRange};
 ghost use Rattle.ion_value.specs.Value.{PlacedItem};
 
 use crate::plainly::{is_put, plain_of};
@@ -147,7 +147,7 @@ fn put_step<W: ValueWriter<O, Global>, O: Output, N: Names>(
     requires well { W.failed writer.old ≡ None }
     requires sink { sink.old.fault ≡ None }
     requires stands { (path : List PlacedItem) × W.stands writer.old path
-        × (open_behind [] path ≡ kinds.old.items) }
+        × (open_after_all [] path ≡ kinds.old.items) }
     requires depth { (W.limits writer.old).depth ≡ depth }
     requires held { meter.old.held ≡ 4096 + W.own writer.old }
     requires range { HeadInRange (item_of N.text item.now).head }
@@ -160,7 +160,7 @@ fn put_step<W: ValueWriter<O, Global>, O: Output, N: Names>(
     ensures well { OnOk result (W.failed writer.new ≡ None) }
     ensures sink { OnOk result (sink.new.fault ≡ None) }
     ensures stands { OnOk result ((path : List PlacedItem) × W.stands writer.new path
-        × (open_behind [] path ≡ kinds.new.items)) }
+        × (open_after_all [] path ≡ kinds.new.items)) }
     ensures depth { (W.limits writer.new).depth ≡ depth }
     ensures held { meter.new.held ≡ 4096 + W.own writer.new }
 {
@@ -187,7 +187,7 @@ fn put_one<W: ValueWriter<O, Global>, O: Output, N: Names>(
     requires well { W.failed writer.old ≡ None }
     requires sink { sink.old.fault ≡ None }
     requires stands { (path : List PlacedItem) × W.stands writer.old path
-        × (open_behind [] path ≡ kinds.old.items) }
+        × (open_after_all [] path ≡ kinds.old.items) }
     requires depth { (W.limits writer.old).depth ≡ depth }
     requires held { meter.old.held ≡ 4096 + W.own writer.old }
     requires range { HeadInRange (item_of N.text item.now).head }
@@ -195,7 +195,7 @@ fn put_one<W: ValueWriter<O, Global>, O: Output, N: Names>(
     ensures well { OnOk result (W.failed writer.new ≡ None) }
     ensures sink { OnOk result (sink.new.fault ≡ None) }
     ensures stands { OnOk result ((path : List PlacedItem) × W.stands writer.new path
-        × (open_behind [] path ≡ kinds.new.items)) }
+        × (open_after_all [] path ≡ kinds.new.items)) }
     ensures depth { (W.limits writer.new).depth ≡ depth }
     ensures held { meter.new.held ≡ 4096 + W.own writer.new }
 {

@@ -2,7 +2,7 @@
 ghost use Rattle.std.specs.Prelude.{◌≡◌, ◌+◌, ◌≤◌, List, [], None, Ok, true};
 ghost use Rattle.ion_meter.specs.Sources.{Stands};
 ghost use Rattle.ion_symbols.specs.User.{IsReady, owned_by, raw_of};
-ghost use Rattle.ion_value.specs.Standing.{open_behind};
+ghost use Rattle.ion_value.specs.Standing.{open_after_all};
 ghost use Rattle.ion_value.specs.Value.{PlacedItem};
 
 use crate::hex::{MARKER, add, add_digits, octets};
@@ -43,13 +43,13 @@ fn copy_one<R: RawReader<A>, W: ValueWriter<O, A>, O: Output, A: Allocator + Cop
     requires ready { IsReady R.sound R.opened R.failed R.ended reader.old }
     requires sound { W.sound writer.old }
     requires stands { (path : List PlacedItem) × W.stands writer.old path
-        × (open_behind [] path ≡ R.opened (raw_of reader.old)) }
+        × (open_after_all [] path ≡ R.opened (raw_of reader.old)) }
     requires depth { (W.limits writer.old).depth ≡ R.depth (raw_of reader.old) }
     requires held { 4096 + owned_by R.own reader.old + W.own writer.old ≤ meter.old.held }
     ensures ready { IsReady R.sound R.opened R.failed R.ended reader.new }
     ensures sound { W.sound writer.new }
     ensures stands { result ≡ Ok true → (path : List PlacedItem) × W.stands writer.new path
-        × (open_behind [] path ≡ R.opened (raw_of reader.new)) }
+        × (open_after_all [] path ≡ R.opened (raw_of reader.new)) }
     ensures depth { (W.limits writer.new).depth ≡ R.depth (raw_of reader.new) }
     ensures held { 4096 + owned_by R.own reader.new + W.own writer.new ≤ meter.new.held }
 {

@@ -9,7 +9,7 @@ use Rattle.std.specs.List.{copy_within}
 use borrow.Rule.Slice.PartMut.{put_mid, post_of}
 use Rattle.ion_meter.proofs.Window.{take_past}
 
--- what stood from a place on was moved behind where the bytes go
+-- what stood from a place on was moved after where the bytes go
 moved_up : (xs ys : List ℕ) (p e n : ℕ) → p ≤ e → e + n ≤ length xs → ys ≡ copy_within xs p e (p + n) → take (e + n) ys ≡ take (p + n) xs ++ take (e - p) (drop p xs)
 moved_up xs ys p e n h l c =
     let m : (p + n) + (e - p) ≡ e + n = omega (arith, h) in
@@ -57,7 +57,7 @@ stayed xs ys p e n h l c =
     let b : take p (take (p + n) xs ++ take (e - p) (drop p xs)) ≡ take p xs = grind (arith, common_steps) in
     sym a ∙ (ap (take p) c ∙ b)
 
--- the bytes in the gap, and what stood there behind them
+-- the bytes in the gap, and what stood there after them
 pub gap_filled : (xs ys t zs : List ℕ) (p e k : ℕ) → p ≤ e → e + length t ≤ length xs
     → take (e + length t) ys ≡ take (p + length t) xs ++ take (e - p) (drop p xs) → zs ≡ t → k ≡ length t
     → take (e + length t) (put_mid p k ys zs) ≡ take p (take e xs) ++ (t ++ drop p (take e xs))
@@ -73,7 +73,7 @@ gap_filled xs ys t zs p e k h l c z s =
     ∙ (ap (λ (u : List ℕ). take p ys ++ u) (take_past t (drop (p + n) ys) n (e - p) refl ∙ ap (λ (u : List ℕ). t ++ u) (moved_part xs ys p e n h l c))
     ∙ ap (λ (u : List ℕ). u ++ (t ++ take (e - p) (drop p xs))) (stayed xs ys p e n h l c)))
 
--- the first bytes of a block behind those that are there
+-- the first bytes of a block after those that are there
 pub block_put : (xs block : List ℕ) (at k n : ℕ) → at ≤ length xs → n ≤ length block → take (at + n) (put_mid at k xs block) ≡ take at xs ++ take n block
 block_put xs block at k n h few =
     let long : length (take at xs) ≡ at = simp length-take (omega (arith, h)) in

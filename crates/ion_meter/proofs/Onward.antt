@@ -15,15 +15,15 @@ pub onward_as : {O : Type 0} {written : O → List ℕ} {observable : O → Type
 onward_as {written} {observable} {failures} {start} {now} {whole} o e = subst (λ zs. Onward written observable failures start now whole zs) e o
 
 -- a part is put
-well_behind : {O : Type 0} (written : O → List ℕ) (observable : O → Type 0) (failures : O → ℕ) (now new : Outgoing O) (x : Unit {0}) (first : Result (Unit {0}) Fault) (xs : List ℕ)
+well_after : {O : Type 0} (written : O → List ℕ) (observable : O → Type 0) (failures : O → ℕ) (now new : Outgoing O) (x : Unit {0}) (first : Result (Unit {0}) Fault) (xs : List ℕ)
     → first ≡ Ok x → HasPut {T = Unit {0}} written observable failures now new first xs → new.fault ≡ None
-well_behind written observable failures now new x (Ok z) xs e p = p.well
-well_behind written observable failures now new x (Err f) xs e p = absurd (cc e)
+well_after written observable failures now new x (Ok z) xs e p = p.well
+well_after written observable failures now new x (Err f) xs e p = absurd (cc e)
 
 pub onward_then : {O : Type 0} {written : O → List ℕ} {observable : O → Type 0} {failures : O → ℕ} {start now new : Outgoing O} {x : Unit {0}} {first : Result (Unit {0}) Fault} {whole xs ys : List ℕ}
     → Onward written observable failures start now whole (xs ++ ys) → first ≡ Ok x → HasPut {T = Unit {0}} written observable failures now new first xs
     → Onward written observable failures start new whole ys
-onward_then o e p = record { well = well_behind _ _ _ _ _ _ _ _ e p; then = λ last result q. o.then last result (put_then e p q) }
+onward_then o e p = record { well = well_after _ _ _ _ _ _ _ _ e p; then = λ last result q. o.then last result (put_then e p q) }
 
 -- a part fails
 pub onward_cut : {O : Type 0} {written : O → List ℕ} {observable : O → Type 0} {failures : O → ℕ} {start now new : Outgoing O} {f : Fault} {first : Result (Unit {0}) Fault} {whole xs : List ℕ} (ys : List ℕ)

@@ -34,7 +34,7 @@ shifted xs ys p e k x h l is =
     (past (take p xs) (ys ++ post_of p k xs) p (1 + (e - p)) long
     ∙ (ap (λ r. take p xs ++ r) (all ∙ is) ∙ sym (ap (λ r. r ++ x ∷ drop p (take e xs)) first ∙ ap (λ r. take p xs ++ x ∷ r) last)))
 
--- the same by how they were written, of a list that keeps its length and what stands behind the end
+-- the same by how they were written, of a list that keeps its length and what stands after the end
 pub shifted_in : {T : Type 0} (xs moved : List T) (p e : ℕ) (x : T) → p ≤ e → e < length xs
     → moved ≡ copy_within (take (e + 1 - p) (drop p xs)) 0 (length (take (e + 1 - p) (drop p xs)) - 1) 1
     → (take (e + 1) (put_mid p (e + 1 - p) xs (set moved 0 x)) ≡ insert (take e xs) p x)

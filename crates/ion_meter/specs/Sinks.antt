@@ -5,7 +5,7 @@ use Rattle.ion_meter.specs.declared.fault.Fault.{Fault}
 use Rattle.ion_meter.specs.declared.fault.Fault.TheVariants.{WriteFault}
 use Rattle.ion_meter.specs.Windows.{Outgoing, so_far, Puts, write_failures_in}
 
--- where it answers well, these bytes were put behind what was put before, and where it fails, a prefix of them
+-- where it answers well, these bytes were put after what was put before, and where it fails, a prefix of them
 pub record HasPut {O T : Type 0} (written : O → List ℕ) (observable : O → Type 0) (failures : O → ℕ) (old new : Outgoing O) (result : Result T Fault) (bytes : List ℕ) : Type 0 where
   pub whole : OnOk result (observable old.device → so_far written new ≡ so_far written old ++ bytes)
   pub well : OnOk result (new.fault ≡ None)

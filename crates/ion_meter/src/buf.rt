@@ -26,7 +26,7 @@ pub struct Added<'a> {
     pub bytes: &'a [u8],
     /// Those of the second.
     pub front: &'a [u8],
-    /// And what stands behind them.
+    /// And what stands after them.
     pub rest: &'a [u8],
 }
 
@@ -113,7 +113,7 @@ impl<A: Allocator + Copy> Buf<A> {
         Ok(())
     }
 
-    /// Adds these bytes at the end, and more behind them, where there is room for all. Else it
+    /// Adds these bytes at the end, and more after them, where there is room for all. Else it
     /// answers false, and nothing is changed.
     #[inline(always)]
     pub fn extend_if_room(&mut self, meter: &mut Meter<A>, bytes: &[u8], more: &[u8]) -> bool
@@ -161,7 +161,7 @@ impl<A: Allocator + Copy> Buf<A> {
         true
     }
 
-    /// Adds the first bytes of a block at the end, so many, and more behind them, where there is
+    /// Adds the first bytes of a block at the end, so many, and more after them, where there is
     /// room for the whole block and the others. Else it answers false, and nothing is changed.
     #[inline(always)]
     pub fn extend_block_if_room(
@@ -279,16 +279,16 @@ impl<A: Allocator + Copy> Buf<A> {
         Ok(())
     }
 
-    /// Moves the bytes from a place up to an end, counted from 0, by a gap that stands behind them, and
+    /// Moves the bytes from a place up to an end, counted from 0, by a gap that stands after them, and
     /// writes these bytes right before where they come to stand.
-    pub fn move_behind(&mut self, place: usize, end: usize, gap: usize, bytes: &[u8])
+    pub fn move_after(&mut self, place: usize, end: usize, gap: usize, bytes: &[u8])
         requires order { place ≤ end }
         requires within { end + gap ≤ length self.old }
         requires short { length bytes.now ≤ gap }
         ensures { self.new ≡ take (place + gap - length bytes.now) self.old ++ (bytes.now
             ++ (take (end - place) (drop place self.old) ++ drop (end + gap) self.old)) }
     {
-        self.roomy.move_behind(place, end, gap, bytes);
+        self.roomy.move_after(place, end, gap, bytes);
     }
 
     /// Writes a byte over the one at a place, counted from 0.

@@ -13,7 +13,7 @@ const BLOCK: usize = 16;
 // blocks: a buffer that grew to the few bytes of short values would turn each of them away.
 const LEAST: usize = 64;
 
-/// Bytes, and behind them others that mean nothing. A clause sees the list of the bytes, and how many
+/// Bytes, and after them others that mean nothing. A clause sees the list of the bytes, and how many
 /// more there is room for.
 #[derive(Drop)]
 pub(crate) struct Roomy<A: Allocator + Copy> {
@@ -161,9 +161,9 @@ impl<A: Allocator + Copy> Roomy<A> {
         self.len = end + bytes.len();
     }
 
-    /// Moves the bytes from a place up to an end, counted from 0, by a gap that stands behind them, and
+    /// Moves the bytes from a place up to an end, counted from 0, by a gap that stands after them, and
     /// writes these bytes right before where they come to stand.
-    pub fn move_behind(&mut self, place: usize, end: usize, gap: usize, bytes: &[u8])
+    pub fn move_after(&mut self, place: usize, end: usize, gap: usize, bytes: &[u8])
         requires order { place ≤ end }
         requires within { end + gap ≤ length self.old.bytes }
         requires short { length bytes.now ≤ gap }
@@ -204,7 +204,7 @@ fn write_first(all: &mut [u8], at: usize, block: [u8; 8], count: usize)
     all[at..at + 8].copy_from_slice(&block);
 }
 
-// Puts bytes in at a place among the first bytes: what stood from there on moves behind them.
+// Puts bytes in at a place among the first bytes: what stood from there on moves after them.
 #[inline(always)]
 fn put_between(all: &mut [u8], place: usize, end: usize, bytes: &[u8])
     requires within { place ≤ end }
@@ -212,32 +212,32 @@ fn put_between(all: &mut [u8], place: usize, end: usize, bytes: &[u8])
     ensures { take (end + length bytes.now) all.new
         ≡ take place (take end all.old) ++ (bytes.now ++ drop place (take end all.old)) }
 {
-    let behind = place + bytes.len();
-    open_gap(all, place, end, behind);
-    copy(&mut all[place..behind], bytes);
+    let after = place + bytes.len();
+    open_gap(all, place, end, after);
+    copy(&mut all[place..after], bytes);
 }
 
-// Moves the bytes from a place up to an end to a place behind: at most 16 of them as a block of as
+// Moves the bytes from a place up to an end to a place after: at most 16 of them as a block of as
 // many, without a call.
 #[inline(always)]
-fn open_gap(all: &mut [u8], place: usize, end: usize, behind: usize)
+fn open_gap(all: &mut [u8], place: usize, end: usize, after: usize)
     requires order { place ≤ end }
-    requires upward { place ≤ behind }
-    requires room { end + (behind - place) ≤ length all.old }
+    requires upward { place ≤ after }
+    requires room { end + (after - place) ≤ length all.old }
     ensures len { length all.new ≡ length all.old }
-    ensures moved { take (end + (behind - place)) all.new
-        ≡ take behind all.old ++ take (end - place) (drop place all.old) }
+    ensures moved { take (end + (after - place)) all.new
+        ≡ take after all.old ++ take (end - place) (drop place all.old) }
 {
-    if end - place <= BLOCK && all.len() - behind >= BLOCK {
+    if end - place <= BLOCK && all.len() - after >= BLOCK {
         let mut moved = [0; BLOCK];
         moved.copy_from_slice(&all[place..place + BLOCK]);
-        all[behind..behind + BLOCK].copy_from_slice(&moved);
+        all[after..after + BLOCK].copy_from_slice(&moved);
         return;
     }
-    all.copy_within(place..end, behind);
+    all.copy_within(place..end, after);
 }
 
-// Moves bytes from a place up to an end by a gap behind them, and writes these right before them.
+// Moves bytes from a place up to an end by a gap after them, and writes these right before them.
 fn move_up(all: &mut [u8], place: usize, end: usize, gap: usize, bytes: &[u8])
     requires order { place ≤ end }
     requires within { end + gap ≤ length all.old }

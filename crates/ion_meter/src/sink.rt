@@ -145,7 +145,7 @@ impl<O: Output, A: Allocator + Copy> Sink<O, A> {
         }
     }
 
-    /// Puts these bytes behind what was put before.
+    /// Puts these bytes after what was put before.
     ///
     /// They are copied into the window, which is written out where it has no room for all of them.
     /// Answers `WriteFault` where the device fails, or takes nothing of bytes that it was given.

@@ -190,10 +190,10 @@ impl<T, A: Allocator + Copy> Table<T, A> {
             return Err((entry, Fault::Memory));
         }
         // One move, by places that a compiler knows; of `Vec::insert` it may make a loop.
-        let behind = &mut others.items[place..];
-        let moved = behind.len() - 1;
-        behind.copy_within(0..moved, 1);
-        behind[0] = other;
+        let after = &mut others.items[place..];
+        let moved = after.len() - 1;
+        after.copy_within(0..moved, 1);
+        after[0] = other;
         self.items.push_reserved(entry);
         meter.add(self.cost + others.cost);
         Ok(())
@@ -244,7 +244,7 @@ impl<T, A: Allocator + Copy> Table<T, A> {
     }
 
     /// Puts an entry in at a place among the first entries, up to an end, each counted from 0: those from
-    /// the place on move behind it, and the one at the end goes.
+    /// the place on move after it, and the one at the end goes.
     pub fn shift_in(&mut self, place: usize, end: usize, entry: T)
     where
         T: Copy,
@@ -252,14 +252,14 @@ impl<T, A: Allocator + Copy> Table<T, A> {
         requires within { end < length self.old.items }
         ensures items { take (end + 1) self.new.items
             ≡ insert (take end self.old.items) place entry }
-        ensures behind { drop (end + 1) self.new.items ≡ drop (end + 1) self.old.items }
+        ensures after { drop (end + 1) self.new.items ≡ drop (end + 1) self.old.items }
         ensures len { length self.new.items ≡ length self.old.items }
         ensures cost { self.new.cost ≡ self.old.cost }
     {
-        let behind = &mut self.items[place..end + 1];
-        let moved = behind.len() - 1;
-        behind.copy_within(0..moved, 1);
-        behind[0] = entry;
+        let after = &mut self.items[place..end + 1];
+        let moved = after.len() - 1;
+        after.copy_within(0..moved, 1);
+        after[0] = entry;
     }
 
     /// Writes an entry over the one at a place, counted from 0.

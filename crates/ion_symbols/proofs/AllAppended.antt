@@ -11,6 +11,6 @@ pub AllByRecursion-before : {A : Type 0} (P : A → Type 0) (xs ys : List A) →
 AllByRecursion-before P [] ys h = tt
 AllByRecursion-before P (x ∷ xs) ys h = (h.0, AllByRecursion-before P xs ys h.1)
 
-pub AllByRecursion-behind : {A : Type 0} (P : A → Type 0) (xs ys : List A) → AllByRecursion P (xs ++ ys) → AllByRecursion P ys
-AllByRecursion-behind P [] ys h = h
-AllByRecursion-behind P (x ∷ xs) ys h = AllByRecursion-behind P xs ys h.1
+pub AllByRecursion-after : {A : Type 0} (P : A → Type 0) (xs ys : List A) → AllByRecursion P (xs ++ ys) → AllByRecursion P ys
+AllByRecursion-after P [] ys h = h
+AllByRecursion-after P (x ∷ xs) ys h = AllByRecursion-after P xs ys h.1

@@ -4,9 +4,9 @@ use Rattle.ion_meter.specs.declared.fault.Reason.TheVariants.{SymbolLimit}
 use Rattle.ion_symbols.specs.declared.catalog_builder.Stage.TheVariants as stage
 use Rattle.ion_symbols.specs.Table.{Shared, text_length, shared_cost, catalog_cost, is_name, may_stand}
 use Rattle.ion_symbols.specs.Declaration.{string_in}
-use Rattle.ion_symbols.specs.CatalogItems.{EntryView, Draft, behind_tables, name_cost, counted, with_text, at, passed, then_load, element_step}
+use Rattle.ion_symbols.specs.CatalogItems.{EntryView, Draft, after_tables, name_cost, counted, with_text, at, passed, then_load, element_step}
 use Rattle.ion_symbols.proofs.Keeping.{cost_push}
-use Rattle.ion_symbols.proofs.Catalogued.{cost_behind}
+use Rattle.ion_symbols.proofs.Catalogued.{cost_after}
 
 -- a slot more
 pub counted-text : (text : Option (List ℕ)) (d : Draft) → counted (with_text text d) ≡ counted d + (16 + text_length text)
@@ -40,12 +40,12 @@ pub stands-named : (tables : List Shared) (s : Shared) → may_stand tables s �
 stands-named tables s e = left_of (is_name s.name) _ e
 
 -- a table that is whole is counted as before
-pub counted-ended : (d : Draft) → may_stand d.tables d.table ≡ true → counted (behind_tables (d.tables ++ d.table ∷ [])) ≡ counted d
+pub counted-ended : (d : Draft) → may_stand d.tables d.table ≡ true → counted (after_tables (d.tables ++ d.table ∷ [])) ≡ counted d
 counted-ended d stands =
-    let all = cost_behind d.tables d.table in
+    let all = cost_after d.tables d.table in
     let name = named d.table.name (stands-named d.tables d.table stands) in
     omega (arith, all, name)
 
 -- and what is held then is what was held, and 32
 pub held-ended : (d : Draft) → catalog_cost (d.tables ++ d.table ∷ []) ≡ (catalog_cost d.tables + shared_cost d.table) + 32
-held-ended d = let all = cost_behind d.tables d.table in omega (arith, all)
+held-ended d = let all = cost_after d.tables d.table in omega (arith, all)

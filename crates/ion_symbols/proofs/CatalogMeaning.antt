@@ -13,8 +13,8 @@ use Rattle.ion_symbols.specs.declared.known_text.Word.TheVariants as word
 use Rattle.ion_symbols.specs.Table.{Slots, Shared, catalog_cost, is_name, may_stand}
 use Rattle.ion_symbols.specs.Declaration.{FieldValue, begins, ends, other, string, int, names, string_in, version_in}
 use Rattle.ion_symbols.specs.Tree.{same_word, or_later}
-use Rattle.ion_symbols.specs.CatalogItems.{user_field, is_shared, Draft, Drafted, behind_tables, counted, within, with_name, with_text, name_met, version_met, symbols_met, table_ended}
-use Rattle.ion_symbols.specs.CatalogTrees.{seen, value_of, times, fields_fit, text_or_none, name_in, version_of, elements, slots_of, shared_in, shared_of, add_table, and_tables, tables_behind, tables_of, and_draft, elements_drafted, symbols_drafted, field_drafted, fields_drafted, top_drafted, tops_drafted, drafted_tables, catalog_of}
+use Rattle.ion_symbols.specs.CatalogItems.{user_field, is_shared, Draft, Drafted, after_tables, counted, within, with_name, with_text, name_met, version_met, symbols_met, table_ended}
+use Rattle.ion_symbols.specs.CatalogTrees.{seen, value_of, times, fields_fit, text_or_none, name_in, version_of, elements, slots_of, shared_in, shared_of, add_table, and_tables, tables_after, tables_of, and_draft, elements_drafted, symbols_drafted, field_drafted, fields_drafted, top_drafted, tops_drafted, drafted_tables, catalog_of}
 use Rattle.ion_symbols.proofs.CatalogCosts.{counted-ended}
 
 -- ---- what is without a fault
@@ -270,9 +270,9 @@ FieldsDrawn limit tables members e =
     (times word.Name members) (times word.Version members) (times word.Symbols members) (times word.Imports members) e
 
 pub fields-drawn : (limit top : ℕ) (tables : List Shared) (members : Members UserSymbol ℕ) (e : Draft) → catalog_cost tables ≤ limit
-    → fields_drafted limit top members (behind_tables tables) ≡ Ok e → FieldsDrawn limit tables members e
+    → fields_drafted limit top members (after_tables tables) ≡ Ok e → FieldsDrawn limit tables members e
 fields-drawn limit top tables nothing e cheap is = record {
-  is = ok-same (behind_tables tables) e is;
+  is = ok-same (after_tables tables) e is;
   cheap = omega (arith, cheap);
   nameless = λ empty. refl;
   no_name = λ none. refl;
@@ -284,7 +284,7 @@ fields-drawn limit top tables nothing e cheap is = record {
   no_imports = omega arith;
 }
 fields-drawn limit top tables (member before field annotations place x) e cheap is =
-    let two = and_draft-ok (fields_drafted limit top before (behind_tables tables)) (λ f. field_drafted limit top place x f (user_field field)) e is in
+    let two = and_draft-ok (fields_drafted limit top before (after_tables tables)) (λ f. field_drafted limit top place x f (user_field field)) e is in
     let first = fields-drawn limit top tables before two.0 cheap two.1 in
     field-drawn limit top place tables x (value_of word.Name before) (value_of word.Version before) (value_of word.Symbols before)
     (times word.Name before) (times word.Version before) (times word.Symbols before) (times word.Imports before) two.0 e (user_field field) first
@@ -299,22 +299,22 @@ fit limit tables members e d =
     ∙ (ap (λ b. b && nat_le (times word.Imports members) 0) (le-leb (times word.Symbols members) 1 d.symbols_once)
     ∙ le-leb (times word.Imports members) 0 d.no_imports))
 
--- a table was added behind others
+-- a table was added after others
 pub record Added (limit : ℕ) (tables : List Shared) (s : Option Shared) (e : Draft) : Type 0 where
   pub more : List Shared
   pub added : add_table tables s ≡ Some more
-  pub is : e ≡ behind_tables more
+  pub is : e ≡ after_tables more
   pub cheap : catalog_cost more ≤ limit
 
 struct-added : (limit first : ℕ) (tables : List Shared) (members : Members UserSymbol ℕ) (e : Draft) → catalog_cost tables ≤ limit
-    → and_draft (fields_drafted limit first members (behind_tables tables)) (λ d. table_ended first d) ≡ Ok e
+    → and_draft (fields_drafted limit first members (after_tables tables)) (λ d. table_ended first d) ≡ Ok e
     → (fields_fit members ≡ true) × Added limit tables (Some (shared_in members)) e
 struct-added limit first tables members e cheap is =
-    let two = and_draft-ok (fields_drafted limit first members (behind_tables tables)) (λ d. table_ended first d) e is in
+    let two = and_draft-ok (fields_drafted limit first members (after_tables tables)) (λ d. table_ended first d) e is in
     let drawn = fields-drawn limit first tables members two.0 cheap two.1 in
     let d = meant tables (value_of word.Name members) (value_of word.Version members) (value_of word.Symbols members) in
-    let whole = if-ok (may_stand tables (shared_in members)) (behind_tables (tables ++ shared_in members ∷ [])) e (CatalogEntry, first) (subst (λ f. table_ended first f ≡ Ok e) drawn.is two.2) in
-    let same : counted (behind_tables (tables ++ shared_in members ∷ [])) ≡ counted d = counted-ended d whole.0 in
+    let whole = if-ok (may_stand tables (shared_in members)) (after_tables (tables ++ shared_in members ∷ [])) e (CatalogEntry, first) (subst (λ f. table_ended first f ≡ Ok e) drawn.is two.2) in
+    let same : counted (after_tables (tables ++ shared_in members ∷ [])) ≡ counted d = counted-ended d whole.0 in
     let within_limit = drawn.cheap in (
       fit limit tables members two.0 drawn,
       record {
@@ -327,7 +327,7 @@ struct-added limit first tables members e cheap is =
 
 shared-added : (limit first last : ℕ) (tables : List Shared) (annotations : List UserSymbol) (members : Members UserSymbol ℕ) (e : Draft) (b : Bool) → is_shared annotations ≡ b
     → catalog_cost tables ≤ limit
-    → (if b then and_draft (fields_drafted limit first members (behind_tables tables)) (λ d. table_ended first d) else Err (CatalogEntry, first)) ≡ Ok e
+    → (if b then and_draft (fields_drafted limit first members (after_tables tables)) (λ d. table_ended first d) else Err (CatalogEntry, first)) ≡ Ok e
     → Added limit tables (if is_shared annotations && fields_fit members then Some (shared_in members) else None) e
 shared-added limit first last tables annotations members e true shared cheap is =
     let both = struct-added limit first tables members e cheap is in
@@ -335,7 +335,7 @@ shared-added limit first last tables annotations members e true shared cheap is 
     subst (λ b. Added limit tables (if b then Some (shared_in members) else None) e) (sym yes) both.1
 shared-added limit first last tables annotations members e false shared cheap is = cc
 
-pub top-added : (limit : ℕ) (tables : List Shared) (u : Top UserSymbol ℕ) (e : Draft) → catalog_cost tables ≤ limit → top_drafted limit u (behind_tables tables) ≡ Ok e
+pub top-added : (limit : ℕ) (tables : List Shared) (u : Top UserSymbol ℕ) (e : Draft) → catalog_cost tables ≤ limit → top_drafted limit u (after_tables tables) ≡ Ok e
     → Added limit tables (shared_of u) e
 top-added limit tables (tree first annotations place (container kind.Struct members last)) e cheap is =
     shared-added limit first last tables annotations members e (is_shared annotations) refl cheap is
@@ -344,14 +344,14 @@ top-added limit tables (tree first annotations place (container kind.Sexp member
 top-added limit tables (tree first annotations place (scalar body)) e cheap is = cc
 top-added limit tables (value.version place) e cheap is = cc
 
-pub tops-added : (limit : ℕ) (tables : List Shared) (us : List (Top UserSymbol ℕ)) (e : Draft) → catalog_cost tables ≤ limit → tops_drafted limit us (behind_tables tables) ≡ Ok e
-    → (all : List Shared) × (tables_behind tables us ≡ Some all) × (e ≡ behind_tables all) × (catalog_cost all ≤ limit)
-tops-added limit tables [] e cheap is = (tables, refl, ok-same (behind_tables tables) e is, cheap)
+pub tops-added : (limit : ℕ) (tables : List Shared) (us : List (Top UserSymbol ℕ)) (e : Draft) → catalog_cost tables ≤ limit → tops_drafted limit us (after_tables tables) ≡ Ok e
+    → (all : List Shared) × (tables_after tables us ≡ Some all) × (e ≡ after_tables all) × (catalog_cost all ≤ limit)
+tops-added limit tables [] e cheap is = (tables, refl, ok-same (after_tables tables) e is, cheap)
 tops-added limit tables (u ∷ us) e cheap is =
-    let two = and_draft-ok (top_drafted limit u (behind_tables tables)) (λ d. tops_drafted limit us d) e is in
+    let two = and_draft-ok (top_drafted limit u (after_tables tables)) (λ d. tops_drafted limit us d) e is in
     let one = top-added limit tables u two.0 cheap two.1 in
     let rest = tops-added limit one.more us e one.cheap (subst (λ d. tops_drafted limit us d ≡ Ok e) one.is two.2) in
-    (rest.0, ap (λ o. and_tables o (λ more. tables_behind more us)) one.added ∙ rest.1, rest.2, rest.3)
+    (rest.0, ap (λ o. and_tables o (λ more. tables_after more us)) one.added ∙ rest.1, rest.2, rest.3)
 
 abbrev pub Tables : Type 0
 Tables = Result (List Shared) (Reason × ℕ)
@@ -366,7 +366,7 @@ tables_or none (Err why) = none
 tables-same : (s t : List Shared) → GivesTables (Ok s) t → s ≡ t
 tables-same s t is = ap (tables_or s) is
 
-of-drafted : (limit : ℕ) (us : List (Top UserSymbol ℕ)) (tables : List Shared) (r : Drafted) → tops_drafted limit us (behind_tables []) ≡ r → GivesTables (drafted_tables r) tables
+of-drafted : (limit : ℕ) (us : List (Top UserSymbol ℕ)) (tables : List Shared) (r : Drafted) → tops_drafted limit us (after_tables []) ≡ r → GivesTables (drafted_tables r) tables
     → (tables_of us ≡ Some tables) × (catalog_cost tables ≤ limit)
 of-drafted limit us tables (Ok d) e is =
     let all = tops-added limit [] us d (omega arith) e in
@@ -376,4 +376,4 @@ of-drafted limit us tables (Err why) e is = cc
 
 pub catalogs-tables : (limit : ℕ) (us : List (Top UserSymbol ℕ)) (tables : List Shared) → catalog_of limit us ≡ Ok tables
     → (tables_of us ≡ Some tables) × (catalog_cost tables ≤ limit)
-catalogs-tables limit us tables is = of-drafted limit us tables (tops_drafted limit us (behind_tables [])) refl is
+catalogs-tables limit us tables is = of-drafted limit us tables (tops_drafted limit us (after_tables [])) refl is

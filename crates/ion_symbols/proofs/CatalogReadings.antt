@@ -29,7 +29,7 @@ then_load-same : (d : Drafted) (f k : Draft → Loaded) → ((e : Draft) → f e
 then_load-same (Ok e) f k same = same e
 then_load-same (Err why) f k same = refl
 
--- the first item of a value, and those behind it up to its end
+-- the first item of a value, and those after it up to its end
 abbrev first_of : ℕ → Option UserSymbol → List UserSymbol → ℕ → Value UserSymbol ℕ → Item UserSymbol ℕ
 first_of top field annotations place x = record { field = field; annotations = annotations; head = head_of x; place = place; top = top }
 
@@ -137,7 +137,7 @@ elements-read limit d top (member before field annotations place x) rest =
     (λ e. element-read limit e top field annotations place x rest)
     ∙ sym (then_load-and_draft (elements_drafted limit before d) (λ e. within limit place (with_text (string_in (seen x)) e)) (λ g. load_from limit (at stage.Symbols g) rest))))
 
--- the value of `symbols`, behind its first item
+-- the value of `symbols`, after its first item
 symbols-read : (limit : ℕ) (d : Draft) (top : ℕ) (x : Value UserSymbol ℕ) (rest : List (Item UserSymbol ℕ))
     → load_from limit (listed (seen x) d) (content_of top x ++ rest) ≡ then_load (symbols_drafted limit x d) (λ e. load_from limit (at stage.Fields e) rest)
 symbols-read limit d top (scalar (value.null type)) rest = refl

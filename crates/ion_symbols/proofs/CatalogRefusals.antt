@@ -12,8 +12,8 @@ use Rattle.ion_symbols.specs.declared.known_text.Word.TheVariants as word
 use Rattle.ion_symbols.specs.Table.{Shared, slots_cost, catalog_cost, is_name, may_stand}
 use Rattle.ion_symbols.specs.Declaration.{FieldValue, begins, ends, other, string, int, names, string_in, version_in}
 use Rattle.ion_symbols.specs.Tree.{or_later}
-use Rattle.ion_symbols.specs.CatalogItems.{user_field, is_shared, Draft, Drafted, behind_tables, name_cost, counted, within, with_name, with_text, name_met, table_ended}
-use Rattle.ion_symbols.specs.CatalogTrees.{seen, value_of, times, fields_fit, text_or_none, name_in, version_of, elements, slots_of, shared_in, shared_of, add_table, and_tables, tables_behind, tables_of, and_draft, elements_drafted, symbols_drafted, field_drafted, fields_drafted, top_drafted, tops_drafted, drafted_tables}
+use Rattle.ion_symbols.specs.CatalogItems.{user_field, is_shared, Draft, Drafted, after_tables, name_cost, counted, within, with_name, with_text, name_met, table_ended}
+use Rattle.ion_symbols.specs.CatalogTrees.{seen, value_of, times, fields_fit, text_or_none, name_in, version_of, elements, slots_of, shared_in, shared_of, add_table, and_tables, tables_after, tables_of, and_draft, elements_drafted, symbols_drafted, field_drafted, fields_drafted, top_drafted, tops_drafted, drafted_tables}
 use Rattle.ion_symbols.specs.CatalogLaws.{CatalogsAreTables, top_place, entry_cost, EntryAtFault, no_table, costly, EntryRefused, WhyCatalogsAreRefused}
 use Rattle.ion_symbols.proofs.Keeping.{cost_append, cost_push}
 use Rattle.ion_symbols.proofs.CatalogCosts.{counted-ended}
@@ -34,7 +34,7 @@ why_or why (Err w) = w
 err-same : (why w : Why) → Refuses (Err w) why → why ≡ w
 err-same why w is = sym (ap (why_or why) is)
 
--- so is the first of two, or the second behind it
+-- so is the first of two, or the second after it
 and_draft-err : (r : Drafted) (later : Draft → Drafted) (why : Why) → and_draft r later ≡ Err why
     → (r ≡ Err why) ⊎ ((f : Draft) × (r ≡ Ok f) × (later f ≡ Err why))
 and_draft-err (Ok f) later why is = inr (f, refl, is)
@@ -215,10 +215,10 @@ FitsAll members =
     (times word.Name members) (times word.Version members) (times word.Symbols members) (times word.Imports members)
 
 fields-refused : (limit top : ℕ) (tables : List Shared) (members : Members UserSymbol ℕ) (why : Why) → catalog_cost tables ≤ limit
-    → fields_drafted limit top members (behind_tables tables) ≡ Err why → Refusal limit (counted (meant_all tables members)) top (FitsAll members) why
+    → fields_drafted limit top members (after_tables tables) ≡ Err why → Refusal limit (counted (meant_all tables members)) top (FitsAll members) why
 fields-refused limit top tables nothing why cheap is = cc
 fields-refused limit top tables (member before field annotations place x) why cheap is =
-    elim (and_draft-err (fields_drafted limit top before (behind_tables tables)) (λ f. field_drafted limit top place x f (user_field field)) why is) [
+    elim (and_draft-err (fields_drafted limit top before (after_tables tables)) (λ f. field_drafted limit top place x f (user_field field)) why is) [
       | inl e ↦
           elim (fields-refused limit top tables before why cheap e) [
             | inl fault ↦
@@ -247,24 +247,24 @@ fits-of tables members fit stands =
     let name = both-true (nat_le (times word.Name members) 1) _ fit in
     let version = both-true (nat_le (times word.Version members) 1) _ name.1 in
     let symbols = both-true (nat_le (times word.Symbols members) 1) _ version.1 in
-    let behind_name = both-true (is_name (shared_in members).name) _ stands in
-    let behind_zero = both-true _ _ behind_name.1 in
-    let behind_most = both-true (nat_le (shared_in members).version 2147483647) _ behind_zero.1 in
+    let after_name = both-true (is_name (shared_in members).name) _ stands in
+    let after_zero = both-true _ _ after_name.1 in
+    let after_most = both-true (nat_le (shared_in members).version 2147483647) _ after_zero.1 in
     record {
       name_once = leb-true (times word.Name members) 1 name.0;
       version_once = leb-true (times word.Version members) 1 version.0;
       symbols_once = leb-true (times word.Symbols members) 1 symbols.0;
       no_imports = leb-true (times word.Imports members) 0 symbols.1;
-      named = λ some. behind_name.0;
-      small = leb-true (shared_in members).version 2147483647 behind_most.0;
+      named = λ some. after_name.0;
+      small = leb-true (shared_in members).version 2147483647 after_most.0;
     }
 
 struct-refused : (limit first : ℕ) (tables : List Shared) (members : Members UserSymbol ℕ) (why : Why) → catalog_cost tables ≤ limit
-    → and_draft (fields_drafted limit first members (behind_tables tables)) (λ d. table_ended first d) ≡ Err why
+    → and_draft (fields_drafted limit first members (after_tables tables)) (λ d. table_ended first d) ≡ Err why
     → ((why ≡ (CatalogEntry, first)) × (fields_fit members ≡ true → may_stand tables (shared_in members) ≡ true → ⊥))
     ⊎ Costly limit (counted (meant_all tables members)) why
 struct-refused limit first tables members why cheap is =
-    elim (and_draft-err (fields_drafted limit first members (behind_tables tables)) (λ d. table_ended first d) why is) [
+    elim (and_draft-err (fields_drafted limit first members (after_tables tables)) (λ d. table_ended first d) why is) [
       | inl e ↦
           elim (fields-refused limit first tables members why cheap e) [
             | inl fault ↦ inl (fault.0, λ fit stands. fault.1 (fits-of tables members fit stands))
@@ -272,7 +272,7 @@ struct-refused limit first tables members why cheap is =
           ]
       | inr two ↦
           let drawn = fields-drawn limit first tables members two.0 cheap two.1 in
-          let fault = if-err (may_stand tables (shared_in members)) (behind_tables (tables ++ shared_in members ∷ [])) (CatalogEntry, first) why (subst (λ f. table_ended first f ≡ Err why) drawn.is two.2) in
+          let fault = if-err (may_stand tables (shared_in members)) (after_tables (tables ++ shared_in members ∷ [])) (CatalogEntry, first) why (subst (λ f. table_ended first f ≡ Err why) drawn.is two.2) in
           inl (fault.1, λ fit stands. let never : true ≡ false = sym stands ∙ fault.0 in cc)
     ]
 
@@ -293,7 +293,7 @@ refused-entry limit tables u why none is = subst (λ (w : Why). FaultAt limit ta
 
 shared-refused : (limit first place last : ℕ) (tables : List Shared) (annotations : List UserSymbol) (members : Members UserSymbol ℕ) (why : Why) (b : Bool) → is_shared annotations ≡ b
     → catalog_cost tables ≤ limit
-    → (if b then and_draft (fields_drafted limit first members (behind_tables tables)) (λ d. table_ended first d) else Err (CatalogEntry, first)) ≡ Err why
+    → (if b then and_draft (fields_drafted limit first members (after_tables tables)) (λ d. table_ended first d) else Err (CatalogEntry, first)) ≡ Err why
     → FaultAt limit tables (tree first annotations place (container kind.Struct members last)) why
 shared-refused limit first place last tables annotations members why true shared cheap is =
     elim (struct-refused limit first tables members why cheap is) [
@@ -308,7 +308,7 @@ shared-refused limit first place last tables annotations members why false share
     refused-entry limit tables (tree first annotations place (container kind.Struct members last)) why
     (ap (λ b. add_table tables (if b && fields_fit members then Some (shared_in members) else None)) shared) is
 
-top-refused : (limit : ℕ) (tables : List Shared) (u : Top UserSymbol ℕ) (why : Why) → catalog_cost tables ≤ limit → top_drafted limit u (behind_tables tables) ≡ Err why
+top-refused : (limit : ℕ) (tables : List Shared) (u : Top UserSymbol ℕ) (why : Why) → catalog_cost tables ≤ limit → top_drafted limit u (after_tables tables) ≡ Err why
     → FaultAt limit tables u why
 top-refused limit tables (tree first annotations place (container kind.Struct members last)) why cheap is =
     shared-refused limit first place last tables annotations members why (is_shared annotations) refl cheap is
@@ -317,22 +317,22 @@ top-refused limit tables (tree first annotations place (container kind.Sexp memb
 top-refused limit tables (tree first annotations place (scalar body)) why cheap is = refused-entry limit tables _ why refl is
 top-refused limit tables (value.version place) why cheap is = refused-entry limit tables _ why refl is
 
--- the first of values behind tables that is refused
-record RefusedBehind (limit : ℕ) (tables : List Shared) (us : List (Top UserSymbol ℕ)) (why : Why) : Type 0 where
+-- the first of values after tables that is refused
+record RefusedAfter (limit : ℕ) (tables : List Shared) (us : List (Top UserSymbol ℕ)) (why : Why) : Type 0 where
   before : List (Top UserSymbol ℕ)
   entry : Top UserSymbol ℕ
   rest : List (Top UserSymbol ℕ)
   more : List Shared
   values_are : us ≡ before ++ entry ∷ rest
-  tables_are : tables_behind tables before ≡ Some more
+  tables_are : tables_after tables before ≡ Some more
   cheap : catalog_cost more ≤ limit
   fault : FaultAt limit more entry why
 
-tops-refused : (limit : ℕ) (tables : List Shared) (us : List (Top UserSymbol ℕ)) (why : Why) → catalog_cost tables ≤ limit → tops_drafted limit us (behind_tables tables) ≡ Err why
-    → RefusedBehind limit tables us why
+tops-refused : (limit : ℕ) (tables : List Shared) (us : List (Top UserSymbol ℕ)) (why : Why) → catalog_cost tables ≤ limit → tops_drafted limit us (after_tables tables) ≡ Err why
+    → RefusedAfter limit tables us why
 tops-refused limit tables [] why cheap is = cc
 tops-refused limit tables (u ∷ us) why cheap is =
-    elim (and_draft-err (top_drafted limit u (behind_tables tables)) (λ d. tops_drafted limit us d) why is) [
+    elim (and_draft-err (top_drafted limit u (after_tables tables)) (λ d. tops_drafted limit us d) why is) [
       | inl e ↦
           record { before = []; entry = u; rest = us; more = tables; values_are = refl; tables_are = refl; cheap = cheap; fault = top-refused limit tables u why cheap e }
       | inr two ↦
@@ -344,7 +344,7 @@ tops-refused limit tables (u ∷ us) why cheap is =
             rest = r.rest;
             more = r.more;
             values_are = ap (λ l. u ∷ l) r.values_are;
-            tables_are = ap (λ o. and_tables o (λ more. tables_behind more r.before)) one.added ∙ r.tables_are;
+            tables_are = ap (λ o. and_tables o (λ more. tables_after more r.before)) one.added ∙ r.tables_are;
             cheap = r.cheap;
             fault = r.fault;
           }
@@ -389,39 +389,39 @@ entry-cost tables (tree first annotations place (container kind.Sexp members las
 entry-cost tables (tree first annotations place (scalar body)) next is = cc
 entry-cost tables (value.version place) next is = cc
 
-tables-grow : (tables : List Shared) (us : List (Top UserSymbol ℕ)) (all : List Shared) → tables_behind tables us ≡ Some all → catalog_cost tables ≤ catalog_cost all
+tables-grow : (tables : List Shared) (us : List (Top UserSymbol ℕ)) (all : List Shared) → tables_after tables us ≡ Some all → catalog_cost tables ≤ catalog_cost all
 tables-grow tables [] all is = let same : catalog_cost all ≡ catalog_cost tables = ap catalog_cost (same-tables tables all is) in omega (arith, same)
 tables-grow tables (u ∷ us) all is =
-    let one = and_tables-some (add_table tables (shared_of u)) (λ more. tables_behind more us) all is in
+    let one = and_tables-some (add_table tables (shared_of u)) (λ more. tables_after more us) all is in
     let cost = entry-cost tables u one.0 one.1 in
     let rest = tables-grow one.0 us all one.2 in
     omega (arith, cost, rest)
 
-append-behind : (o : Option (List Shared)) (f g whole : List Shared → Option (List Shared)) → ((more : List Shared) → whole more ≡ and_tables (f more) g)
+append-after : (o : Option (List Shared)) (f g whole : List Shared → Option (List Shared)) → ((more : List Shared) → whole more ≡ and_tables (f more) g)
     → and_tables o whole ≡ and_tables (and_tables o f) g
-append-behind None f g whole same = refl
-append-behind (Some more) f g whole same = same more
+append-after None f g whole same = refl
+append-after (Some more) f g whole same = same more
 
-tables-append : (tables : List Shared) (us vs : List (Top UserSymbol ℕ)) → tables_behind tables (us ++ vs) ≡ and_tables (tables_behind tables us) (λ more. tables_behind more vs)
+tables-append : (tables : List Shared) (us vs : List (Top UserSymbol ℕ)) → tables_after tables (us ++ vs) ≡ and_tables (tables_after tables us) (λ more. tables_after more vs)
 tables-append tables [] vs = refl
 tables-append tables (u ∷ us) vs =
-    append-behind (add_table tables (shared_of u)) (λ more. tables_behind more us) (λ more. tables_behind more vs) (λ more. tables_behind more (us ++ vs))
+    append-after (add_table tables (shared_of u)) (λ more. tables_after more us) (λ more. tables_after more vs) (λ more. tables_after more (us ++ vs))
     (λ more. tables-append more us vs)
 
 -- no value at fault stands among them
 no-fault : (limit : ℕ) (tables : List Shared) (u : Top UserSymbol ℕ) (place : ℕ) (reason : Reason) (us : List (Top UserSymbol ℕ)) (all : List Shared)
-    → EntryAtFault limit tables u place reason → tables_behind tables (u ∷ us) ≡ Some all → catalog_cost all ≤ limit → ⊥
+    → EntryAtFault limit tables u place reason → tables_after tables (u ∷ us) ≡ Some all → catalog_cost all ≤ limit → ⊥
 no-fault limit tables u place _ us all (no_table here none) is cheap =
-    let one = and_tables-some (add_table tables (shared_of u)) (λ more. tables_behind more us) all is in
+    let one = and_tables-some (add_table tables (shared_of u)) (λ more. tables_after more us) all is in
     let some : Are (add_table tables (shared_of u)) one.0 = one.1 in
     cc
 no-fault limit tables u place _ us all (costly past) is cheap =
-    let one = and_tables-some (add_table tables (shared_of u)) (λ more. tables_behind more us) all is in
+    let one = and_tables-some (add_table tables (shared_of u)) (λ more. tables_after more us) all is in
     let cost = entry-cost tables u one.0 one.1 in
     let rest = tables-grow one.0 us all one.2 in
     absurd (omega (arith, past, cost, rest, cheap))
 
-by-drafted : (limit : ℕ) (us : List (Top UserSymbol ℕ)) (tables : List Shared) (r : Drafted) → tops_drafted limit us (behind_tables []) ≡ r
+by-drafted : (limit : ℕ) (us : List (Top UserSymbol ℕ)) (tables : List Shared) (r : Drafted) → tops_drafted limit us (after_tables []) ≡ r
     → tables_of us ≡ Some tables → catalog_cost tables ≤ limit → GivesTables (drafted_tables r) tables
 by-drafted limit us tables (Ok d) e are cheap =
     let all = tops-added limit [] us d (omega arith) e in
@@ -429,14 +429,14 @@ by-drafted limit us tables (Ok d) e are cheap =
     ap (λ (f : Draft). Ok f.tables) all.2 ∙ ap (λ t. Ok t) same
 by-drafted limit us tables (Err why) e are cheap =
     let r = tops-refused limit [] us why (omega arith) e in
-    let is : tables_behind r.more (r.entry ∷ r.rest) ≡ Some tables =
-    sym (ap (λ o. and_tables o (λ more. tables_behind more (r.entry ∷ r.rest))) r.tables_are)
+    let is : tables_after r.more (r.entry ∷ r.rest) ≡ Some tables =
+    sym (ap (λ o. and_tables o (λ more. tables_after more (r.entry ∷ r.rest))) r.tables_are)
     ∙ (sym (tables-append [] r.before (r.entry ∷ r.rest)) ∙ (sym (ap tables_of r.values_are) ∙ are)) in
     absurd (no-fault limit r.more r.entry why.1 why.0 r.rest tables r.fault is cheap)
 
 pub catalogs_are_tables : CatalogsAreTables
 catalogs_are_tables limit us tables =
-    (catalogs-tables limit us tables, λ are. by-drafted limit us tables (tops_drafted limit us (behind_tables [])) refl are.0 are.1)
+    (catalogs-tables limit us tables, λ are. by-drafted limit us tables (tops_drafted limit us (after_tables [])) refl are.0 are.1)
 
 -- ---- why there is none
 
@@ -447,7 +447,7 @@ abbrev why_not_or : Why → Tables → Why
 why_not_or why (Ok t) = why
 why_not_or why (Err w) = w
 
-refused-at : (limit : ℕ) (us : List (Top UserSymbol ℕ)) (why : Why) (r : Drafted) → tops_drafted limit us (behind_tables []) ≡ r → RefusesTables (drafted_tables r) why
+refused-at : (limit : ℕ) (us : List (Top UserSymbol ℕ)) (why : Why) (r : Drafted) → tops_drafted limit us (after_tables []) ≡ r → RefusesTables (drafted_tables r) why
     → EntryRefused limit us why.0 why.1
 refused-at limit us why (Ok d) e is = cc
 refused-at limit us why (Err w) e is =
@@ -465,4 +465,4 @@ refused-at limit us why (Err w) e is =
     }
 
 pub why_catalogs_are_refused : WhyCatalogsAreRefused
-why_catalogs_are_refused limit us reason place is = refused-at limit us (reason, place) (tops_drafted limit us (behind_tables [])) refl is
+why_catalogs_are_refused limit us reason place is = refused-at limit us (reason, place) (tops_drafted limit us (after_tables [])) refl is

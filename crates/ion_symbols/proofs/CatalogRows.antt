@@ -7,7 +7,7 @@ use Rattle.ion_value.specs.Value as v
 use Rattle.ion_value.specs.Value.{UserSymbol, Known, Unknown, Value, Members, Top, nothing, member, container, scalar, tree, top_items}
 use Rattle.ion_symbols.specs.declared.catalog_builder.Stage.TheVariants as stage
 use Rattle.ion_symbols.specs.Table.{Shared, catalog_cost}
-use Rattle.ion_symbols.specs.CatalogItems.{at, behind_tables, loaded}
+use Rattle.ion_symbols.specs.CatalogItems.{at, after_tables, loaded}
 use Rattle.ion_symbols.specs.CatalogTrees.{tables_of, catalog_of}
 
 abbrev string : List ℕ → Value UserSymbol ℕ
@@ -57,7 +57,7 @@ one_table_past_the_limit = refl
 its_cost : catalog_cost (x1 ∷ []) ≡ 67
 its_cost = refl
 
-its_items : loaded 67 (top_items name_first) ≡ Ok (at stage.Outside (behind_tables (x1 ∷ [])))
+its_items : loaded 67 (top_items name_first) ≡ Ok (at stage.Outside (after_tables (x1 ∷ [])))
 its_items = refl
 
 its_items_past_the_limit : loaded 66 (top_items name_first) ≡ Err (reasons.SymbolLimit, 59)
@@ -75,7 +75,7 @@ the_same_table = refl
 its_name_past_the_limit : catalog_of 66 name_last ≡ Err (reasons.SymbolLimit, 60)
 its_name_past_the_limit = refl
 
-the_same_items : loaded 67 (top_items name_last) ≡ Ok (at stage.Outside (behind_tables (x1 ∷ [])))
+the_same_items : loaded 67 (top_items name_last) ≡ Ok (at stage.Outside (after_tables (x1 ∷ [])))
 the_same_items = refl
 
 -- $ion_shared_symbol_table::{name:"x",version:1} $ion_shared_symbol_table::{name:"x"}

@@ -6,8 +6,8 @@ use Rattle.ion_value.specs.declared.ion_type.Kind.{Kind}
 use Rattle.ion_value.specs.declared.ion_type.Kind.TheVariants as kind
 use Rattle.ion_value.specs.Value as value
 use Rattle.ion_value.specs.Value.{SymbolAt, UserSymbol, Head, Item, PlacedItem, map_head, user_item, user_items, user_symbol_at}
-use Rattle.ion_value.specs.Standing.{open_after, open_behind, HasPlace, Continues}
-use Rattle.ion_value.proofs.Outcomes.{open_behind-append, prefix-self}
+use Rattle.ion_value.specs.Standing.{open_after, open_after_all, HasPlace, Continues}
+use Rattle.ion_value.proofs.Outcomes.{open_after_all-append, prefix-self}
 use Rattle.std.proofs.lemmas.List.{append-nil}
 use Rattle.ion_meter.specs.Windows.{Outgoing, Puts}
 use Rattle.ion_symbols.specs.declared.known_text.Word.{Word}
@@ -147,14 +147,14 @@ open-deep depth kinds value.marker place deep = deep
 
 -- ---- the tables
 
-and_load-behind : (r : Loaded) (f g whole : Loading → Loaded) → ((t : Loading) → whole t ≡ and_load (f t) g) → and_load r whole ≡ and_load (and_load r f) g
-and_load-behind (Ok t) f g whole same = same t
-and_load-behind (Err why) f g whole same = refl
+and_load-after : (r : Loaded) (f g whole : Loading → Loaded) → ((t : Loading) → whole t ≡ and_load (f t) g) → and_load r whole ≡ and_load (and_load r f) g
+and_load-after (Ok t) f g whole same = same t
+and_load-after (Err why) f g whole same = refl
 
 load-append : (limit : ℕ) (s : Loading) (is js : List (Item UserSymbol ℕ)) → load_from limit s (is ++ js) ≡ and_load (load_from limit s is) (λ t. load_from limit t js)
 load-append limit s [] js = refl
 load-append limit s (i ∷ is) js =
-    and_load-behind (load_step limit s (entry_view i)) (λ t. load_from limit t is) (λ t. load_from limit t js) (λ t. load_from limit t (is ++ js))
+    and_load-after (load_step limit s (entry_view i)) (λ t. load_from limit t is) (λ t. load_from limit t js) (λ t. load_from limit t (is ++ js))
     (λ t. load-append limit t is js)
 
 user_items-append : (path : List PlacedItem) (item : PlacedItem) → user_items (path ++ item ∷ []) ≡ user_items path ++ user_item item ∷ []
@@ -180,12 +180,12 @@ read-more : {A : Type 0} (b n : CatalogBuilder A) (path : List PlacedItem) (item
     → HasRead n (path ++ item ∷ []) × (catalog_refusal b.limits path item ≡ None)
 read-more b n path item has may step limits well =
     let more = load-more b.limits.symbols path item (loading_of b) has.read ∙ step in
-    let opens : length (open_behind [] (path ++ item ∷ [])) ≡ length (open_after (open_behind [] path) item.head) = ap length (open_behind-append [] path item) in
-    let level : level_of (loading_of n) ≡ length (open_behind [] (path ++ item ∷ [])) =
+    let opens : length (open_after_all [] (path ++ item ∷ [])) ≡ length (open_after (open_after_all [] path) item.head) = ap length (open_after_all-append [] path item) in
+    let level : level_of (loading_of n) ≡ length (open_after_all [] (path ++ item ∷ [])) =
     subst (λ r. LevelAs (level_of (loading_of b)) (entry_view (user_item item)).what r) step (step-level b.limits.symbols (loading_of b) (entry_view (user_item item)) b.inside refl)
-    ∙ (ap (λ k. depth_after k (entry_view (user_item item)).what) has.level ∙ (sym (open-seen (open_behind [] path) item.head) ∙ sym opens)) in
-    let deep : length (open_after (open_behind [] path) item.head) ≤ b.limits.depth =
-    open-deep b.limits.depth (open_behind [] path) item.head may.fits.place (subst (λ k. k ≤ b.limits.depth) has.level has.deep) in (
+    ∙ (ap (λ k. depth_after k (entry_view (user_item item)).what) has.level ∙ (sym (open-seen (open_after_all [] path) item.head) ∙ sym opens)) in
+    let deep : length (open_after (open_after_all [] path) item.head) ≤ b.limits.depth =
+    open-deep b.limits.depth (open_after_all [] path) item.head may.fits.place (subst (λ k. k ≤ b.limits.depth) has.level has.deep) in (
       record {
         well = well;
         read = subst (λ limit. loaded limit.symbols (user_items (path ++ item ∷ [])) ≡ Ok (loading_of n)) (sym limits) more;

@@ -12,7 +12,7 @@ use Rattle.ion_symbols.specs.Table.{Shared, may_stand}
 use Rattle.ion_symbols.specs.Declaration.{string_in}
 use Rattle.ion_symbols.specs.Tree.{same_word}
 use Rattle.ion_symbols.specs.CatalogItems.{user_field, is_shared}
-use Rattle.ion_symbols.specs.CatalogTrees.{seen, value_of, fields_fit, elements, slots_of, shared_in, shared_of, add_table, and_tables, tables_behind}
+use Rattle.ion_symbols.specs.CatalogTrees.{seen, value_of, fields_fit, elements, slots_of, shared_in, shared_of, add_table, and_tables, tables_after}
 use Rattle.ion_symbols.specs.CatalogLaws.{TablesOfUsersAreText}
 use Rattle.ion_symbols.specs.UserValues.{IsUser, SlotIsText, SlotsAreText, CatalogIsText}
 use Rattle.ion_symbols.proofs.AllAppended.{AllByRecursion-append}
@@ -67,13 +67,13 @@ and_tables-text : (tables : Option (List Shared)) (later : List Shared → Optio
 and_tables-text None later h k = tt
 and_tables-text (Some more) later h k = k more h
 
-tables_behind-text : (us : List (Top UserSymbol ℕ)) (tables : List Shared) → AllByRecursion IsUser us → CatalogIsText tables
-    → IfSome (tables_behind tables us) CatalogIsText
-tables_behind-text [] tables h c = c
-tables_behind-text (u ∷ us) tables h c =
-    and_tables-text (add_table tables (shared_of u)) (λ more. tables_behind more us)
+tables_after-text : (us : List (Top UserSymbol ℕ)) (tables : List Shared) → AllByRecursion IsUser us → CatalogIsText tables
+    → IfSome (tables_after tables us) CatalogIsText
+tables_after-text [] tables h c = c
+tables_after-text (u ∷ us) tables h c =
+    and_tables-text (add_table tables (shared_of u)) (λ more. tables_after more us)
     (add_table-text tables (shared_of u) c (shared_of-text u h.0))
-    (λ more k. tables_behind-text us more h.1 k)
+    (λ more k. tables_after-text us more h.1 k)
 
 pub tables_of_users_are_text : TablesOfUsersAreText
-tables_of_users_are_text us tables h e = subst (λ o. IfSome o CatalogIsText) e (tables_behind-text us [] h tt)
+tables_of_users_are_text us tables h e = subst (λ o. IfSome o CatalogIsText) e (tables_after-text us [] h tt)

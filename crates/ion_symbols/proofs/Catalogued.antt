@@ -11,21 +11,21 @@ each_costs [] = omega arith
 each_costs (s ∷ ss) = let r : 32 * length ss ≤ catalog_cost ss = each_costs ss in omega (arith, r)
 
 -- what a catalogue costs with one table more
-pub cost_behind : (ss : List Shared) (s : Shared) → catalog_cost (ss ++ s ∷ []) ≡ catalog_cost ss + (32 + shared_cost s)
-cost_behind [] s = omega arith
-cost_behind (t ∷ ss) s = let r : catalog_cost (ss ++ s ∷ []) ≡ catalog_cost ss + (32 + shared_cost s) = cost_behind ss s in omega (arith, r)
+pub cost_after : (ss : List Shared) (s : Shared) → catalog_cost (ss ++ s ∷ []) ≡ catalog_cost ss + (32 + shared_cost s)
+cost_after [] s = omega arith
+cost_after (t ∷ ss) s = let r : catalog_cost (ss ++ s ∷ []) ≡ catalog_cost ss + (32 + shared_cost s) = cost_after ss s in omega (arith, r)
 
 -- without the last table
 pub cost_without : (all ss : List Shared) (s : Shared) → all ≡ ss ++ s ∷ [] → catalog_cost all ≡ catalog_cost ss + (32 + shared_cost s)
-cost_without all ss s e = ap catalog_cost e ∙ cost_behind ss s
+cost_without all ss s e = ap catalog_cost e ∙ cost_after ss s
 
 -- and how many tables there are
 pub long_without : (all ss : List Shared) (s : Shared) → all ≡ ss ++ s ∷ [] → length all ≡ suc (length ss)
-long_without all ss s e = ap length e ∙ long_behind ss s
+long_without all ss s e = ap length e ∙ long_after ss s
   where
-    long_behind : (ss : List Shared) (s : Shared) → length (ss ++ s ∷ []) ≡ suc (length ss)
-    long_behind [] s = refl
-    long_behind (t ∷ ss) s = ap suc (long_behind ss s)
+    long_after : (ss : List Shared) (s : Shared) → length (ss ++ s ∷ []) ≡ suc (length ss)
+    long_after [] s = refl
+    long_after (t ∷ ss) s = ap suc (long_after ss s)
 
 -- what the places of tables cost together
 pub places_cost : (ss : List Shared) (order : Entries ℕ) (of_table : ℕ) → IsRanked ss order.items of_table order.cost → order.cost * length order.items ≡ 8 * length ss

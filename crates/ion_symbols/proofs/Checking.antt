@@ -71,7 +71,7 @@ first_fine : (a b : Checked) → CheckedAs a (Ok tt) → or_else a b ≡ b
 first_fine fine b h = refl
 first_fine (bad reason place) b h = absurd (cc h)
 
--- and one that is fine leaves it to those behind it
+-- and one that is fine leaves it to those after it
 pub annotations_going : (t : Table) (user : Bool) (annotations : List SymbolAt) (i : ℕ) (s : SymbolAt)
     → annotations_checked t user annotations ≡ annotations_checked t user (drop i annotations) → slice_get annotations i ≡ Some s → CheckedAs (at_checked t user s) (Ok tt)
     → annotations_checked t user annotations ≡ annotations_checked t user (drop (i + 1) annotations)

@@ -4,7 +4,7 @@ use Rattle.ion_value.specs.declared.ion_type.Kind.{Kind}
 use Rattle.ion_value.specs.declared.ion_type.Kind.TheVariants as kind
 use Rattle.ion_value.specs.Value as value
 use Rattle.ion_value.specs.Value.{SymbolAt, Scalar, Value, Members, scalar, container, nothing, member, PlacedItem, bare_item, value_items, member_items}
-use Rattle.ion_value.specs.Reading.{Reading, Stopped, More, behind}
+use Rattle.ion_value.specs.Reading.{Reading, Stopped, More, items_then}
 use Rattle.ion_symbols.specs.declared.known_text.Word.{Word}
 use Rattle.ion_symbols.specs.declared.known_text.Word.TheVariants as word
 use Rattle.ion_symbols.specs.declared.known_text.Area.{Area}
@@ -16,10 +16,11 @@ use Rattle.ion_symbols.specs.Users.{Checked, fine, bad, or_else, checked, plain,
 use Rattle.ion_symbols.specs.Tree as from
 use Rattle.ion_symbols.specs.Tree.{and_then, if_fine, items_checked, head_of, first_of, content_of, element, version_of, max_of, element_held, elements_held, part_held, parts_held, import_held, imports_held, keeping_by, field_held, fields_held, table_left, declared}
 use Rattle.ion_symbols.specs.Laws.{by_declared, DeclarationsAreRead}
+use Rattle.ion_value.proofs.Readings.{items_then-append}
 
 -- ---- what is read in the middle of a declaration
 
--- a reading behind the items of a declaration that are read already
+-- a reading after the items of a declaration that are read already
 abbrev reads : Ground → Declaring → Reading → Reading
 reads g d rest = users g.catalog g.limit (record { table = g.old; mode = declaring d }) rest
 
@@ -34,7 +35,7 @@ abbrev by_held : Held → (Pending → Reading) → Reading
 by_held (Ok p) later = later p
 by_held (Err why) later = Stopped why.0 why.1
 
--- a reading behind a check
+-- a reading after a check
 abbrev by_check : Checked → Reading → Reading
 by_check fine later = later
 by_check (bad reason place) later = Stopped reason place
@@ -53,11 +54,6 @@ step : (g : Ground) (d : Declaring) (i : PlacedItem) (rest : Reading) → reads 
 step g d i rest = step_turn g (checked g.old false i) (turn g d (declaration.item_view (text_at g.old) i)) rest
 
 -- ---- how these fit together
-
--- items behind items
-pub behind_append : (is js : List PlacedItem) (rest : Reading) → behind (is ++ js) rest ≡ behind is (behind js rest)
-behind_append [] js rest = refl
-behind_append (i ∷ is) js rest = ap (More i) (behind_append is js rest)
 
 -- one thing after the other gives the same in a reading
 by_held-and_then : (h : Held) (f : Pending → Held) (later : Pending → Reading) → by_held (and_then h f) later ≡ by_held h (λ p. by_held (f p) later)
@@ -135,12 +131,12 @@ skip_scalar g a n p (value.blob bytes) rest = refl
 
 -- what a container holds, and its end, where this is so of what it holds
 skip_content : (g : Ground) (a : Area) (n : ℕ) (p : Pending) (top : ℕ) (k : Kind) (members : Members SymbolAt ℕ) (last : ℕ) (rest : Reading)
-    → reads g (deep a n p) (behind (member_items top members) (behind (bare_item value.end last top ∷ []) rest))
-    ≡ by_check (items_checked g.old (member_items top members)) (reads g (deep a n p) (behind (bare_item value.end last top ∷ []) rest))
-    → reads g (deep a n p) (behind (content_of top (container k members last)) rest)
+    → reads g (deep a n p) (items_then (member_items top members) (items_then (bare_item value.end last top ∷ []) rest))
+    ≡ by_check (items_checked g.old (member_items top members)) (reads g (deep a n p) (items_then (bare_item value.end last top ∷ []) rest))
+    → reads g (deep a n p) (items_then (content_of top (container k members last)) rest)
     ≡ by_check (items_checked g.old (content_of top (container k members last))) (reads g (record { area = a; inside = suc n - 1; pending = p }) rest)
 skip_content g a n p top k members last rest e =
-    ap (reads g (deep a n p)) (behind_append (member_items top members) (bare_item value.end last top ∷ []) rest)
+    ap (reads g (deep a n p)) (items_then-append (member_items top members) (bare_item value.end last top ∷ []) rest)
     ∙ (e ∙ ap (λ c. by_check c (reads g (record { area = a; inside = suc n - 1; pending = p }) rest))
     (sym (or_else-fine (items_checked g.old (member_items top members)))
     ∙ sym (items_checked-append g.old (member_items top members) (bare_item value.end last top ∷ []))))
@@ -149,36 +145,36 @@ skip_content g a n p top k members last rest e =
 mutual
   skip_value : (g : Ground) (a : Area) (n : ℕ) (p : Pending) (top : ℕ) (field : Option SymbolAt) (annotations : List SymbolAt) (place : ℕ) (x : Value SymbolAt ℕ)
       (rest : Reading)
-      → reads g (deep a n p) (behind (value_items top field annotations place x) rest)
+      → reads g (deep a n p) (items_then (value_items top field annotations place x) rest)
       ≡ by_check (items_checked g.old (value_items top field annotations place x)) (reads g (deep a n p) rest)
   skip_value g a n p top field annotations place (scalar body) rest =
       step g (deep a n p) (first_of top field annotations place (scalar body)) rest
       ∙ (ap (by_check (checked g.old false (first_of top field annotations place (scalar body)))) (skip_scalar g a n p body rest)
       ∙ ap (λ c. by_check c (reads g (deep a n p) rest)) (sym (or_else-fine (checked g.old false (first_of top field annotations place (scalar body))))))
   skip_value g a n p top field annotations place (container k members last) rest =
-      step g (deep a n p) (first_of top field annotations place (container k members last)) (behind (content_of top (container k members last)) rest)
+      step g (deep a n p) (first_of top field annotations place (container k members last)) (items_then (content_of top (container k members last)) rest)
       ∙ (ap (λ d. by_check (checked g.old false (first_of top field annotations place (container k members last)))
-      (reads g d (behind (content_of top (container k members last)) rest))) (deeper a n p)
+      (reads g d (items_then (content_of top (container k members last)) rest))) (deeper a n p)
       ∙ (ap (by_check (checked g.old false (first_of top field annotations place (container k members last))))
-      (skip_content g a (suc n) p top k members last rest (skip_members g a (suc n) p top members (behind (bare_item value.end last top ∷ []) rest))
+      (skip_content g a (suc n) p top k members last rest (skip_members g a (suc n) p top members (items_then (bare_item value.end last top ∷ []) rest))
       ∙ ap (λ d. by_check (items_checked g.old (content_of top (container k members last))) (reads g d rest)) (back a n p))
       ∙ sym (by_check-or_else (checked g.old false (first_of top field annotations place (container k members last)))
       (items_checked g.old (content_of top (container k members last))) (reads g (deep a n p) rest))))
 
   skip_members : (g : Ground) (a : Area) (n : ℕ) (p : Pending) (top : ℕ) (members : Members SymbolAt ℕ) (rest : Reading)
-      → reads g (deep a n p) (behind (member_items top members) rest) ≡ by_check (items_checked g.old (member_items top members)) (reads g (deep a n p) rest)
+      → reads g (deep a n p) (items_then (member_items top members) rest) ≡ by_check (items_checked g.old (member_items top members)) (reads g (deep a n p) rest)
   skip_members g a n p top nothing rest = refl
   skip_members g a n p top (member before field annotations place x) rest =
-      ap (reads g (deep a n p)) (behind_append (member_items top before) (value_items top field annotations place x) rest)
-      ∙ (skip_members g a n p top before (behind (value_items top field annotations place x) rest)
+      ap (reads g (deep a n p)) (items_then-append (member_items top before) (value_items top field annotations place x) rest)
+      ∙ (skip_members g a n p top before (items_then (value_items top field annotations place x) rest)
       ∙ (ap (by_check (items_checked g.old (member_items top before))) (skip_value g a n p top field annotations place x rest)
       ∙ (sym (by_check-or_else (items_checked g.old (member_items top before)) (items_checked g.old (value_items top field annotations place x))
       (reads g (deep a n p) rest))
       ∙ ap (λ c. by_check c (reads g (deep a n p) rest)) (sym (items_checked-append g.old (member_items top before) (value_items top field annotations place x))))))
 
--- a value that is ignored, behind its first item
+-- a value that is ignored, after its first item
 skip_rest : (g : Ground) (a : Area) (top : ℕ) (x : Value SymbolAt ℕ) (p : Pending) (rest : Reading)
-    → reads g (declaration.skip_ignored (head_view (text_at g.old) (head_of x)) (at a p)) (behind (content_of top x) rest)
+    → reads g (declaration.skip_ignored (head_view (text_at g.old) (head_of x)) (at a p)) (items_then (content_of top x) rest)
     ≡ by_held (from.check_ignored g.old top x p) (λ q. reads g (at a q) rest)
 skip_rest g a top (scalar body) p rest = skip_bare g a p body rest
   where
@@ -194,7 +190,7 @@ skip_rest g a top (scalar body) p rest = skip_bare g a p body rest
     skip_bare g a p (value.clob bytes) rest = refl
     skip_bare g a p (value.blob bytes) rest = refl
 skip_rest g a top (container k members last) p rest =
-    skip_content g a 0 p top k members last rest (skip_members g a 0 p top members (behind (bare_item value.end last top ∷ []) rest))
+    skip_content g a 0 p top k members last rest (skip_members g a 0 p top members (items_then (bare_item value.end last top ∷ []) rest))
     ∙ sym (by_held-if_fine (items_checked g.old (content_of top (container k members last))) (Ok p) (λ q. reads g (at a q) rest))
 
 -- ---- one value, checked and turned, and then its rest
@@ -215,26 +211,26 @@ no_end texts (scalar (value.blob bytes)) = refl
 -- a value whose turn and rest give what the tree gives gives it whole
 one_value : (g : Ground) (a : Area) (top : ℕ) (field : Option SymbolAt) (annotations : List SymbolAt) (place : ℕ) (x : Value SymbolAt ℕ) (p : Pending) (h : Held)
     (rest : Reading)
-    → by_turn g (turn g (at a p) (declaration.item_view (text_at g.old) (first_of top field annotations place x))) (behind (content_of top x) rest)
+    → by_turn g (turn g (at a p) (declaration.item_view (text_at g.old) (first_of top field annotations place x))) (items_then (content_of top x) rest)
     ≡ by_held h (λ q. reads g (at a q) rest)
-    → reads g (at a p) (behind (value_items top field annotations place x) rest)
+    → reads g (at a p) (items_then (value_items top field annotations place x) rest)
     ≡ by_held (if_fine (checked g.old false (first_of top field annotations place x)) h) (λ q. reads g (at a q) rest)
 one_value g a top field annotations place x p h rest e =
-    ap (λ is. reads g (at a p) (behind is rest)) (value_items-first top field annotations place x)
-    ∙ (step g (at a p) (first_of top field annotations place x) (behind (content_of top x) rest)
+    ap (λ is. reads g (at a p) (items_then is rest)) (value_items-first top field annotations place x)
+    ∙ (step g (at a p) (first_of top field annotations place x) (items_then (content_of top x) rest)
     ∙ (ap (by_check (checked g.old false (first_of top field annotations place x))) e
     ∙ sym (by_held-if_fine (checked g.old false (first_of top field annotations place x)) h (λ q. reads g (at a q) rest))))
 
 -- the members before, and then the last one
 one_more : (g : Ground) (a : Area) (top : ℕ) (before : Members SymbolAt ℕ) (field : Option SymbolAt) (annotations : List SymbolAt) (place : ℕ)
     (x : Value SymbolAt ℕ) (p : Pending) (h : Held) (f : Pending → Held) (rest : Reading)
-    → reads g (at a p) (behind (member_items top before) (behind (value_items top field annotations place x) rest))
-    ≡ by_held h (λ q. reads g (at a q) (behind (value_items top field annotations place x) rest))
-    → ((q : Pending) → reads g (at a q) (behind (value_items top field annotations place x) rest) ≡ by_held (f q) (λ r. reads g (at a r) rest))
-    → reads g (at a p) (behind (member_items top (member before field annotations place x)) rest) ≡ by_held (and_then h f) (λ q. reads g (at a q) rest)
+    → reads g (at a p) (items_then (member_items top before) (items_then (value_items top field annotations place x) rest))
+    ≡ by_held h (λ q. reads g (at a q) (items_then (value_items top field annotations place x) rest))
+    → ((q : Pending) → reads g (at a q) (items_then (value_items top field annotations place x) rest) ≡ by_held (f q) (λ r. reads g (at a r) rest))
+    → reads g (at a p) (items_then (member_items top (member before field annotations place x)) rest) ≡ by_held (and_then h f) (λ q. reads g (at a q) rest)
 one_more g a top before field annotations place x p h f rest e more =
-    ap (reads g (at a p)) (behind_append (member_items top before) (value_items top field annotations place x) rest)
-    ∙ (e ∙ (by_held-same h (λ q. reads g (at a q) (behind (value_items top field annotations place x) rest)) (λ q. by_held (f q) (λ r. reads g (at a r) rest)) more
+    ap (reads g (at a p)) (items_then-append (member_items top before) (value_items top field annotations place x) rest)
+    ∙ (e ∙ (by_held-same h (λ q. reads g (at a q) (items_then (value_items top field annotations place x) rest)) (λ q. by_held (f q) (λ r. reads g (at a r) rest)) more
     ∙ sym (by_held-and_then h f (λ q. reads g (at a q) rest))))
 
 -- ---- the elements of `symbols`
@@ -252,30 +248,30 @@ string_in-element texts (scalar (value.string t)) = refl
 string_in-element texts (scalar (value.clob bytes)) = refl
 string_in-element texts (scalar (value.blob bytes)) = refl
 
--- an element, behind its check
+-- an element, after its check
 element_turn-reads : (g : Ground) (top : ℕ) (field : Option SymbolAt) (annotations : List SymbolAt) (place : ℕ) (x : Value SymbolAt ℕ) (p : Pending) (rest : Reading)
-    → by_turn g (turn g (at area.Symbols p) (declaration.item_view (text_at g.old) (first_of top field annotations place x))) (behind (content_of top x) rest)
+    → by_turn g (turn g (at area.Symbols p) (declaration.item_view (text_at g.old) (first_of top field annotations place x))) (items_then (content_of top x) rest)
     ≡ by_held (element_held g top place x p) (λ q. reads g (at area.Symbols q) rest)
 element_turn-reads g top field annotations place x p rest =
     rw (no_end (text_at g.old) x)
     (by_turn-then_turn g (with_slot g place (string_in (head_view (text_at g.old) (head_of x))) p)
-    (λ q. on (declaration.skip_ignored (head_view (text_at g.old) (head_of x)) (at area.Symbols q))) (behind (content_of top x) rest)
+    (λ q. on (declaration.skip_ignored (head_view (text_at g.old) (head_of x)) (at area.Symbols q))) (items_then (content_of top x) rest)
     ∙ (ap (λ t. by_held (with_slot g place t p)
-    (λ q. reads g (declaration.skip_ignored (head_view (text_at g.old) (head_of x)) (at area.Symbols q)) (behind (content_of top x) rest)))
+    (λ q. reads g (declaration.skip_ignored (head_view (text_at g.old) (head_of x)) (at area.Symbols q)) (items_then (content_of top x) rest)))
     (string_in-element (text_at g.old) x)
     ∙ (by_held-same (with_slot g place (element x) p)
-    (λ q. reads g (declaration.skip_ignored (head_view (text_at g.old) (head_of x)) (at area.Symbols q)) (behind (content_of top x) rest))
+    (λ q. reads g (declaration.skip_ignored (head_view (text_at g.old) (head_of x)) (at area.Symbols q)) (items_then (content_of top x) rest))
     (λ q. by_held (from.check_ignored g.old top x q) (λ r. reads g (at area.Symbols r) rest)) (λ q. skip_rest g area.Symbols top x q rest)
     ∙ sym (by_held-and_then (with_slot g place (element x) p) (λ q. from.check_ignored g.old top x q) (λ r. reads g (at area.Symbols r) rest)))))
 
 -- the elements of `symbols`, fault or not
 elements-reads : (g : Ground) (top : ℕ) (members : Members SymbolAt ℕ) (p : Pending) (rest : Reading)
-    → reads g (at area.Symbols p) (behind (member_items top members) rest) ≡ by_held (elements_held g top members p) (λ q. reads g (at area.Symbols q) rest)
+    → reads g (at area.Symbols p) (items_then (member_items top members) rest) ≡ by_held (elements_held g top members p) (λ q. reads g (at area.Symbols q) rest)
 elements-reads g top nothing p rest = refl
 elements-reads g top (member before field annotations place x) p rest =
     one_more g area.Symbols top before field annotations place x p (elements_held g top before p)
     (λ q. if_fine (checked g.old false (first_of top field annotations place x)) (element_held g top place x q)) rest
-    (elements-reads g top before p (behind (value_items top field annotations place x) rest))
+    (elements-reads g top before p (items_then (value_items top field annotations place x) rest))
     (λ q. one_value g area.Symbols top field annotations place x q (element_held g top place x q) rest (element_turn-reads g top field annotations place x q rest))
 
 -- ---- the fields of an import
@@ -308,7 +304,7 @@ max_id_in-max texts (scalar (value.blob bytes)) = refl
 
 -- what a field of an import means, by its word
 part_value-reads : (g : Ground) (top place : ℕ) (w : Word) (x : Value SymbolAt ℕ) (p : Pending) (rest : Reading)
-    → by_turn g (part_value g place w (head_view (text_at g.old) (head_of x)) p) (behind (content_of top x) rest)
+    → by_turn g (part_value g place w (head_view (text_at g.old) (head_of x)) p) (items_then (content_of top x) rest)
     ≡ by_held (part_held g top place w x p) (λ q. reads g (at area.Import q) rest)
 part_value-reads g top place word.Name (container k members last) p rest = skip_rest g area.Import top (container k members last) p rest
 part_value-reads g top place word.Name (scalar (value.string t)) p rest = by_turn-then_turn g (with_import_name g place t p) (λ q. on (at area.Import q)) rest
@@ -321,11 +317,11 @@ part_value-reads g top place word.Name (scalar (value.symbol s)) p rest = refl
 part_value-reads g top place word.Name (scalar (value.clob bytes)) p rest = refl
 part_value-reads g top place word.Name (scalar (value.blob bytes)) p rest = refl
 part_value-reads g top place word.Version x p rest =
-    ap (λ n. reads g (declaration.skip_ignored (head_view (text_at g.old) (head_of x)) (at area.Import (versioned n p))) (behind (content_of top x) rest))
+    ap (λ n. reads g (declaration.skip_ignored (head_view (text_at g.old) (head_of x)) (at area.Import (versioned n p))) (items_then (content_of top x) rest))
     (version_in-version (text_at g.old) x)
     ∙ skip_rest g area.Import top x (versioned (version_of (Some x)) p) rest
 part_value-reads g top place word.MaxId x p rest =
-    ap (λ n. reads g (declaration.skip_ignored (head_view (text_at g.old) (head_of x)) (at area.Import (cut_to n p))) (behind (content_of top x) rest))
+    ap (λ n. reads g (declaration.skip_ignored (head_view (text_at g.old) (head_of x)) (at area.Import (cut_to n p))) (items_then (content_of top x) rest))
     (max_id_in-max (text_at g.old) x)
     ∙ skip_rest g area.Import top x (cut_to (max_of (Some x)) p) rest
 part_value-reads g top place word.Imports x p rest = skip_rest g area.Import top x p rest
@@ -338,16 +334,16 @@ abbrev met_part : Ground → ℕ → Option SymbolAt → ℕ → Value SymbolAt 
 met_part g top field place x p =
     and_then (part_met (place_in field) (field_word (text_at g.old) field) p) (λ q. part_held g top place (field_word (text_at g.old) field) x q)
 
--- a field of an import, behind its check
+-- a field of an import, after its check
 part_turn-reads : (g : Ground) (top : ℕ) (field : Option SymbolAt) (annotations : List SymbolAt) (place : ℕ) (x : Value SymbolAt ℕ) (p : Pending) (rest : Reading)
-    → by_turn g (turn g (at area.Import p) (declaration.item_view (text_at g.old) (first_of top field annotations place x))) (behind (content_of top x) rest)
+    → by_turn g (turn g (at area.Import p) (declaration.item_view (text_at g.old) (first_of top field annotations place x))) (items_then (content_of top x) rest)
     ≡ by_held (met_part g top field place x p) (λ q. reads g (at area.Import q) rest)
 part_turn-reads g top field annotations place x p rest =
     rw (no_end (text_at g.old) x)
     (by_turn-then_turn g (part_met (place_in field) (field_word (text_at g.old) field) p)
-    (λ q. part_value g place (field_word (text_at g.old) field) (head_view (text_at g.old) (head_of x)) q) (behind (content_of top x) rest)
+    (λ q. part_value g place (field_word (text_at g.old) field) (head_view (text_at g.old) (head_of x)) q) (items_then (content_of top x) rest)
     ∙ (by_held-same (part_met (place_in field) (field_word (text_at g.old) field) p)
-    (λ q. by_turn g (part_value g place (field_word (text_at g.old) field) (head_view (text_at g.old) (head_of x)) q) (behind (content_of top x) rest))
+    (λ q. by_turn g (part_value g place (field_word (text_at g.old) field) (head_view (text_at g.old) (head_of x)) q) (items_then (content_of top x) rest))
     (λ q. by_held (part_held g top place (field_word (text_at g.old) field) x q) (λ r. reads g (at area.Import r) rest))
     (λ q. part_value-reads g top place (field_word (text_at g.old) field) x q rest)
     ∙ sym (by_held-and_then (part_met (place_in field) (field_word (text_at g.old) field) p)
@@ -355,24 +351,24 @@ part_turn-reads g top field annotations place x p rest =
 
 -- the fields of an import, fault or not
 parts-reads : (g : Ground) (top : ℕ) (members : Members SymbolAt ℕ) (p : Pending) (rest : Reading)
-    → reads g (at area.Import p) (behind (member_items top members) rest) ≡ by_held (parts_held g top members p) (λ q. reads g (at area.Import q) rest)
+    → reads g (at area.Import p) (items_then (member_items top members) rest) ≡ by_held (parts_held g top members p) (λ q. reads g (at area.Import q) rest)
 parts-reads g top nothing p rest = refl
 parts-reads g top (member before field annotations place x) p rest =
     one_more g area.Import top before field annotations place x p (parts_held g top before p)
     (λ q. if_fine (checked g.old false (first_of top field annotations place x)) (met_part g top field place x q)) rest
-    (parts-reads g top before p (behind (value_items top field annotations place x) rest))
+    (parts-reads g top before p (items_then (value_items top field annotations place x) rest))
     (λ q. one_value g area.Import top field annotations place x q (met_part g top field place x q) rest (part_turn-reads g top field annotations place x q rest))
 
 -- ---- the elements of `imports`
 
 -- a container whose members are read in an area, up to its end
 contained : (g : Ground) (a b : Area) (top : ℕ) (members : Members SymbolAt ℕ) (last : ℕ) (p : Pending) (h : Held) (f : Pending → Held) (rest : Reading)
-    → reads g (at a p) (behind (member_items top members) (More (bare_item value.end last top) rest))
+    → reads g (at a p) (items_then (member_items top members) (More (bare_item value.end last top) rest))
     ≡ by_held h (λ q. reads g (at a q) (More (bare_item value.end last top) rest))
     → ((q : Pending) → reads g (at a q) (More (bare_item value.end last top) rest) ≡ by_held (f q) (λ r. reads g (at b r) rest))
-    → reads g (at a p) (behind (member_items top members ++ bare_item value.end last top ∷ []) rest) ≡ by_held (and_then h f) (λ r. reads g (at b r) rest)
+    → reads g (at a p) (items_then (member_items top members ++ bare_item value.end last top ∷ []) rest) ≡ by_held (and_then h f) (λ r. reads g (at b r) rest)
 contained g a b top members last p h f rest e ends =
-    ap (reads g (at a p)) (behind_append (member_items top members) (bare_item value.end last top ∷ []) rest)
+    ap (reads g (at a p)) (items_then-append (member_items top members) (bare_item value.end last top ∷ []) rest)
     ∙ (e ∙ (by_held-same h (λ q. reads g (at a q) (More (bare_item value.end last top) rest)) (λ q. by_held (f q) (λ r. reads g (at b r) rest)) ends
     ∙ sym (by_held-and_then h f (λ r. reads g (at b r) rest))))
 
@@ -382,9 +378,9 @@ import_end : (g : Ground) (top last : ℕ) (p : Pending) (rest : Reading) → re
 import_end g top last p rest = step g (at area.Import p) (bare_item value.end last top) rest
     ∙ by_turn-then_turn g (import_ended g p) (λ q. on (at area.Imports q)) rest
 
--- an element of `imports`, behind its check
+-- an element of `imports`, after its check
 import_turn-reads : (g : Ground) (top : ℕ) (field : Option SymbolAt) (annotations : List SymbolAt) (place : ℕ) (x : Value SymbolAt ℕ) (p : Pending) (rest : Reading)
-    → by_turn g (turn g (at area.Imports p) (declaration.item_view (text_at g.old) (first_of top field annotations place x))) (behind (content_of top x) rest)
+    → by_turn g (turn g (at area.Imports p) (declaration.item_view (text_at g.old) (first_of top field annotations place x))) (items_then (content_of top x) rest)
     ≡ by_held (import_held g top place x p) (λ q. reads g (at area.Imports q) rest)
 import_turn-reads g top field annotations place (container kind.Struct members last) p rest =
     contained g area.Import area.Imports top members last (record p { entry = new_entry place })
@@ -404,12 +400,12 @@ import_turn-reads g top field annotations place (scalar (value.blob bytes)) p re
 
 -- the elements of `imports`, fault or not
 imports-reads : (g : Ground) (top : ℕ) (members : Members SymbolAt ℕ) (p : Pending) (rest : Reading)
-    → reads g (at area.Imports p) (behind (member_items top members) rest) ≡ by_held (imports_held g top members p) (λ q. reads g (at area.Imports q) rest)
+    → reads g (at area.Imports p) (items_then (member_items top members) rest) ≡ by_held (imports_held g top members p) (λ q. reads g (at area.Imports q) rest)
 imports-reads g top nothing p rest = refl
 imports-reads g top (member before field annotations place x) p rest =
     one_more g area.Imports top before field annotations place x p (imports_held g top before p)
     (λ q. if_fine (checked g.old false (first_of top field annotations place x)) (import_held g top place x q)) rest
-    (imports-reads g top before p (behind (value_items top field annotations place x) rest))
+    (imports-reads g top before p (items_then (value_items top field annotations place x) rest))
     (λ q. one_value g area.Imports top field annotations place x q (import_held g top place x q) rest (import_turn-reads g top field annotations place x q rest))
 
 -- ---- the fields of the declaration
@@ -421,10 +417,10 @@ and_then-Ok (Err why) = refl
 
 -- a list that is read in an area, up to its end, and nothing more happens there
 listed : (g : Ground) (a : Area) (top : ℕ) (members : Members SymbolAt ℕ) (last : ℕ) (p : Pending) (h : Held) (rest : Reading)
-    → reads g (at a p) (behind (member_items top members) (More (bare_item value.end last top) rest))
+    → reads g (at a p) (items_then (member_items top members) (More (bare_item value.end last top) rest))
     ≡ by_held h (λ q. reads g (at a q) (More (bare_item value.end last top) rest))
     → ((q : Pending) → reads g (at a q) (More (bare_item value.end last top) rest) ≡ reads g (at area.Fields q) rest)
-    → reads g (at a p) (behind (member_items top members ++ bare_item value.end last top ∷ []) rest) ≡ by_held h (λ r. reads g (at area.Fields r) rest)
+    → reads g (at a p) (items_then (member_items top members ++ bare_item value.end last top ∷ []) rest) ≡ by_held h (λ r. reads g (at area.Fields r) rest)
 listed g a top members last p h rest e ends =
     contained g a area.Fields top members last p h (λ q. Ok q) rest e ends ∙ ap (λ k. by_held k (λ r. reads g (at area.Fields r) rest)) (and_then-Ok h)
 
@@ -441,7 +437,7 @@ keeping-reads g place word.Other p rest = refl
 
 -- what a field of the declaration means, by its word
 field_value-reads : (g : Ground) (top place : ℕ) (w : Word) (x : Value SymbolAt ℕ) (p : Pending) (rest : Reading)
-    → by_turn g (field_value g place w (head_view (text_at g.old) (head_of x)) p) (behind (content_of top x) rest)
+    → by_turn g (field_value g place w (head_view (text_at g.old) (head_of x)) p) (items_then (content_of top x) rest)
     ≡ by_held (field_held g top place w x p) (λ q. reads g (at area.Fields q) rest)
 field_value-reads g top place word.Imports (container kind.List members last) p rest =
     listed g area.Imports top members last p (imports_held g top members p) rest (imports-reads g top members p (More (bare_item value.end last top) rest))
@@ -482,16 +478,16 @@ abbrev met_field : Ground → ℕ → Option SymbolAt → ℕ → Value SymbolAt
 met_field g top field place x p =
     and_then (field_met (place_in field) (field_word (text_at g.old) field) p) (λ q. field_held g top place (field_word (text_at g.old) field) x q)
 
--- a field of the declaration, behind its check
+-- a field of the declaration, after its check
 field_turn-reads : (g : Ground) (top : ℕ) (field : Option SymbolAt) (annotations : List SymbolAt) (place : ℕ) (x : Value SymbolAt ℕ) (p : Pending) (rest : Reading)
-    → by_turn g (turn g (at area.Fields p) (declaration.item_view (text_at g.old) (first_of top field annotations place x))) (behind (content_of top x) rest)
+    → by_turn g (turn g (at area.Fields p) (declaration.item_view (text_at g.old) (first_of top field annotations place x))) (items_then (content_of top x) rest)
     ≡ by_held (met_field g top field place x p) (λ q. reads g (at area.Fields q) rest)
 field_turn-reads g top field annotations place x p rest =
     rw (no_end (text_at g.old) x)
     (by_turn-then_turn g (field_met (place_in field) (field_word (text_at g.old) field) p)
-    (λ q. field_value g place (field_word (text_at g.old) field) (head_view (text_at g.old) (head_of x)) q) (behind (content_of top x) rest)
+    (λ q. field_value g place (field_word (text_at g.old) field) (head_view (text_at g.old) (head_of x)) q) (items_then (content_of top x) rest)
     ∙ (by_held-same (field_met (place_in field) (field_word (text_at g.old) field) p)
-    (λ q. by_turn g (field_value g place (field_word (text_at g.old) field) (head_view (text_at g.old) (head_of x)) q) (behind (content_of top x) rest))
+    (λ q. by_turn g (field_value g place (field_word (text_at g.old) field) (head_view (text_at g.old) (head_of x)) q) (items_then (content_of top x) rest))
     (λ q. by_held (field_held g top place (field_word (text_at g.old) field) x q) (λ r. reads g (at area.Fields r) rest))
     (λ q. field_value-reads g top place (field_word (text_at g.old) field) x q rest)
     ∙ sym (by_held-and_then (field_met (place_in field) (field_word (text_at g.old) field) p)
@@ -499,12 +495,12 @@ field_turn-reads g top field annotations place x p rest =
 
 -- the fields of the declaration, fault or not
 fields-reads : (g : Ground) (top : ℕ) (members : Members SymbolAt ℕ) (p : Pending) (rest : Reading)
-    → reads g (at area.Fields p) (behind (member_items top members) rest) ≡ by_held (fields_held g top members p) (λ q. reads g (at area.Fields q) rest)
+    → reads g (at area.Fields p) (items_then (member_items top members) rest) ≡ by_held (fields_held g top members p) (λ q. reads g (at area.Fields q) rest)
 fields-reads g top nothing p rest = refl
 fields-reads g top (member before field annotations place x) p rest =
     one_more g area.Fields top before field annotations place x p (fields_held g top before p)
     (λ q. if_fine (checked g.old false (first_of top field annotations place x)) (met_field g top field place x q)) rest
-    (fields-reads g top before p (behind (value_items top field annotations place x) rest))
+    (fields-reads g top before p (items_then (value_items top field annotations place x) rest))
     (λ q. one_value g area.Fields top field annotations place x q (met_field g top field place x q) rest (field_turn-reads g top field annotations place x q rest))
 
 -- the end of a declaration makes the table
@@ -516,10 +512,10 @@ made_table g (Err why) last top rest = refl
 
 -- a declaration from its first field to its end
 declaration-reads : (g : Ground) (top last : ℕ) (members : Members SymbolAt ℕ) (rest : Reading)
-    → reads g start (behind (member_items top members ++ bare_item value.end last top ∷ []) rest)
+    → reads g start (items_then (member_items top members ++ bare_item value.end last top ∷ []) rest)
     ≡ by_declared (declared g top members) (λ t. users g.catalog g.limit (record { table = t; mode = plain 0 }) rest)
 declaration-reads g top last members rest =
-    ap (reads g start) (behind_append (member_items top members) (bare_item value.end last top ∷ []) rest)
+    ap (reads g start) (items_then-append (member_items top members) (bare_item value.end last top ∷ []) rest)
     ∙ (fields-reads g top members nothing_yet (More (bare_item value.end last top) rest) ∙ made_table g (fields_held g top members nothing_yet) last top rest)
 
 -- the streaming definition of a declaration gives the table that its tree gives, or its tree's first fault

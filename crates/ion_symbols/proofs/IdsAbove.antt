@@ -61,7 +61,7 @@ scalar_tells : (t : Table) (body : Scalar SymbolAt) → CheckTells (ScalarAbove 
 scalar_tells t (value.symbol s) = symbol_tells t s.place s.symbol
 scalar_tells t body = check_none
 
--- the ids of a value's first item, and those behind it
+-- the ids of a value's first item, and those after it
 abbrev HeadAbove : Table → Value SymbolAt ℕ → Type 0
 HeadAbove t (scalar body) = ScalarAbove t body
 HeadAbove t (container k members last) = ⊥
@@ -248,12 +248,12 @@ quiet_then : {A : Type 0} (h : Held) (later : Pending → Held) → Quiet h → 
 quiet_then h later c next =
     tells_same (and_then h later) (λ k. elim k [ inl a ↦ absurd a | inr b ↦ b ]) (λ k. inr k) (tells_then h later c next)
 
--- and something quiet behind
+-- and something quiet after
 then_quiet : {A : Type 0} (h : Held) (later : Pending → Held) → Tells A h → ((p : Pending) → Quiet (later p)) → Tells A (and_then h later)
 then_quiet h later c next =
     tells_same (and_then h later) (λ k. elim k [ inl a ↦ a | inr b ↦ absurd b ]) (λ k. inl k) (tells_then h later c next)
 
--- a member more, behind its check
+-- a member more, after its check
 member_tells : (t : Table) (top : ℕ) (before : Members SymbolAt ℕ) (field : Option SymbolAt) (annotations : List SymbolAt) (place : ℕ) (x : Value SymbolAt ℕ)
     (h : Held) (later : Pending → Held)
     → Tells (SomeAbove t before) h → ((q : Pending) → Tells (ContentAbove t x) (later q))

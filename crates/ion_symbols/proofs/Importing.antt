@@ -14,13 +14,13 @@ no_import = record { table = None; start = 0; count = 0 }
 abbrev pub start_at : List FoundImport → ℕ → ℕ
 start_at fs i = (slice_index_or fs i no_import).start
 
--- the last import that begins at a place or before ends behind it
-pub ends_behind : (from : ℕ) (fs : List FoundImport) (end i place : ℕ) → Starts from fs end → i < length fs → place < end →
+-- the last import that begins at a place or before ends after it
+pub ends_past : (from : ℕ) (fs : List FoundImport) (end i place : ℕ) → Starts from fs end → i < length fs → place < end →
     (suc i < length fs → place < start_at fs (suc i)) → place < start_at fs i + (slice_index_or fs i no_import).count
-ends_behind from [] end i place h k b n = absurd (omega (arith, k))
-ends_behind from (f ∷ []) end zero place h k b n = omega (arith, h.0, h.1, b)
-ends_behind from (f ∷ (g ∷ fs)) end zero place h k b n = let m : place < g.start = n (omega arith) in omega (arith, h.0, h.1.0, m)
-ends_behind from (f ∷ fs) end (suc i) place h k b n = ends_behind (from + f.count) fs end i place h.1 (omega (arith, k)) b (λ u. n (omega (arith, u)))
+ends_past from [] end i place h k b n = absurd (omega (arith, k))
+ends_past from (f ∷ []) end zero place h k b n = omega (arith, h.0, h.1, b)
+ends_past from (f ∷ (g ∷ fs)) end zero place h k b n = let m : place < g.start = n (omega arith) in omega (arith, h.0, h.1.0, m)
+ends_past from (f ∷ fs) end (suc i) place h k b n = ends_past (from + f.count) fs end i place h.1 (omega (arith, k)) b (λ u. n (omega (arith, u)))
 
 -- a place is within the import, if there is one
 abbrev pub Within : ℕ → Option FoundImport → Type 0
@@ -33,17 +33,17 @@ halved fs low high place end h b o w s begins above =
     let k : low < length fs = omega (arith, o, w) in
     let e : high ≡ suc low = omega (arith, o, s) in
     subst (Within place) (sym (got_at no_import fs low k))
-    (begins, ends_behind 0 fs end low place h k b (subst (λ n. n < length fs → place < start_at fs n) e above))
+    (begins, ends_past 0 fs end low place h k b (subst (λ n. n < length fs → place < start_at fs n) e above))
 
 -- ---- the slot in it
 
--- an import begins behind those before it
+-- an import begins after those before it
 later : (from : ℕ) (fs : List FoundImport) (end i : ℕ) → Starts from fs end → i < length fs → from ≤ start_at fs i
 later from [] end i h k = absurd (omega (arith, k))
 later from (f ∷ fs) end zero h k = omega (arith, h.0)
 later from (f ∷ fs) end (suc i) h k = let r : from + f.count ≤ start_at fs i = later (from + f.count) fs end i h.1 (omega (arith, k)) in omega (arith, r)
 
--- a place within the first import, and one behind it
+-- a place within the first import, and one after it
 in_first : (catalog : List Shared) (f : FoundImport) (fs : List FoundImport) (locals : Slots) (n : ℕ) → n < f.count →
     slot_in (imports_in catalog (f ∷ fs)) locals n ≡ import_slot (slice_get (slots_at catalog f.table) n)
 in_first catalog f fs locals n h = let e : nat_lt n f.count ≡ true = lt-ltb n f.count h in rw e refl
@@ -73,7 +73,7 @@ is_import [] i place w = absurd w
 is_import (f ∷ fs) zero place w = omega arith
 is_import (f ∷ fs) (suc i) place w = let r : i < length fs = is_import fs i place w in omega (arith, r)
 
--- where a place is within an import, it is at its start or behind, and before its end
+-- where a place is within an import, it is at its start or after, and before its end
 pub within_it : (fs : List FoundImport) (i place : ℕ) → Within place (slice_get fs i) →
     (start_at fs i ≤ place) × (place < start_at fs i + (slice_index_or fs i no_import).count)
 within_it fs i place w = subst (Within place) (got_at no_import fs i (is_import fs i place w)) w
@@ -86,14 +86,14 @@ imported_slot catalog fs end i place locals h w =
     ap (slot_in (imports_in catalog fs) locals) e
     ∙ slot_within catalog locals 0 fs end i place h (is_import fs i place w) (within_it fs i place w).0 (within_it fs i place w).1
 
--- ---- behind the imports
+-- ---- after the imports
 
--- imports end behind where they begin
+-- imports end after where they begin
 ends_after : (from : ℕ) (fs : List FoundImport) (end : ℕ) → Starts from fs end → from ≤ end
 ends_after from [] end h = omega (arith, h)
 ends_after from (f ∷ fs) end h = let r : from + f.count ≤ end = ends_after (from + f.count) fs end h.1 in omega (arith, r)
 
--- a slot behind imports that begin at some place is a local one
+-- a slot after imports that begin at some place is a local one
 past_all : (catalog : List Shared) (locals : Slots) (from : ℕ) (fs : List FoundImport) (end place : ℕ) → Starts from fs end → end ≤ place →
     slot_in (imports_in catalog fs) locals (place - from) ≡ local_slot (slice_get locals (place - end))
 past_all catalog locals from [] end place h b = ap (λ n. local_slot (slice_get locals (place - n))) h
@@ -109,14 +109,14 @@ counted_imports catalog from [] end h = omega (arith, h)
 counted_imports catalog from (f ∷ fs) end h =
     let r : (from + f.count) + import_count (imports_in catalog fs) ≡ end = counted_imports catalog (from + f.count) fs end h.1 in omega (arith, r)
 
--- a slot behind the imports
+-- a slot after the imports
 pub past_imports : (catalog : List Shared) (locals : Slots) (fs : List FoundImport) (end place : ℕ) → Starts 0 fs end → end ≤ place →
     slot_in (imports_in catalog fs) locals place ≡ local_slot (slice_get locals (place - end))
 past_imports catalog locals fs end place h b =
     let e : place ≡ place - 0 = omega arith in
     ap (slot_in (imports_in catalog fs) locals) e ∙ past_all catalog locals 0 fs end place h b
 
--- an id behind the system table
+-- an id after the system table
 pub user_id : (t : Table) (id : ℕ) → 10 ≤ id → slot_of t id ≡ slot_in t.imports t.locals (id - 10)
 user_id t id h = let e : nat_lt id 10 ≡ false = le-ltb id 10 h in rw e refl
 

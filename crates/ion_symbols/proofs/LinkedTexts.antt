@@ -10,7 +10,7 @@ use Rattle.ion_value.specs.Shares.{Charges}
 use Rattle.ion_symbols.specs.declared.ordered.Place.{Place}
 use Rattle.ion_symbols.specs.declared.out_texts.OutTexts.{OutTexts}
 use Rattle.ion_symbols.specs.declared.out_texts.Spot.{Spot}
-use Rattle.ion_symbols.specs.declared.out_texts.Spot.TheVariants.{InOrder, First, Behind}
+use Rattle.ion_symbols.specs.declared.out_texts.Spot.TheVariants.{InOrder, First, After}
 use Rattle.ion_symbols.specs.Hash.{hash_of, bucket_in, digits_in}
 use Rattle.ion_symbols.specs.Output.{IsNew, system_id, texts_cost}
 use Rattle.ion_symbols.specs.Ordered.{place_text, texts_in, in_order, Follow, Orders, Ordered}
@@ -122,7 +122,7 @@ can_second k t spot h o i =
     subst (λ n. n ≤ length (texts_of h.before)) (sym e) ((h.kept.links o).second_within i)
 
 -- where they are in order, and another stands in front of its bucket, it is one of them
-pub linked_in_order : {A : Type 0} (k : OutTexts A) (t : List ℕ) (spot : Spot) (of : ℕ) → CanLink k t spot → ((number digits : ℕ) → spot ≡ Behind number digits → ⊥)
+pub linked_in_order : {A : Type 0} (k : OutTexts A) (t : List ℕ) (spot : Spot) (of : ℕ) → CanLink k t spot → ((number digits : ℕ) → spot ≡ After number digits → ⊥)
     → of ≡ bucket_in (hash_of t) → 0 < get_or k.buckets of 0 → AreKept k
 linked_in_order k t (InOrder place) of h other e p = record {
   texts = can_texts k t (InOrder place) h;
@@ -137,14 +137,14 @@ linked_in_order k t (InOrder place) of h other e p = record {
 linked_in_order k t First of h other e p =
     let z : get_or k.buckets of 0 ≡ 0 = ap (λ bs. get_or bs of 0) h.buckets ∙ (ap (λ n. get_or h.before.buckets n 0) e ∙ h.free.1) in
     absurd (omega (arith, p, z))
-linked_in_order k t (Behind number digits) of h other e p = absurd (other number digits refl)
+linked_in_order k t (After number digits) of h other e p = absurd (other number digits refl)
 
 -- a bucket whose front is set
 fronts_set : (buckets : List ℕ) (of last b n : ℕ) → of < length buckets → get_or buckets b 0 ≤ n → last ≤ n → get_or (set buckets of last) b 0 ≤ n
 fronts_set buckets of last b n l w e = elim (set_cases buckets of last b l) as (λ _. get_or (set buckets of last) b 0 ≤ n) [ inl y ↦ omega (arith, y, w) | inr y ↦ omega (arith, y, e) ]
 
 -- where none stands in front of its bucket it is put there
-pub linked_in_front : {A : Type 0} (k : OutTexts A) (t : List ℕ) (spot : Spot) (of last : ℕ) → CanLink k t spot → ((number digits : ℕ) → spot ≡ Behind number digits → ⊥)
+pub linked_in_front : {A : Type 0} (k : OutTexts A) (t : List ℕ) (spot : Spot) (of last : ℕ) → CanLink k t spot → ((number digits : ℕ) → spot ≡ After number digits → ⊥)
     → of ≡ bucket_in (hash_of t) → of < 512 → get_or k.buckets of 0 ≡ 0 → last ≡ length k.places.items → AreKept (record k { buckets = set k.buckets of last })
 linked_in_front k t (InOrder place) of last h other e l z m = record {
   texts = can_texts k t (InOrder place) h;
@@ -199,7 +199,7 @@ linked_in_front k t First of last h other e l z m = record {
     new =
         reached_from (firsts k.places.items) k.ids.items 32 31 (digits_in (hash_of t)) (get_or (set k.buckets of last) (bucket_in (hash_of t)) 0) (length (texts_of h.before)) (length (texts_of h.before))
         refl there (inl refl)
-linked_in_front k t (Behind number digits) of last h other e l z m = absurd (other number digits refl)
+linked_in_front k t (After number digits) of last h other e l z m = absurd (other number digits refl)
 
 -- texts stay different where one of them links to another
 distinct_linked : {A : Type 0} (k now : OutTexts A) (number digits last : ℕ) → Links k now number digits last → AreDistinct k.bytes k.places.items → AreDistinct now.bytes now.places.items
@@ -210,10 +210,10 @@ distinct_linked k now number digits last x h = record {
   no_system = λ i a. subst (λ ts. system_id (get_or ts i []) ≡ None) (sym x.texts) (h.no_system i (subst (λ n. i < n) x.places a));
 }
 
--- behind another text it is linked by that one's link
-pub linked_behind : {A : Type 0} (k now : OutTexts A) (t : List ℕ) (number digits last : ℕ) → CanLink k t (Behind number digits) → Links k now number digits last → last ≡ length k.places.items → AreKept now
-linked_behind {A} k now t number digits last h x m = record {
-  texts = distinct_linked k now number digits last x (can_texts k t (Behind number digits) h);
+-- after another text it is linked by that one's link
+pub linked_after : {A : Type 0} (k now : OutTexts A) (t : List ℕ) (number digits last : ℕ) → CanLink k t (After number digits) → Links k now number digits last → last ≡ length k.places.items → AreKept now
+linked_after {A} k now t number digits last h x m = record {
+  texts = distinct_linked k now number digits last x (can_texts k t (After number digits) h);
   place_cost = x.place_cost ∙ h.place_cost;
   id_cost = x.id_cost ∙ h.id_cost;
   long = x.long ∙ (h.long ∙ sym x.places);
@@ -232,7 +232,7 @@ linked_behind {A} k now t number digits last h x m = record {
 }
   where
     n : length k.places.items ≡ length h.before.places.items + 1
-    n = can_length k t (Behind number digits) h
+    n = can_length k t (After number digits) h
 
     buckets : now.buckets ≡ h.before.buckets
     buckets = ap (λ (s : OutTexts A). s.buckets) x.rest ∙ h.buckets
@@ -245,11 +245,11 @@ linked_behind {A} k now t number digits last h x m = record {
     extend : Extend (firsts h.before.places.items) h.before.ids.items (firsts now.places.items) now.ids.items
     extend =
         extend_then (firsts h.before.places.items) h.before.ids.items (firsts k.places.items) k.ids.items (firsts now.places.items) now.ids.items
-        (can_extend k t (Behind number digits) h h.free.linked) (x.kept free)
+        (can_extend k t (After number digits) h h.free.linked) (x.kept free)
 
     first_within : (i : ℕ) → get_or (firsts now.places.items) i 0 ≤ length (texts_of h.before) + 1
     first_within i =
-        let v = can_first k t (Behind number digits) h h.free.linked i in
+        let v = can_first k t (After number digits) h h.free.linked i in
         elim (x.first_within i) as (λ _. get_or (firsts now.places.items) i 0 ≤ length (texts_of h.before) + 1) [
           | inl y ↦ omega (arith, y, v)
           | inr y ↦ omega (arith, y, m, n, texts_length h.before)
@@ -257,7 +257,7 @@ linked_behind {A} k now t number digits last h x m = record {
 
     second_within : (i : ℕ) → get_or now.ids.items i 0 ≤ length (texts_of h.before) + 1
     second_within i =
-        let v = can_second k t (Behind number digits) h h.free.linked i in
+        let v = can_second k t (After number digits) h h.free.linked i in
         elim (x.second_within i) as (λ _. get_or now.ids.items i 0 ≤ length (texts_of h.before) + 1) [
           | inl y ↦ omega (arith, y, v)
           | inr y ↦ omega (arith, y, m, n, texts_length h.before)
@@ -314,15 +314,15 @@ links_first k places read number digits last d l e r f c = record {
 
 -- ---- a text that is added
 
--- the place among the ids is one of them, or behind them
+-- the place among the ids is one of them, or after them
 pub entry_within : {A : Type 0} (k : OutTexts A) (t : List ℕ) (spot : Spot) (n : ℕ) → AreKept k → IsSpot k t spot → n ≡ length k.places.items → (entry_at spot n).0 ≤ length k.ids.items
 entry_within k t (InOrder place) n h s e =
     let w : place ≤ length (in_order (texts_of k) k.ids.items) = s.1.within in
     subst (λ m. place ≤ m) (length-map k.ids.items (λ i. get_or (texts_of k) i [])) w
 entry_within k t First n h s e = omega (arith, e, h.long)
-entry_within k t (Behind number digits) n h s e = omega (arith, e, h.long)
+entry_within k t (After number digits) n h s e = omega (arith, e, h.long)
 
--- a text and its entry were put behind the others
+-- a text and its entry were put after the others
 pub record IsAdded {A : Type 0} (old now : OutTexts A) (t : List ℕ) (p : Place) : Type 0 where
   pub bytes : now.bytes ≡ old.bytes ++ t
   pub places : now.places.items ≡ old.places.items ++ p ∷ []
@@ -339,13 +339,13 @@ pub added_texts : {A : Type 0} (old now : OutTexts A) (t : List ℕ) (p : Place)
 added_texts old now t p h a =
     ap₂ (λ (bs : List ℕ) (ps : List Place). texts_in bs ps) a.bytes a.places ∙ texts_push old.bytes t old.places.items p h.texts.follow a.begins a.ends
 
--- where one stands that is put behind bytes, without links
-abbrev pub place_behind : List ℕ → List ℕ → Place
-place_behind bytes t = record { from = length bytes; to = length bytes + length t; next = 0 }
+-- where one stands that is put after bytes, without links
+abbrev pub place_after : List ℕ → List ℕ → Place
+place_after bytes t = record { from = length bytes; to = length bytes + length t; next = 0 }
 
 -- so it is put there
-pub is_added : {A : Type 0} (old : OutTexts A) (from bytes t : List ℕ) (places : Entries Place) (ids : Entries ℕ) → from ≡ old.bytes → bytes ≡ old.bytes ++ t → places.items ≡ old.places.items ++ place_behind from t ∷ []
-    → places.cost ≡ old.places.cost → ids.cost ≡ old.ids.cost → IsAdded old (record old { bytes = bytes; places = places; ids = ids }) t (place_behind from t)
+pub is_added : {A : Type 0} (old : OutTexts A) (from bytes t : List ℕ) (places : Entries Place) (ids : Entries ℕ) → from ≡ old.bytes → bytes ≡ old.bytes ++ t → places.items ≡ old.places.items ++ place_after from t ∷ []
+    → places.cost ≡ old.places.cost → ids.cost ≡ old.ids.cost → IsAdded old (record old { bytes = bytes; places = places; ids = ids }) t (place_after from t)
 is_added old from bytes t places ids a b c d e = record {
   bytes = b;
   places = c;
@@ -392,7 +392,7 @@ can_link old now t spot p h new at' a small long order second = record {
     ends : length now.bytes ≡ length old.bytes + length t
     ends = ap length a.bytes ∙ length-append old.bytes t
 
--- behind the others, where they are linked
+-- after the others, where they are linked
 pub can_link_pushed : {A : Type 0} (old now : OutTexts A) (t : List ℕ) (spot : Spot) (p : Place) → AreKept old → IsNew (texts_of old) t → IsSpot old t spot → IsAdded old now t p
     → texts_cost (texts_of old) + (16 + length t) ≤ 2 ^ 30 → old.is_ordered ≡ false → now.ids.items ≡ old.ids.items ++ 0 ∷ [] → CanLink now t spot
 can_link_pushed old now t spot p h new at' a small o e =
@@ -410,7 +410,7 @@ can_link_put old now t spot p n h new at' a small m e =
         let k : length (texts_of old) ≡ n = texts_length old ∙ sym m in
         subst (Orders (texts_of old ++ t ∷ [])) (sym (e2 ∙ ap (insert old.ids.items place) (sym k))) (orders_push (texts_of old) old.ids.items t place (h.order y) at2.1)
     order First at2 e2 y = absurd (true≢false (sym y ∙ at2.0))
-    order (Behind number digits) at2 e2 y = absurd (true≢false (sym y ∙ at2.linked))
+    order (After number digits) at2 e2 y = absurd (true≢false (sym y ∙ at2.linked))
 
     last : insert old.ids.items n 0 ≡ old.ids.items ++ 0 ∷ []
     last = ap (λ k. insert old.ids.items k 0) (m ∙ sym h.long) ∙ insert_end old.ids.items 0
@@ -418,7 +418,7 @@ can_link_put old now t spot p n h new at' a small m e =
     second : (s : Spot) → IsSpot old t s → now.ids.items ≡ insert old.ids.items (entry_at s n).0 (entry_at s n).1 → old.is_ordered ≡ false → now.ids.items ≡ old.ids.items ++ 0 ∷ []
     second (InOrder place) at2 e2 y = absurd (true≢false (sym at2.0 ∙ y))
     second First at2 e2 y = e2 ∙ last
-    second (Behind number digits) at2 e2 y = e2 ∙ last
+    second (After number digits) at2 e2 y = e2 ∙ last
 
 -- its cost is charged in two parts
 pub charges_add : (m0 m1 m2 : Counts) (texts texts2 : List (List ℕ)) (t : List ℕ) (of_place of_id : ℕ) → Grows m0 m1 (length t) → Grows m1 m2 (of_place + of_id) → of_place ≡ 12 → of_id ≡ 4

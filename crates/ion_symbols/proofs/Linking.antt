@@ -82,7 +82,7 @@ get_or_zero [] (suc i) = refl
 get_or_zero (x ∷ xs) zero = refl
 get_or_zero (x ∷ xs) (suc i) = get_or_zero xs i
 
--- so is that of a text that was put behind the others
+-- so is that of a text that was put after the others
 pub link_zero : (first second : List ℕ) (i digits : ℕ) → link_of (first ++ 0 ∷ []) (second ++ 0 ∷ []) i digits ≡ link_of first second i digits
 unfolding link_of
 link_zero first second i digits = ap₂ (λ (x y : ℕ). if digits % 2 == 0 then x else y) (get_or_zero first i) (get_or_zero second i)

@@ -1,4 +1,4 @@
--- Slots that are added behind others: their parts stand further on.
+-- Slots that are added after others: their parts stand further on.
 use Rattle.std.proofs.Common.{◌≡◌, ℕ, suc, ◌+◌, ◌-◌, ◌*◌, Bool, true, false, if◌then◌else◌, List, [], ◌∷◌, ◌++◌, length, take, drop, map, Option, Some, None, refl, ap, sym, subst, ◌∙◌, arith, length-append}
 use Rattle.std.proofs.lemmas.List.{map-append}
 use Rattle.ion_meter.specs.Counts.{Counts, Grows, Shrinks}
@@ -22,18 +22,18 @@ tiles_moved base from (q ∷ qs) end h =
     (ap (λ n. base + n) h.0, (omega (arith, h.1.0), ((λ u. ap (λ n. base + n) (h.1.1.0 u)), tiles_moved base q.to qs end h.1.1.1)))
 
 -- what is left of two texts from a place in the second one
-drop_behind : (texts more : List ℕ) (n : ℕ) → drop (length texts + n) (texts ++ more) ≡ drop n more
-drop_behind [] more n = let e : 0 + n ≡ n = omega arith in ap (λ k. drop k more) e
-drop_behind (t ∷ texts) more n =
+drop_after : (texts more : List ℕ) (n : ℕ) → drop (length texts + n) (texts ++ more) ≡ drop n more
+drop_after [] more n = let e : 0 + n ≡ n = omega arith in ap (λ k. drop k more) e
+drop_after (t ∷ texts) more n =
     let e : suc (length texts) + n ≡ suc (length texts + n) = omega arith in
-    ap (λ k. drop k (t ∷ (texts ++ more))) e ∙ drop_behind texts more n
+    ap (λ k. drop k (t ∷ (texts ++ more))) e ∙ drop_after texts more n
 
 -- the text of a moved part, and of its slot
 same_text : (texts more : List ℕ) (a b : ℕ) →
     take ((length texts + b) - (length texts + a)) (drop (length texts + a) (texts ++ more)) ≡ take (b - a) (drop a more)
 same_text texts more a b =
     let e : (length texts + b) - (length texts + a) ≡ b - a = omega arith in
-    ap (λ k. take k (drop (length texts + a) (texts ++ more))) e ∙ ap (take (b - a)) (drop_behind texts more a)
+    ap (λ k. take k (drop (length texts + a) (texts ++ more))) e ∙ ap (take (b - a)) (drop_after texts more a)
 
 same_slot : (texts more : List ℕ) (a b : ℕ) (k : Bool) →
     (if k then Some (take ((length texts + b) - (length texts + a)) (drop (length texts + a) (texts ++ more))) else None) ≡

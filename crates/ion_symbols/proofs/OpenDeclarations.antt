@@ -6,7 +6,7 @@ use Rattle.ion_value.specs.declared.ion_type.Kind.TheVariants as kind
 use Rattle.ion_value.specs.Value as value
 use Rattle.ion_value.specs.Value.{SymbolAt, Scalar, Value, Members, scalar, container, nothing, member, PlacedItem, bare_item, value_items, member_items}
 use Rattle.ion_value.specs.Path.{Nest, outermost, inner, begin_item, nest_items}
-use Rattle.ion_value.specs.Reading.{Reading, Finished, More, behind}
+use Rattle.ion_value.specs.Reading.{Reading, Finished, More, items_then}
 use Rattle.ion_symbols.specs.declared.known_text.Word.{Word}
 use Rattle.ion_symbols.specs.declared.known_text.Word.TheVariants as word
 use Rattle.ion_symbols.specs.declared.known_text.Area.{Area}
@@ -16,7 +16,7 @@ use Rattle.ion_symbols.specs.Declaration.{Ground, Pending, Held, Declaring, Turn
 use Rattle.ion_symbols.specs.Users.{Checked, fine, bad, checked, is_declaration, declaring, users, by_step, after_check, turned}
 use Rattle.ion_symbols.specs.Tree.{first_of, declares_table}
 use Rattle.ion_symbols.specs.Laws.{open_declaration}
-use Rattle.ion_symbols.proofs.DeclarationReadings.{behind_append}
+use Rattle.ion_value.proofs.Readings.{items_then-append}
 use Rattle.ion_symbols.proofs.UserReadings.{sees, begun, not_stopped, none_later}
 
 -- how many containers are open in a declaration
@@ -29,18 +29,18 @@ in_area area.Import = 2
 abbrev depth : Declaring → ℕ
 depth d = in_area d.area + d.inside
 
--- and how many behind an item
-abbrev after : FieldValue → ℕ → ℕ
-after (begins k) n = suc n
-after ends n = n - 1
-after other n = n
-after (string t) n = n
-after (int negative m) n = n
-after (names w) n = n
+-- and how many after an item
+abbrev inside_after : FieldValue → ℕ → ℕ
+inside_after (begins k) n = suc n
+inside_after ends n = n - 1
+inside_after other n = n
+inside_after (string t) n = n
+inside_after (int negative m) n = n
+inside_after (names w) n = n
 
 -- a turn keeps count, and makes a table at the declaration's own end alone
 abbrev Moves : FieldValue → ℕ → Turn → Type 0
-Moves v n (on d) = depth d ≡ after v n
+Moves v n (on d) = depth d ≡ inside_after v n
 Moves v n (made t) = (is_end v ≡ true) × (n ≡ 0)
 Moves v n (stop reason place) = ⊤
 
@@ -53,7 +53,7 @@ if_moves : (v : FieldValue) (n : ℕ) (b : Bool) (x y : Turn) → is_end v ≡ b
 if_moves v n true x y e m k = m e
 if_moves v n false x y e m k = k e
 
-end_after : (v : FieldValue) (n : ℕ) → is_end v ≡ true → after v n ≡ n - 1
+end_after : (v : FieldValue) (n : ℕ) → is_end v ≡ true → inside_after v n ≡ n - 1
 end_after (begins k) n e = absurd (cc e)
 end_after ends n e = refl
 end_after other n e = absurd (cc e)
@@ -63,7 +63,7 @@ end_after (names w) n e = absurd (cc e)
 
 -- what is ignored is counted
 skip_inside : (v : FieldValue) (a : Area) (m : ℕ) (p : Pending)
-    → depth (skip_ignored v (record { area = a; inside = suc m; pending = p })) ≡ after v (in_area a + suc m)
+    → depth (skip_ignored v (record { area = a; inside = suc m; pending = p })) ≡ inside_after v (in_area a + suc m)
 skip_inside (begins k) a m p = omega arith
 skip_inside ends a m p = omega arith
 skip_inside other a m p = refl
@@ -71,7 +71,7 @@ skip_inside (string t) a m p = refl
 skip_inside (int negative n) a m p = refl
 skip_inside (names w) a m p = refl
 
-skip_first : (v : FieldValue) (a : Area) (p : Pending) → is_end v ≡ false → depth (skip_ignored v (at a p)) ≡ after v (in_area a + 0)
+skip_first : (v : FieldValue) (a : Area) (p : Pending) → is_end v ≡ false → depth (skip_ignored v (at a p)) ≡ inside_after v (in_area a + 0)
 skip_first (begins k) a p e = omega arith
 skip_first ends a p e = absurd (cc e)
 skip_first other a p e = refl
@@ -130,11 +130,11 @@ module _ (catalog : List Shared) (limit : ℕ) (t : Table) where
   record StaysOpen (n : ℕ) (rest : Reading) (items : List PlacedItem) : Type 0 where
     now : Declaring
     deep : depth now ≡ n
-    goes_on : reads now rest ≡ behind items Finished
+    goes_on : reads now rest ≡ items_then items Finished
 
   item_stays : (d : Declaring) (i : PlacedItem) (rest : Reading) (items : List PlacedItem) (c : Checked) (u : Turn) (v : FieldValue) (n : ℕ) → Moves v n u
-      → ((is_end v ≡ true) × (n ≡ 0) → ⊥) → by_step (after_check c (turned t u)) (λ s. users catalog limit s rest) ≡ behind items Finished
-      → StaysOpen (after v n) rest items
+      → ((is_end v ≡ true) × (n ≡ 0) → ⊥) → by_step (after_check c (turned t u)) (λ s. users catalog limit s rest) ≡ items_then items Finished
+      → StaysOpen (inside_after v n) rest items
   item_stays d i rest items fine (on e) v n moves last is = record { now = e; deep = moves; goes_on = is }
   item_stays d i rest items fine (made u) v n moves last is = absurd (last moves)
   item_stays d i rest items fine (stop reason place) v n moves last is = absurd (not_stopped reason place items is)
@@ -143,7 +143,7 @@ module _ (catalog : List Shared) (limit : ℕ) (t : Table) where
   -- an item that does not end the declaration
   one_stays : (n : ℕ) (i : PlacedItem) (rest : Reading) (items : List PlacedItem)
       → ((is_end (head_view (text_at t) i.head) ≡ true) × (n ≡ 0) → ⊥)
-      → StaysOpen n (More i rest) items → StaysOpen (after (head_view (text_at t) i.head) n) rest items
+      → StaysOpen n (More i rest) items → StaysOpen (inside_after (head_view (text_at t) i.head) n) rest items
   one_stays n i rest items last o =
       let v : FieldValue = head_view (text_at t) i.head in
       item_stays o.now i rest items (checked t false i) (turn g o.now (item_view (text_at t) i)) v n
@@ -151,7 +151,7 @@ module _ (catalog : List Shared) (limit : ℕ) (t : Table) where
       last o.goes_on
 
   -- a scalar opens and ends nothing
-  scalar_after : (body : Scalar SymbolAt) (n : ℕ) → after (scalar_view (text_at t) body) n ≡ n
+  scalar_after : (body : Scalar SymbolAt) (n : ℕ) → inside_after (scalar_view (text_at t) body) n ≡ n
   scalar_after (value.null type) n = refl
   scalar_after (value.bool truth) n = refl
   scalar_after (value.int number) n = refl
@@ -173,36 +173,36 @@ module _ (catalog : List Shared) (limit : ℕ) (t : Table) where
   scalar_end (value.clob bytes) e = cc e
   scalar_end (value.blob bytes) e = cc e
 
-  -- the items of a reading, one list behind another
-  in_parts : (n : ℕ) (is js : List PlacedItem) (rest : Reading) (items : List PlacedItem) → StaysOpen n (behind (is ++ js) rest) items
-      → StaysOpen n (behind is (behind js rest)) items
-  in_parts n is js rest items o = record { now = o.now; deep = o.deep; goes_on = ap (reads o.now) (sym (behind_append is js rest)) ∙ o.goes_on }
+  -- the items of a reading, one list after another
+  in_parts : (n : ℕ) (is js : List PlacedItem) (rest : Reading) (items : List PlacedItem) → StaysOpen n (items_then (is ++ js) rest) items
+      → StaysOpen n (items_then is (items_then js rest)) items
+  in_parts n is js rest items o = record { now = o.now; deep = o.deep; goes_on = ap (reads o.now) (sym (items_then-append is js rest)) ∙ o.goes_on }
 
   mutual
     value_stays : (n top : ℕ) (field : Option SymbolAt) (annotations : List SymbolAt) (place : ℕ) (x : Value SymbolAt ℕ) (rest : Reading) (items : List PlacedItem)
-        → StaysOpen n (behind (value_items top field annotations place x) rest) items → StaysOpen n rest items
+        → StaysOpen n (items_then (value_items top field annotations place x) rest) items → StaysOpen n rest items
     value_stays n top field annotations place (scalar body) rest items o =
         subst (λ k. StaysOpen k rest items) (scalar_after body n)
         (one_stays n (first_of top field annotations place (scalar body)) rest items (λ e. scalar_end body e.0) o)
     value_stays n top field annotations place (container k members last) rest items o =
         let tail : List PlacedItem = bare_item value.end last top ∷ [] in
-        let begun_here : StaysOpen (suc n) (behind (member_items top members ++ tail) rest) items =
-        one_stays n (first_of top field annotations place (container k members last)) (behind (member_items top members ++ tail) rest) items (λ e. cc (e.0)) o in
-        let inside : StaysOpen (suc n) (behind tail rest) items =
-        members_stay (suc n) top members (behind tail rest) items (in_parts (suc n) (member_items top members) tail rest items begun_here) in
+        let begun_here : StaysOpen (suc n) (items_then (member_items top members ++ tail) rest) items =
+        one_stays n (first_of top field annotations place (container k members last)) (items_then (member_items top members ++ tail) rest) items (λ e. cc (e.0)) o in
+        let inside : StaysOpen (suc n) (items_then tail rest) items =
+        members_stay (suc n) top members (items_then tail rest) items (in_parts (suc n) (member_items top members) tail rest items begun_here) in
         subst (λ k. StaysOpen k rest items) (omega arith) (one_stays (suc n) (bare_item value.end last top) rest items (λ e. cc (e.1)) inside)
 
     members_stay : (n top : ℕ) (members : Members SymbolAt ℕ) (rest : Reading) (items : List PlacedItem)
-        → StaysOpen n (behind (member_items top members) rest) items → StaysOpen n rest items
+        → StaysOpen n (items_then (member_items top members) rest) items → StaysOpen n rest items
     members_stay n top nothing rest items o = o
     members_stay n top (member before field annotations place x) rest items o =
         value_stays n top field annotations place x rest items
-        (members_stay n top before (behind (value_items top field annotations place x) rest) items
+        (members_stay n top before (items_then (value_items top field annotations place x) rest) items
         (in_parts n (member_items top before) (value_items top field annotations place x) rest items o))
 
   -- a value that is a declaration begins one
   declaration_begun : (top : ℕ) (annotations : List SymbolAt) (place last : ℕ) (k : Kind) (members found : Members SymbolAt ℕ) (rest : Reading) (items : List PlacedItem)
-      → declares_table t annotations (container k members last) ≡ Some found → sees catalog limit t 0 (More (begin_item top None annotations place k) rest) ≡ behind items Finished
+      → declares_table t annotations (container k members last) ≡ Some found → sees catalog limit t 0 (More (begin_item top None annotations place k) rest) ≡ items_then items Finished
       → StaysOpen 0 rest items
   declaration_begun top [] place last kind.List members found rest items some e = absurd (cc some)
   declaration_begun top [] place last kind.Sexp members found rest items some e = absurd (cc some)
@@ -225,20 +225,20 @@ module _ (catalog : List Shared) (limit : ℕ) (t : Table) where
   nest_depth (inner around field annotations place k members) = suc (nest_depth around)
 
   nest_stays : (first : ℕ) (nest : Nest SymbolAt ℕ) (found : Members SymbolAt ℕ) (rest : Reading) (items : List PlacedItem) → open_declaration t nest ≡ Some found
-      → sees catalog limit t 0 (behind (nest_items first nest) rest) ≡ behind items Finished → StaysOpen (nest_depth nest) rest items
+      → sees catalog limit t 0 (items_then (nest_items first nest) rest) ≡ items_then items Finished → StaysOpen (nest_depth nest) rest items
   unfolding nest_depth
   nest_stays first (outermost annotations place k members) found rest items some e =
       members_stay 0 first members rest items
-      (declaration_begun first annotations place place k members found (behind (member_items first members) rest) items some e)
+      (declaration_begun first annotations place place k members found (items_then (member_items first members) rest) items some e)
   nest_stays first (inner around field annotations place k members) found rest items some e =
       let begins_here : PlacedItem = begin_item first field annotations place k in
-      let o : StaysOpen (nest_depth around) (behind (begins_here ∷ member_items first members) rest) items =
-      nest_stays first around found (behind (begins_here ∷ member_items first members) rest) items some
-      (ap (sees catalog limit t 0) (sym (behind_append (nest_items first around) (begins_here ∷ member_items first members) rest)) ∙ e) in
+      let o : StaysOpen (nest_depth around) (items_then (begins_here ∷ member_items first members) rest) items =
+      nest_stays first around found (items_then (begins_here ∷ member_items first members) rest) items some
+      (ap (sees catalog limit t 0) (sym (items_then-append (nest_items first around) (begins_here ∷ member_items first members) rest)) ∙ e) in
       members_stay (suc (nest_depth around)) first members rest items
-      (one_stays (nest_depth around) begins_here (behind (member_items first members) rest) items (λ h. cc (h.0)) o)
+      (one_stays (nest_depth around) begins_here (items_then (member_items first members) rest) items (λ h. cc (h.0)) o)
 
-  -- where a declaration is open at the end, nothing is given behind what stands before it
+  -- where a declaration is open at the end, nothing is given after what stands before it
   pub nothing_given : (first : ℕ) (nest : Nest SymbolAt ℕ) (found : Members SymbolAt ℕ) (items : List PlacedItem) → open_declaration t nest ≡ Some found
-      → sees catalog limit t 0 (behind (nest_items first nest) Finished) ≡ behind items Finished → items ≡ []
+      → sees catalog limit t 0 (items_then (nest_items first nest) Finished) ≡ items_then items Finished → items ≡ []
   nothing_given first nest found items some e = let o = nest_stays first nest found Finished items some e in none_later items o.goes_on

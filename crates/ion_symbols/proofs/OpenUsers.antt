@@ -7,14 +7,14 @@ use Rattle.ion_value.specs.declared.ion_type.Kind.TheVariants as kind
 use Rattle.ion_value.specs.Value as value
 use Rattle.ion_value.specs.Value.{SymbolAt, Members, container, PlacedItem, member_items, top_items, map_item}
 use Rattle.ion_value.specs.Path.{Nest, outermost, inner, begin_item, nest_items}
-use Rattle.ion_value.specs.Reading.{Reading, Finished, behind}
+use Rattle.ion_value.specs.Reading.{Reading, Finished, items_then}
 use Rattle.ion_symbols.specs.Table.{Shared, Table, system, text_at}
 use Rattle.ion_symbols.specs.Declaration.{word_in}
 use Rattle.ion_symbols.specs.Users.{resolve, is_struct, declares, is_declaration}
 use Rattle.ion_symbols.specs.Tree.{declares_table, user_at}
 use Rattle.ion_symbols.specs.Laws.{WhatIsDeclared, map_nest, open_declaration, OpenUsersAreRead}
 use Rattle.ion_value.specs.Value.{user_item}
-use Rattle.ion_symbols.proofs.DeclarationReadings.{behind_append}
+use Rattle.ion_value.proofs.Readings.{items_then-append}
 use Rattle.ion_symbols.proofs.OpenDeclarations.{nothing_given}
 use Rattle.ion_symbols.proofs.UserReadings.{sees, Passes, resolve-seen_all, member_items-map, one_item, not_at_top, both_pass, at_level, members_pass, tops_are_read, none_later}
 
@@ -37,24 +37,24 @@ no_declaration t (s ∷ annotations) kind.Struct members last e = by_word (is_de
 
 -- the items of open containers are accepted
 nest_passes : (catalog : List Shared) (limit : ℕ) (t : Table) (first : ℕ) (nest : Nest SymbolAt ℕ) (rest : Reading) (items : List PlacedItem)
-    → open_declaration t nest ≡ None → sees catalog limit t 0 (behind (nest_items first nest) rest) ≡ behind items Finished
+    → open_declaration t nest ≡ None → sees catalog limit t 0 (items_then (nest_items first nest) rest) ≡ items_then items Finished
     → Passes catalog limit t (suc (level nest)) (nest_items first nest) rest items
 unfolding level
 nest_passes catalog limit t first (outermost annotations place k members) rest items none e =
     let begins : PlacedItem = begin_item first None annotations place k in
-    let p : Passes catalog limit t 1 (begins ∷ []) (behind (member_items first members) rest) items =
-    at_level catalog limit t (0 + 1) 1 (begins ∷ []) (behind (member_items first members) rest) items (add-one 0)
-    (one_item catalog limit t 0 begins (behind (member_items first members) rest) items refl (no_declaration t annotations k members place none) e) in
+    let p : Passes catalog limit t 1 (begins ∷ []) (items_then (member_items first members) rest) items =
+    at_level catalog limit t (0 + 1) 1 (begins ∷ []) (items_then (member_items first members) rest) items (add-one 0)
+    (one_item catalog limit t 0 begins (items_then (member_items first members) rest) items refl (no_declaration t annotations k members place none) e) in
     both_pass catalog limit t 1 1 (begins ∷ []) (member_items first members) rest items p (members_pass catalog limit t 0 first members rest p.later p.goes_on)
 nest_passes catalog limit t first (inner around field annotations place k members) rest items none e =
     let begins : PlacedItem = begin_item first field annotations place k in
     let n : ℕ = suc (level around) in
-    let p : Passes catalog limit t n (nest_items first around) (behind (begins ∷ member_items first members) rest) items =
-    nest_passes catalog limit t first around (behind (begins ∷ member_items first members) rest) items none
-    (ap (sees catalog limit t 0) (sym (behind_append (nest_items first around) (begins ∷ member_items first members) rest)) ∙ e) in
-    let q : Passes catalog limit t (suc n) (begins ∷ []) (behind (member_items first members) rest) p.later =
-    at_level catalog limit t (n + 1) (suc n) (begins ∷ []) (behind (member_items first members) rest) p.later (add-one n)
-    (one_item catalog limit t n begins (behind (member_items first members) rest) p.later refl
+    let p : Passes catalog limit t n (nest_items first around) (items_then (begins ∷ member_items first members) rest) items =
+    nest_passes catalog limit t first around (items_then (begins ∷ member_items first members) rest) items none
+    (ap (sees catalog limit t 0) (sym (items_then-append (nest_items first around) (begins ∷ member_items first members) rest)) ∙ e) in
+    let q : Passes catalog limit t (suc n) (begins ∷ []) (items_then (member_items first members) rest) p.later =
+    at_level catalog limit t (n + 1) (suc n) (begins ∷ []) (items_then (member_items first members) rest) p.later (add-one n)
+    (one_item catalog limit t n begins (items_then (member_items first members) rest) p.later refl
     (not_at_top (level around) (is_struct (value.begin k) && declares t annotations)) p.goes_on) in
     both_pass catalog limit t n (suc n) (nest_items first around) (begins ∷ member_items first members) rest items p
     (both_pass catalog limit t (suc n) (suc n) (begins ∷ []) (member_items first members) rest p.later q
@@ -69,9 +69,9 @@ nest_items-map f first (inner around field annotations place k members) =
 
 pub open_users_are_read_by : WhatIsDeclared → OpenUsersAreRead
 open_users_are_read_by what catalog limit tops first nest items e =
-    let ending : Reading = behind (nest_items first nest) Finished in
+    let ending : Reading = items_then (nest_items first nest) Finished in
     let r = tops_are_read what catalog limit tops ending system items
-    (ap (sees catalog limit system 0) (sym (behind_append (top_items tops) (nest_items first nest) Finished)) ∙ e) in (
+    (ap (sees catalog limit system 0) (sym (items_then-append (top_items tops) (nest_items first nest) Finished)) ∙ e) in (
       r.us,
       r.table,
       r.says,

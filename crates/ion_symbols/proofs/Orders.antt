@@ -45,7 +45,7 @@ one_sorted texts xs ys a b = one_order xs ys a.ascend b.ascend (λ t has. b.all 
 
 -- ---- a text more
 
--- texts that are added behind change nothing in the order
+-- texts that are added after change nothing in the order
 more_order : (texts more : List (List ℕ)) (order : List ℕ) → All (λ i. i < length texts) order → in_order (texts ++ more) order ≡ in_order texts order
 more_order texts more [] h = refl
 more_order texts more (i ∷ is) h =
@@ -83,7 +83,7 @@ orders_push texts order t place h b =
       each = all_insert (λ i. i < length (texts ++ t ∷ [])) order place (length texts) (All-weaker (λ i. i < length texts) (λ i. i < length (texts ++ t ∷ [])) (λ i l. omega (arith, l, n)) order h.each) (omega (arith, n));
       whole = λ i l. below_more (λ i. (k : ℕ) × (slice_get (insert order place (length texts)) k ≡ Some i)) (length texts)
           (λ i l. let w = h.whole i l in has_insert order place (length texts) i w.0 w.1) (has_new order place (length texts)) i (omega (arith, l, n));
-      ascend = subst Ascend (sym (put_order texts order t place h.each)) (ascend_insert (in_order texts order) t place h.ascend b.before b.behind);
+      ascend = subst Ascend (sym (put_order texts order t place h.each)) (ascend_insert (in_order texts order) t place h.ascend b.before b.after);
       long = let l = length-insert order place (length texts) in' in omega (arith, l, n, h.long);
     }
 
@@ -93,7 +93,7 @@ orders_push texts order t place h b =
 some_same : {A : Type 0} (x y : A) → Some x ≡ Some y → x ≡ y
 some_same x y h = cc
 
--- where the text at a position among the others is the one sought, so it is behind one more
+-- where the text at a position among the others is the one sought, so it is after one more
 position_by : (s : List ℕ) (ss : List (List ℕ)) (t : List ℕ) (b : Bool) (p : Option ℕ) → bytes_eq s t ≡ b → ((j : ℕ) → p ≡ Some j → slice_get ss j ≡ Some t) → (j : ℕ) → (if b then Some 0 else option_map (λ place. place + 1) p) ≡ Some j → slice_get (s ∷ ss) j ≡ Some t
 position_by s ss t true p e r zero h = ap Some ((bytes_eq-Decides s t).0 e)
 position_by s ss t true p e r (suc j) h = absurd (omega (arith, some_same 0 (suc j) h))
@@ -105,7 +105,7 @@ pub position_has : (texts : List (List ℕ)) (t : List ℕ) (j : ℕ) → positi
 position_has [] t j h = absurd (cc)
 position_has (s ∷ ss) t j h = position_by s ss t (bytes_eq s t) (position ss t) refl (λ j. position_has ss t j) j h
 
--- a position among the others gives one behind one more
+-- a position among the others gives one after one more
 position_first : (b : Bool) (p : Option ℕ) → (j : ℕ) × (p ≡ Some j) → (j : ℕ) × ((if b then Some 0 else option_map (λ place. place + 1) p) ≡ Some j)
 position_first true p r = (0, refl)
 position_first false p r = (r.0 + 1, ap (option_map (λ place. place + 1)) r.1)
@@ -146,7 +146,7 @@ neither (s ∷ ss) t (suc place) (suc k) a b h = neither ss t place k (All-tail 
 
 -- a text that belongs among the texts in order is none of them
 pub belongs_no : (ts : List (List ℕ)) (t : List ℕ) (place : ℕ) → Belongs ts t place → Has ts t → ⊥
-belongs_no ts t place b has = neither ts t place has.0 b.before b.behind has.1
+belongs_no ts t place b has = neither ts t place has.0 b.before b.after has.1
 
 -- and has no position
 pub belongs_none : (texts : List (List ℕ)) (order : List ℕ) (t : List ℕ) (place : ℕ) → Orders texts order → Belongs (in_order texts order) t place → position texts t ≡ None

@@ -7,7 +7,7 @@ use Rattle.ion_symbols.specs.declared.ordered.Place.{Place}
 use Rattle.ion_symbols.specs.Output.{texts_cost}
 use Rattle.ion_symbols.specs.Ordered.{place_text, texts_in, ordered_texts, Follow, From, Ordered}
 
--- places that follow one another end at or behind their begin
+-- places that follow one another end at or after their begin
 pub follow_within : (from : ℕ) (ps : List Place) (end : ℕ) → Follow from ps end → from ≤ end
 follow_within from [] end h = omega (arith, h)
 follow_within from (p ∷ ps) end h = let e : p.to ≤ end = follow_within p.to ps end h.1.1 in omega (arith, h.1.0, e)
@@ -43,13 +43,13 @@ kept_text bytes places order texts h e k l d =
     ∙ (get_or-map (λ i. get_or (texts_in bytes places) i []) order k 0 [] in'
     ∙ get_or-map (place_text bytes) places (get_or order k 0) d [] (kept_id bytes places order texts h e k l))
 
--- a part of bytes stays as it is where bytes are added behind
+-- a part of bytes stays as it is where bytes are added after
 part_same : (bytes more : List ℕ) (a b : ℕ) → a ≤ b → b ≤ length bytes → take (b - a) (drop a (bytes ++ more)) ≡ take (b - a) (drop a bytes)
 part_same bytes more a b h k =
     ap (take (b - a)) (drop-append-le a bytes more (omega (arith, h, k)))
     ∙ take-append-le (b - a) (drop a bytes) more (simp length-drop (omega (arith, h, k)))
 
--- the texts stay as they are where bytes are added behind
+-- the texts stay as they are where bytes are added after
 pub texts_more : (bytes more : List ℕ) (from : ℕ) (ps : List Place) (end : ℕ) → Follow from ps end → end ≤ length bytes → texts_in (bytes ++ more) ps ≡ texts_in bytes ps
 texts_more bytes more from [] end h k = refl
 texts_more bytes more from (p ∷ ps) end h k =
@@ -58,7 +58,7 @@ texts_more bytes more from (p ∷ ps) end h k =
     let r : texts_in (bytes ++ more) ps ≡ texts_in bytes ps = texts_more bytes more p.to ps end h.1.1 k in
     cc
 
--- what texts cost that stand behind one another
+-- what texts cost that stand after one another
 pub texts_cost-follow : (bytes : List ℕ) (from : ℕ) (ps : List Place) (end : ℕ) → Follow from ps end → end ≤ length bytes → texts_cost (texts_in bytes ps) + from ≡ 16 * length ps + end
 texts_cost-follow bytes from [] end h k = omega (arith, h)
 texts_cost-follow bytes from (p ∷ ps) end h k =
@@ -86,7 +86,7 @@ last_text bytes t p a b =
     ∙ (ap (λ k. take (length t) (drop k (bytes ++ t))) a
     ∙ (ap (take (length t)) (drop-append_seam bytes t) ∙ take-length t))
 
--- the texts with one more behind them
+-- the texts with one more after them
 pub texts_push : (bytes t : List ℕ) (places : List Place) (p : Place) → Follow 0 places (length bytes) → p.from ≡ length bytes → p.to ≡ length bytes + length t → texts_in (bytes ++ t) (places ++ p ∷ []) ≡ texts_in bytes places ++ t ∷ []
 texts_push bytes t places p h a b =
     map-append (place_text (bytes ++ t)) places (p ∷ [])

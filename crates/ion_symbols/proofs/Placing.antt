@@ -54,7 +54,7 @@ length-spans ps qs e = sym (length-map qs span) ∙ (ap length e ∙ length-map 
 pub texts-spans : (bytes : List ℕ) (ps qs : List Place) → spans qs ≡ spans ps → texts_in bytes qs ≡ texts_in bytes ps
 texts-spans bytes ps qs e = sym (map-map (spanned bytes) span qs) ∙ (ap (map (spanned bytes)) e ∙ map-map (spanned bytes) span ps)
 
--- behind one another
+-- after one another
 pub follow-spans : (from : ℕ) (ps qs : List Place) (end : ℕ) → spans qs ≡ spans ps → Follow from ps end → Follow from qs end
 follow-spans from [] [] end e h = h
 follow-spans from [] (q ∷ qs) end e h = absurd (cc e)
@@ -82,6 +82,6 @@ spans_linked ps ps2 ps3 at next d l e f =
 pub firsts_linked : (ps ps3 : List Place) (at next : ℕ) (q : Place) → ps3 ≡ set ps at q → q.next ≡ next → firsts ps3 ≡ set (firsts ps) at next
 firsts_linked ps ps3 at next q e n = ap firsts e ∙ (map-set (λ (p : Place). p.next) ps at q ∙ ap (set (firsts ps) at) n)
 
--- a text that is put behind the others has no first link
+-- a text that is put after the others has no first link
 pub firsts_push : (ps ps2 : List Place) (p : Place) → ps2 ≡ ps ++ p ∷ [] → p.next ≡ 0 → firsts ps2 ≡ firsts ps ++ 0 ∷ []
 firsts_push ps ps2 p e z = ap firsts e ∙ (map-append (λ (p : Place). p.next) ps (p ∷ []) ∙ ap (λ n. firsts ps ++ n ∷ []) z)

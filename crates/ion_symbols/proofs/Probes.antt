@@ -16,18 +16,18 @@ probes_bound (suc m) (suc n) (s ∷ ss) t a b =
     let half = length (s ∷ ss) / 2 in
     let d = length-drop (half + 1) (s ∷ ss) in
     let k = length-take half (s ∷ ss) in
-    ap₂ (λ behind before. 1 + probes_by (text_cmp (get_or (s ∷ ss) half []) t) behind before)
+    ap₂ (λ after before. 1 + probes_by (text_cmp (get_or (s ∷ ss) half []) t) after before)
     (probes_bound m n (drop (half + 1) (s ∷ ss)) t (omega (arith, d, a)) (omega (arith, d, b)))
     (probes_bound m n (take half (s ∷ ss)) t (omega (arith, k, a)) (omega (arith, k, b)))
 
--- where there is a text, the one in the middle is compared, and then those behind it or before it
+-- where there is a text, the one in the middle is compared, and then those after it or before it
 probes_step : (ts : List (List ℕ)) (t : List ℕ) (half : ℕ) → 0 < length ts → half ≡ length ts / 2 → probes_for ts t ≡ 1 + probes_by (text_cmp (get_or ts half []) t) (probes_for (drop (half + 1) ts) t) (probes_for (take half ts) t)
 probes_step [] t half l e = absurd (omega (arith, l))
 probes_step (s ∷ ss) t half l e =
     let d = length-drop (half + 1) (s ∷ ss) in
     let k = length-take half (s ∷ ss) in
     rw (← e)
-    (ap₂ (λ behind before. 1 + probes_by (text_cmp (get_or (s ∷ ss) half []) t) behind before)
+    (ap₂ (λ after before. 1 + probes_by (text_cmp (get_or (s ∷ ss) half []) t) after before)
     (probes_bound (length ss) (length (drop (half + 1) (s ∷ ss))) (drop (half + 1) (s ∷ ss)) t (omega (arith, d, e)) (omega arith))
     (probes_bound (length ss) (length (take half (s ∷ ss))) (take half (s ∷ ss)) t (omega (arith, k, e)) (omega arith)))
 
@@ -42,9 +42,9 @@ length_between ts low high l =
     let d = length-drop low ts in
     omega (arith, k, d, l)
 
--- those behind the middle
-behind_between : (ts : List (List ℕ)) (low high half : ℕ) → half < high - low → drop (half + 1) (between low high ts) ≡ between (low + half + 1) high ts
-behind_between ts low high half l =
+-- those after the middle
+after_between : (ts : List (List ℕ)) (low high half : ℕ) → half < high - low → drop (half + 1) (between low high ts) ≡ between (low + half + 1) high ts
+after_between ts low high half l =
     let n : high - low ≡ (half + 1) + (high - (low + half + 1)) = omega (arith, l) in
     ap (λ n. drop (half + 1) (take n (drop low ts))) n
     ∙ (drop-take (half + 1) (high - (low + half + 1)) (drop low ts)
@@ -69,9 +69,9 @@ between_step ts us low high half t r e l h a m =
     s
     ∙ (ap (λ m. 1 + probes_by (text_cmp m t) (probes_for (drop (half + 1) (between low high us)) t) (probes_for (take half (between low high us)) t)) (middle_between us low high half i)
     ∙ (ap (λ r. 1 + probes_by r (probes_for (drop (half + 1) (between low high us)) t) (probes_for (take half (between low high us)) t)) (sym o)
-    ∙ ap₂ (λ xs ys. 1 + probes_by r (probes_for xs t) (probes_for ys t)) (behind_between us low high half i) (before_between us low high half i)))
+    ∙ ap₂ (λ xs ys. 1 + probes_by r (probes_for xs t) (probes_for ys t)) (after_between us low high half i) (before_between us low high half i)))
 
--- where a comparison with the one in the middle answers less, those behind it are left
+-- where a comparison with the one in the middle answers less, those after it are left
 pub probes_less : (ts us : List (List ℕ)) (low high : ℕ) (t : List ℕ) → ts ≡ us → low < high → high ≤ length us → MatchOption (slice_get ts (low + (high - low) / 2)) ⊥ (λ s. Less ≡ text_cmp s t) → probes_for (between low high us) t ≡ 1 + probes_for (between (low + (high - low) / 2 + 1) high us) t
 probes_less ts us low high t e l h m = between_step ts us low high ((high - low) / 2) t Less e l h refl m
 

@@ -281,7 +281,7 @@ ranks_before tables order name past j t h v b e n =
       w.0,
       (
         elim (leb_tells past w.0) as (λ _. w.0 < past) [
-          | inl y ↦ absurd (not_both (text_cmp (key t) (key_of name 2147483648)) less (behind_is (in_order (keys tables) order) past w.0 (key t) (key_of name 2147483648) b y.1 at'))
+          | inl y ↦ absurd (not_both (text_cmp (key t) (key_of name 2147483648)) less (after_is (in_order (keys tables) order) past w.0 (key t) (key_of name 2147483648) b y.1 at'))
           | inr y ↦ y.1
         ],
         (w.1, at'),
@@ -291,12 +291,12 @@ ranks_before tables order name past j t h v b e n =
     not_both : (o : Ordering) → o ≡ Less → o ≡ Greater → ⊥
     not_both o e f = let g : Less ≡ Greater = sym e ∙ f in absurd (cc)
 
-    behind_is : (ts : List (List ℕ)) (past r : ℕ) (x k : List ℕ) → Belongs ts k past → past ≤ r → slice_get ts r ≡ Some x → text_cmp x k ≡ Greater
-    behind_is ts past r x k b y e =
+    after_is : (ts : List (List ℕ)) (past r : ℕ) (x k : List ℕ) → Belongs ts k past → past ≤ r → slice_get ts r ≡ Some x → text_cmp x k ≡ Greater
+    after_is ts past r x k b y e =
         let l : r < length ts = slice_get_within ts r x e in
         let m : past + (r - past) ≡ r = omega (arith, y) in
         let is : get_or (drop past ts) (r - past) [] ≡ x = get_or-drop past ts (r - past) [] ∙ (ap (λ i. get_or ts i []) m ∙ get_or_from_slice_get ts r x [] e) in
-        subst (λ u. text_cmp u k ≡ Greater) is (b.behind (r - past) [] (simp length-drop (omega (arith, l, y))))
+        subst (λ u. text_cmp u k ≡ Greater) is (b.after (r - past) [] (simp length-drop (omega (arith, l, y))))
 
 -- there is no table of the name where none ranks before
 pub greatest_absent : (tables : List Shared) (order : List ℕ) (name : List ℕ) (past : ℕ) → Orders (keys tables) order → All (λ s. s.version ≤ 2147483647) tables

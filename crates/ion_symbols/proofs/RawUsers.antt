@@ -95,8 +95,8 @@ user_tree-is t first annotations place x texts raw none =
 abbrev FromEach : List Shared → List (Top SymbolAt ℕ) → Type 0
 FromEach catalog tops = (t : Table) → TableIsText t → IfSome (user_tops catalog t tops) AreUsers
 
--- a value, and what is behind it, by what it declares
-tree-behind : (catalog : List Shared) (t : Table) (first : ℕ) (annotations : List SymbolAt) (place : ℕ) (x : Value SymbolAt ℕ)
+-- a value, and what is after it, by what it declares
+tree-after : (catalog : List Shared) (t : Table) (first : ℕ) (annotations : List SymbolAt) (place : ℕ) (x : Value SymbolAt ℕ)
     (tops : List (Top SymbolAt ℕ)) (declares : Option (Members SymbolAt ℕ))
     → CatalogIsText catalog → TableIsText t → IsRaw (tree first annotations place x) → declares_table t annotations x ≡ declares
     → IfSome declares (λ members. AreWritable kind.Struct members) → FromEach catalog tops
@@ -104,14 +104,14 @@ tree-behind : (catalog : List Shared) (t : Table) (first : ℕ) (annotations : L
       | Some members ↦ elim (next_table catalog (text_at t) t members) [ None ↦ None | Some u ↦ user_tops catalog u tops ]
       | None ↦ option_map (λ us. user_tree t first annotations place x ∷ us) (user_tops catalog t tops)
     ]) AreUsers
-tree-behind catalog t first annotations place x tops (Some members) c texts raw e writable later =
+tree-after catalog t first annotations place x tops (Some members) c texts raw e writable later =
     by (next_table catalog (text_at t) t members) (next_table-text catalog (text_at t) t members c texts writable)
   where
     by : (next : Option Table) → IfSome next TableIsText
         → IfSome (elim next [ None ↦ None | Some u ↦ user_tops catalog u tops ]) AreUsers
     by None h = tt
     by (Some u) h = later u h
-tree-behind catalog t first annotations place x tops None c texts raw e writable later =
+tree-after catalog t first annotations place x tops None c texts raw e writable later =
     by (user_tops catalog t tops) (later t texts)
   where
     by : (others : Option (List (Top UserSymbol ℕ))) → IfSome others AreUsers
@@ -124,7 +124,7 @@ tops-are : (catalog : List Shared) (tops : List (Top SymbolAt ℕ)) → CatalogI
 tops-are catalog [] c raw t texts = (tt, tt)
 tops-are catalog (version place ∷ tops) c raw t texts = tops-are catalog tops c raw.1 system system-texts
 tops-are catalog (tree first annotations place x ∷ tops) c raw t texts =
-    tree-behind catalog t first annotations place x tops (declares_table t annotations x) c texts raw.0 refl
+    tree-after catalog t first annotations place x tops (declares_table t annotations x) c texts raw.0 refl
     (declares_table-writable t annotations x raw.0.0) (tops-are catalog tops c raw.1)
 
 pub users_of_raw_values : UsersOfRawValues

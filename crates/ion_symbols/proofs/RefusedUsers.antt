@@ -5,7 +5,7 @@ use Rattle.ion_meter.specs.declared.fault.Reason.{Reason}
 use Rattle.ion_meter.specs.declared.fault.Reason.TheVariants.{BadSymbol, UnknownSymbol}
 use Rattle.ion_value.specs.Value as value
 use Rattle.ion_value.specs.Value.{Symbol, SymbolAt, Head, PlacedItem}
-use Rattle.ion_value.specs.Reading.{Reading, Finished, Stopped, More, Step, Ends, Stops, Gives, GoesOn, Leaves, items_of, behind}
+use Rattle.ion_value.specs.Reading.{Reading, Finished, Stopped, More, Step, Ends, Stops, Gives, GoesOn, Leaves, items_of, items_then}
 use Rattle.ion_value.specs.Standing.{is_marker}
 use Rattle.ion_symbols.specs.Table as slot
 use Rattle.ion_symbols.specs.Table.{Slot, Shared, Table, slot_of, text_at}
@@ -86,7 +86,7 @@ item-faulty t user i reason place e =
 
 -- ---- one step
 
--- a step behind a check stops for the check, or by itself
+-- a step after a check stops for the check, or by itself
 after_check_stops : (c : Checked) (x : Step State) (reason : Reason) (place : ℕ) → after_check c x ≡ Stops reason place
     → (c ≡ bad reason place) ⊎ (x ≡ Stops reason place)
 after_check_stops fine x reason place e = inr e
@@ -148,8 +148,8 @@ module _ (catalog : List Shared) (limit : ℕ) where
 
   -- an item more is taken in before the one that is refused
   later_item : (s after : State) (i : PlacedItem) (rest : Reading) (reason : Reason) (place : ℕ) → Leaves (user_step catalog limit s i) after
-      → (rest ≡ behind (items_of rest) (Stopped reason place)) ⊎ AtItem catalog limit after rest reason place
-      → (More i rest ≡ behind (items_of (More i rest)) (Stopped reason place)) ⊎ AtItem catalog limit s (More i rest) reason place
+      → (rest ≡ items_then (items_of rest) (Stopped reason place)) ⊎ AtItem catalog limit after rest reason place
+      → (More i rest ≡ items_then (items_of (More i rest)) (Stopped reason place)) ⊎ AtItem catalog limit s (More i rest) reason place
   later_item s after i rest reason place leaves (inl own) = inl (ap (More i) own)
   later_item s after i rest reason place leaves (inr at) = inr (record {
     before = i ∷ at.before;
@@ -162,10 +162,10 @@ module _ (catalog : List Shared) (limit : ℕ) where
   })
 
   step_stops : (s : State) (i : PlacedItem) (rest : Reading) (items : List PlacedItem) (reason : Reason) (place : ℕ) (x : Step State)
-      → ((after : State) (js : List PlacedItem) → users catalog limit after rest ≡ behind js (Stopped reason place)
-      → (rest ≡ behind (items_of rest) (Stopped reason place)) ⊎ AtItem catalog limit after rest reason place)
-      → user_step catalog limit s i ≡ x → by_step x (λ t. users catalog limit t rest) ≡ behind items (Stopped reason place)
-      → (More i rest ≡ behind (items_of (More i rest)) (Stopped reason place)) ⊎ AtItem catalog limit s (More i rest) reason place
+      → ((after : State) (js : List PlacedItem) → users catalog limit after rest ≡ items_then js (Stopped reason place)
+      → (rest ≡ items_then (items_of rest) (Stopped reason place)) ⊎ AtItem catalog limit after rest reason place)
+      → user_step catalog limit s i ≡ x → by_step x (λ t. users catalog limit t rest) ≡ items_then items (Stopped reason place)
+      → (More i rest ≡ items_then (items_of (More i rest)) (Stopped reason place)) ⊎ AtItem catalog limit s (More i rest) reason place
   step_stops s i rest items reason place Ends more is e = absurd (never_ends s.table i s.mode is)
   step_stops s i rest [] reason place (Stops r p) more is e =
       let reason_is : r ≡ reason = cc e in
@@ -182,15 +182,15 @@ module _ (catalog : List Shared) (limit : ℕ) where
   step_stops s i rest (j ∷ items) reason place (Stops r p) more is e = absurd (cc e)
   step_stops s i rest [] reason place (Gives item after) more is e = absurd (cc e)
   step_stops s i rest (j ∷ items) reason place (Gives item after) more is e =
-      let left : Leaves (user_step catalog limit s i) after = rw is (Leaves.behind_item item after) in
-      let goes_on : users catalog limit after rest ≡ behind items (Stopped reason place) = cc e in
+      let left : Leaves (user_step catalog limit s i) after = rw is (Leaves.after_item item after) in
+      let goes_on : users catalog limit after rest ≡ items_then items (Stopped reason place) = cc e in
       later_item s after i rest reason place left (more after items goes_on)
   step_stops s i rest items reason place (GoesOn after) more is e =
-      let left : Leaves (user_step catalog limit s i) after = rw is (Leaves.behind_nothing after) in
+      let left : Leaves (user_step catalog limit s i) after = rw is (Leaves.after_nothing after) in
       later_item s after i rest reason place left (more after items e)
 
-  stops : (s : State) (raw : Reading) (items : List PlacedItem) (reason : Reason) (place : ℕ) → users catalog limit s raw ≡ behind items (Stopped reason place)
-      → (raw ≡ behind (items_of raw) (Stopped reason place)) ⊎ AtItem catalog limit s raw reason place
+  stops : (s : State) (raw : Reading) (items : List PlacedItem) (reason : Reason) (place : ℕ) → users catalog limit s raw ≡ items_then items (Stopped reason place)
+      → (raw ≡ items_then (items_of raw) (Stopped reason place)) ⊎ AtItem catalog limit s raw reason place
   stops s Finished [] reason place e = absurd (cc e)
   stops s Finished (j ∷ items) reason place e = absurd (cc e)
   stops s (Stopped r p) [] reason place e = inl e

@@ -8,7 +8,7 @@ use Rattle.ion_value.specs.declared.ion_type.Kind.{Kind}
 use Rattle.ion_value.specs.declared.ion_type.Kind.TheVariants as kind
 use Rattle.ion_value.specs.Value as value
 use Rattle.ion_value.specs.Value.{SymbolAt, Value, Members, scalar, container, nothing, member, Top, tree, PlacedItem, bare_item, value_items, member_items, top_items}
-use Rattle.ion_value.specs.Reading.{Reading, Finished, behind}
+use Rattle.ion_value.specs.Reading.{Reading, Finished, items_then}
 use Rattle.ion_value.specs.Standing.{is_marker}
 use Rattle.ion_symbols.specs.Table.{Shared, Table, system, text_at}
 use Rattle.ion_symbols.specs.Declaration.{word_in}
@@ -16,11 +16,12 @@ use Rattle.ion_symbols.specs.Users.{fine, checked, resolve, level_after, begins_
 use Rattle.ion_symbols.specs.Tree.{first_of, content_of, declared}
 use Rattle.ion_symbols.specs.Laws.{by_declared, AnyAbove, Stands, ValueStands}
 use Rattle.ion_symbols.specs.Resolved.{AreResolved, WhatIsResolvedIsAccepted}
-use Rattle.ion_symbols.proofs.AllAppended.{AllByRecursion-before, AllByRecursion-behind}
+use Rattle.ion_symbols.proofs.AllAppended.{AllByRecursion-before, AllByRecursion-after}
 use Rattle.ion_symbols.proofs.IdsAbove.{begins_fine}
 use Rattle.ion_symbols.proofs.StandingSymbols.{IsFine, AllFine, value-stands}
-use Rattle.ion_symbols.proofs.DeclarationReadings.{behind_append, declarations_are_read}
+use Rattle.ion_symbols.proofs.DeclarationReadings.{declarations_are_read}
 use Rattle.ion_symbols.proofs.UserReadings.{sees, not_at_top}
+use Rattle.ion_value.proofs.Readings.{items_then-append}
 
 module _ (catalog : List Shared) (limit : ℕ) (t : Table) where
   -- ---- the items of a user value
@@ -28,7 +29,7 @@ module _ (catalog : List Shared) (limit : ℕ) (t : Table) where
   -- items are given, resolved, where so many containers are open, and leave so many open
   abbrev Given : ℕ → List PlacedItem → ℕ → Type 0
   Given m is n =
-      (rest : Reading) → sees catalog limit t m (behind is rest) ≡ behind (map (resolve t) is) (sees catalog limit t n rest)
+      (rest : Reading) → sees catalog limit t m (items_then is rest) ≡ items_then (map (resolve t) is) (sees catalog limit t n rest)
 
   one_given : (n m : ℕ) (i : PlacedItem) → is_marker i.head ≡ false → begins_declaration t n i ≡ false → IsFine t i
       → level_after n i.head ≡ m
@@ -37,11 +38,11 @@ module _ (catalog : List Shared) (limit : ℕ) (t : Table) where
 
   both_given : (k m n : ℕ) (is js : List PlacedItem) → Given k is m → Given m js n → Given k (is ++ js) n
   both_given k m n is js p q rest =
-      ap (sees catalog limit t k) (behind_append is js rest)
-      ∙ (p (behind js rest)
-      ∙ (ap (behind (map (resolve t) is)) (q rest)
-      ∙ (sym (behind_append (map (resolve t) is) (map (resolve t) js) (sees catalog limit t n rest))
-      ∙ ap (λ ks. behind ks (sees catalog limit t n rest)) (sym (map-append (resolve t) is js)))))
+      ap (sees catalog limit t k) (items_then-append is js rest)
+      ∙ (p (items_then js rest)
+      ∙ (ap (items_then (map (resolve t) is)) (q rest)
+      ∙ (sym (items_then-append (map (resolve t) is) (map (resolve t) js) (sees catalog limit t n rest))
+      ∙ ap (λ ks. items_then ks (sees catalog limit t n rest)) (sym (map-append (resolve t) is js)))))
 
   -- a container, by what it holds
   container_given : (n top : ℕ) (field : Option SymbolAt) (annotations : List SymbolAt) (place : ℕ) (k : Kind)
@@ -76,7 +77,7 @@ module _ (catalog : List Shared) (limit : ℕ) (t : Table) where
         let is = member_items top before in
         let js = value_items top field annotations place x in
         both_given (suc n) (suc n) (suc n) is js (members_given n top before (AllByRecursion-before (IsFine t) is js fines))
-        (value_given n top field annotations place x (AllByRecursion-behind (IsFine t) is js fines))
+        (value_given n top field annotations place x (AllByRecursion-after (IsFine t) is js fines))
 
   -- a value at top level that is no declaration
   top_given : (first : ℕ) (annotations : List SymbolAt) (place : ℕ) (x : Value SymbolAt ℕ)
@@ -93,13 +94,13 @@ module _ (catalog : List Shared) (limit : ℕ) (t : Table) where
 -- it is accepted from a table on
 abbrev IsAccepted : List Shared → ℕ → Table → List (Top SymbolAt ℕ) → Type 0
 IsAccepted catalog limit t tops =
-    (items : List PlacedItem) × (sees catalog limit t 0 (behind (top_items tops) Finished) ≡ behind items Finished)
+    (items : List PlacedItem) × (sees catalog limit t 0 (items_then (top_items tops) Finished) ≡ items_then items Finished)
 
 -- and so from each table from which its symbols are resolved
 abbrev IsAcceptedWhere : List Shared → ℕ → List (Top SymbolAt ℕ) → Type 0
 IsAcceptedWhere catalog limit tops = (t : Table) → AreResolved catalog limit t tops → IsAccepted catalog limit t tops
 
--- a value that is no declaration, and what is behind it
+-- a value that is no declaration, and what is after it
 plain_accepted : (catalog : List Shared) (limit : ℕ) (t : Table) (first : ℕ) (annotations : List SymbolAt) (place : ℕ)
     (x : Value SymbolAt ℕ) (tops : List (Top SymbolAt ℕ))
     → begins_declaration t 0 (first_of first None annotations place x) ≡ false
@@ -109,16 +110,16 @@ plain_accepted catalog limit t first annotations place x tops is_plain stands mo
     let is : List PlacedItem = value_items first None annotations place x in
     let fines : AllFine t is = (value-stands t first None annotations place x).1 (tt, stands.0, stands.1) in (
       map (resolve t) is ++ more.0,
-      ap (sees catalog limit t 0) (behind_append is (top_items tops) Finished)
-          ∙ (top_given catalog limit t first annotations place x is_plain fines (behind (top_items tops) Finished)
-          ∙ (ap (behind (map (resolve t) is)) more.1 ∙ sym (behind_append (map (resolve t) is) more.0 Finished))),
+      ap (sees catalog limit t 0) (items_then-append is (top_items tops) Finished)
+          ∙ (top_given catalog limit t first annotations place x is_plain fines (items_then (top_items tops) Finished)
+          ∙ (ap (items_then (map (resolve t) is)) more.1 ∙ sym (items_then-append (map (resolve t) is) more.0 Finished))),
     )
 
--- a declaration, and what is behind it
+-- a declaration, and what is after it
 by_declared_accepted : (catalog : List Shared) (limit : ℕ) (tops : List (Top SymbolAt ℕ)) (d : Result Table (Reason × ℕ))
     → IsAcceptedWhere catalog limit tops → IsOkAnd d (λ u. AreResolved catalog limit u tops)
     → (items : List PlacedItem)
-    × (by_declared d (λ u. sees catalog limit u 0 (behind (top_items tops) Finished)) ≡ behind items Finished)
+    × (by_declared d (λ u. sees catalog limit u 0 (items_then (top_items tops) Finished)) ≡ items_then items Finished)
 by_declared_accepted catalog limit tops (Ok u) more h = more u h
 by_declared_accepted catalog limit tops (Err why) more h = absurd h
 
@@ -142,11 +143,11 @@ struct_accepted catalog limit t first s annotations place members last tops true
     (begins_fine t first (s ∷ annotations) place kind.Struct members last).1 k.0 in
     let left = by_declared_accepted catalog limit tops d more k.1 in (
       left.0,
-      rw (is, is_fine, behind_append (content_of first (container kind.Struct members last)) (top_items tops) Finished)
-          (declarations_are_read catalog limit t first last members (behind (top_items tops) Finished) ∙ left.1),
+      rw (is, is_fine, items_then-append (content_of first (container kind.Struct members last)) (top_items tops) Finished)
+          (declarations_are_read catalog limit t first last members (items_then (top_items tops) Finished) ∙ left.1),
     )
 
--- a value, and what is behind it
+-- a value, and what is after it
 tree_accepted : (catalog : List Shared) (limit : ℕ) (t : Table) (first : ℕ) (annotations : List SymbolAt) (place : ℕ)
     (x : Value SymbolAt ℕ)
     (tops : List (Top SymbolAt ℕ)) → IsAcceptedWhere catalog limit tops

@@ -5,7 +5,7 @@ use Rattle.ion_symbols.specs.declared.out_texts.OutTexts.{OutTexts}
 use Rattle.ion_symbols.specs.Hash.{hash_of, bucket_in, digits_in}
 use Rattle.ion_symbols.specs.Output.{position}
 use Rattle.ion_symbols.specs.Ordered.{place_text}
-use Rattle.ion_symbols.specs.OutTexts.{texts_of, firsts, link_of, IsReached, Extend, AreKept, IsBehind}
+use Rattle.ion_symbols.specs.OutTexts.{texts_of, firsts, link_of, IsReached, Extend, AreKept, IsAfter}
 use Rattle.ion_symbols.proofs.Linking.{reached_some, reached_cases, reached_from}
 use Rattle.ion_symbols.proofs.Orders.{absent_position}
 use Rattle.ion_symbols.proofs.Positions.{position_there}
@@ -68,7 +68,7 @@ pub seek_on : {A : Type 0} (k : OutTexts A) (t : List ℕ) (at left digits next 
 seek_on k t at left digits next h p other e q w = record {
   some = q;
   within = w;
-  onward = λ i l is. behind i is (reached_cases (firsts k.places.items) k.ids.items left (left - 1) digits at (at - 1) i more here (h.onward i l is));
+  onward = λ i l is. after i is (reached_cases (firsts k.places.items) k.ids.items left (left - 1) digits at (at - 1) i more here (h.onward i l is));
   back = λ first2 second2 i x r.
       let step : next ≡ link_of first2 second2 (at - 1) digits = e ∙ sym (x.kept (at - 1) digits (subst (λ n. 0 < n) e q)) in
       h.back first2 second2 i x (reached_from first2 second2 left (left - 1) digits at (at - 1) i more here (inr (subst (λ n. IsReached first2 second2 (left - 1) (digits / 2) n i) step r)));
@@ -80,10 +80,10 @@ seek_on k t at left digits next h p other e q w = record {
     here : at ≡ suc (at - 1)
     here = omega (arith, h.some)
 
-    behind : (i : ℕ) → get_or (texts_of k) i [] ≡ t → (at - 1 ≡ i) ⊎ IsReached (firsts k.places.items) k.ids.items (left - 1) (digits / 2) (link_of (firsts k.places.items) k.ids.items (at - 1) digits) i
+    after : (i : ℕ) → get_or (texts_of k) i [] ≡ t → (at - 1 ≡ i) ⊎ IsReached (firsts k.places.items) k.ids.items (left - 1) (digits / 2) (link_of (firsts k.places.items) k.ids.items (at - 1) digits) i
         → IsReached (firsts k.places.items) k.ids.items (left - 1) (digits / 2) next i
-    behind i is (inl y) = absurd (other (ap (λ j. get_or (texts_of k) j []) y ∙ is))
-    behind i is (inr y) = subst (λ n. IsReached (firsts k.places.items) k.ids.items (left - 1) (digits / 2) n i) (sym e) y
+    after i is (inl y) = absurd (other (ap (λ j. get_or (texts_of k) j []) y ∙ is))
+    after i is (inr y) = subst (λ n. IsReached (firsts k.places.items) k.ids.items (left - 1) (digits / 2) n i) (sym e) y
 
 -- where it links to none the text is new
 pub seek_none : {A : Type 0} (k : OutTexts A) (t : List ℕ) (at left digits : ℕ) → Seeking k t at left digits → 0 < left → (get_or (texts_of k) (at - 1) [] ≡ t → ⊥)
@@ -100,7 +100,7 @@ seek_none k t at left digits h p other z =
 
 -- and that link is free for it
 pub seek_free : {A : Type 0} (k : OutTexts A) (t : List ℕ) (at left digits : ℕ) → Seeking k t at left digits → k.is_ordered ≡ false → 1 < left
-    → link_of (firsts k.places.items) k.ids.items (at - 1) digits ≡ 0 → IsBehind k t (at - 1) digits
+    → link_of (firsts k.places.items) k.ids.items (at - 1) digits ≡ 0 → IsAfter k t (at - 1) digits
 seek_free k t at left digits h o p z = record {
   linked = o;
   within = omega (arith, h.some, h.within, texts_length k);

@@ -9,7 +9,7 @@ use Rattle.ion_symbols.specs.Table.{Slot, Table, slot_of}
 use Rattle.ion_symbols.specs.Users.{Checked, fine, bad, or_else, slot_checked, symbol_checked, at_checked, field_checked, annotations_checked, scalar_checked, head_checked, checked}
 use Rattle.ion_symbols.specs.Tree.{first_of, head_of}
 use Rattle.ion_symbols.specs.Laws.{IsSlot, SymbolStands, Stands, FieldStands, ScalarStands, ValueStands, MembersStand}
-use Rattle.ion_symbols.proofs.AllAppended.{AllByRecursion-append, AllByRecursion-before, AllByRecursion-behind}
+use Rattle.ion_symbols.proofs.AllAppended.{AllByRecursion-append, AllByRecursion-before, AllByRecursion-after}
 
 -- an item is not at fault as one of a user value
 abbrev pub IsFine : Table → PlacedItem → Type 0
@@ -65,9 +65,9 @@ first-stands : (t : Table) (top : ℕ) (field : Option SymbolAt) (annotations : 
     → IsFine t (first_of top field annotations place x)
     ↔ (FieldStands t field × AllByRecursion (Stands t) annotations × HeadStands t x)
 first-stands t top field annotations place x =
-    let behind : Checked = or_else (annotations_checked t true annotations) (head_checked t true (head_of x)) in
+    let after : Checked = or_else (annotations_checked t true annotations) (head_checked t true (head_of x)) in
     let others = or_else-fine (annotations_checked t true annotations) (head_checked t true (head_of x)) in
-    let all = or_else-fine (field_checked t true field) behind in
+    let all = or_else-fine (field_checked t true field) after in
     let f = field-stands t field in
     let a = annotations-stand t annotations in
     let h = head-stands t x in (
@@ -101,7 +101,7 @@ mutual
       let is = member_items top before in
       let js = value_items top field annotations place x in (
         λ h.
-            let s = own.0 (AllByRecursion-behind (IsFine t) is js h) in
+            let s = own.0 (AllByRecursion-after (IsFine t) is js h) in
             (earlier.0 (AllByRecursion-before (IsFine t) is js h), s.0, s.1, s.2),
         λ s. AllByRecursion-append (IsFine t) is js (earlier.1 s.0) (own.1 (s.1, s.2, s.3)),
       )

@@ -1,4 +1,4 @@
--- A pending table that takes the place of the present one, or stands behind it.
+-- A pending table that takes the place of the present one, or stands after it.
 use Rattle.std.proofs.Common.{◌≡◌, ℕ, ◌+◌, ◌*◌, ◌≤◌, Bool, true, false, ◌++◌, length, Result, Ok, Err, OnOk, OnErr, refl, ap, sym, ◌∙◌, arith, length-append}
 use Rattle.std.proofs.lemmas.Bool.{true≢false}
 use Rattle.ion_meter.specs.Counts.{Counts, Grows, Shrinks}
@@ -25,7 +25,7 @@ both_within limit old b p k =
     let e : if_kept b.keeps (table_cost old) ≡ table_cost old = kept_counts b.keeps (table_cost old) k in
     omega (arith, e, p.exact, p.cheap)
 
--- ---- behind the present table
+-- ---- after the present table
 
 -- how many slots there are where all were added, or none
 pub added_few : (r : Result Unit Fault) (x y z : Slots) (n most : ℕ) → OnOk r (z ≡ x ++ y) → OnErr r (z ≡ x) → (n + length x) + length y ≤ most →
@@ -58,23 +58,23 @@ undone_charges a n p r s table imports more name limit after h k l m w v e = rec
 -- ---- by the answer of the addition
 
 -- the table is within the limit
-pub behind_within : (r : Result Unit Fault) (old new : Present) (more : Slots) (limit : ℕ)
+pub after_within : (r : Result Unit Fault) (old new : Present) (more : Slots) (limit : ℕ)
     → OnOk r (new ≡ with_locals old more) → OnErr r (new ≡ old) → table_cost old.table + slots_cost more ≤ limit → table_cost new.table ≤ limit
-behind_within (Ok u) old new more limit ok err h =
+after_within (Ok u) old new more limit ok err h =
     let e : slots_cost (old.table.locals ++ more) ≡ slots_cost old.table.locals + slots_cost more = cost_append old.table.locals more in
     rw ok (omega (arith, e, h))
-behind_within (Err f) old new more limit ok err h = rw err (omega (arith, h))
+after_within (Err f) old new more limit ok err h = rw err (omega (arith, h))
 
 -- and the meter has moved by the difference
-pub behind_charges : {A : Type 0} (r : Result Unit Fault) (limit : ℕ) (a n p q s : Counts) (old new : Present) (b : SymbolBuffer A)
+pub after_charges : {A : Type 0} (r : Result Unit Fault) (limit : ℕ) (a n p q s : Counts) (old new : Present) (b : SymbolBuffer A)
     → OnOk r (new ≡ with_locals old b.slots) → OnErr r (new ≡ old) → OnOk r (Grows n p (slots_cost b.slots)) → OnErr r (IsUndone n p (slots_cost b.slots))
     → Shrinks a n (length b.name) → Shrinks p q (cost_of b.imports) → Shrinks q s (slots_cost b.slots)
     → table_cost old.table + own_of b ≤ limit → table_cost old.table + own_of b ≤ a.held
     → Charges a s (table_cost old.table + own_of b) (table_cost new.table) (2 * limit)
-behind_charges (Ok u) limit a n p q s old new b ok err grows undone named importing slotted within held =
+after_charges (Ok u) limit a n p q s old new b ok err grows undone named importing slotted within held =
     let e : slots_cost (old.table.locals ++ b.slots) ≡ slots_cost old.table.locals + slots_cost b.slots = cost_append old.table.locals b.slots in
     grown_charges a n p q s (table_cost old.table) (cost_of b.imports) (slots_cost b.slots) (length b.name) limit
     (table_cost new.table) named grows importing slotted within held (rw ok (omega (arith, e)))
-behind_charges (Err f) limit a n p q s old new b ok err grows undone named importing slotted within held =
+after_charges (Err f) limit a n p q s old new b ok err grows undone named importing slotted within held =
     undone_charges a n p q s (table_cost old.table) (cost_of b.imports) (slots_cost b.slots) (length b.name) limit
     (table_cost new.table) named undone importing slotted within held (rw err refl)

@@ -101,7 +101,7 @@ first_same x xs y ys h k zero p j q = cc
 first_same x xs y ys h k (suc i) p zero q = cc
 first_same x xs y ys h k (suc i) p (suc j) q = absurd (not_less x (nat_list_cmp_total.trans x y x (less_of x xs y j h q) (less_of y ys x i k p)))
 
--- and a text behind the first stands behind the other's first
+-- and a text after the first stands after the other's first
 tail_has : (x : List ℕ) (xs : List (List ℕ)) (y : List ℕ) (ys : List (List ℕ)) (t : List ℕ) → All (λ u. text_cmp x u ≡ Less) xs → x ≡ y → (j : ℕ) → slice_get xs j ≡ Some t → (i : ℕ) → slice_get (y ∷ ys) i ≡ Some t → Has ys t
 tail_has x xs y ys t h e j p zero q = let f : Some x ≡ Some t = cc in absurd (twice x xs t j h f p)
 tail_has x xs y ys t h e j p (suc i) q = (i, q)

@@ -1,4 +1,4 @@
--- How many containers are open behind an item of a declaration, and what an item does to the user items to come.
+-- How many containers are open after an item of a declaration, and what an item does to the user items to come.
 use Rattle.std.proofs.Common.{arith, refl, sym, ap, subst, ◌∙◌, if◌then◌else◌, ◌≡◌, ℕ, zero, suc, ◌+◌, ◌-◌, Bool, true, false, List, [], ◌∷◌, length, length-drop, Option, Some, None, Result, Ok, Err}
 use Rattle.ion_meter.specs.declared.fault.Reason.{Reason}
 use Rattle.ion_meter.specs.declared.fault.Fault.{Fault}
@@ -23,7 +23,7 @@ use Rattle.ion_symbols.specs.Buffer.{TurnAs, area_depth, depth_of}
 
 -- ---- depths
 
--- how many containers are open behind an item
+-- how many containers are open after an item
 abbrev pub depth_after : ℕ → FieldValue → ℕ
 depth_after n (begins kind) = n + 1
 depth_after n ends = n - 1
@@ -32,7 +32,7 @@ depth_after n (string t) = n
 depth_after n (int negative magnitude) = n
 depth_after n (names w) = n
 
--- what a turn says of the depth: it goes on at the depth behind the item, or ends at an end at depth 1
+-- what a turn says of the depth: it goes on at the depth after the item, or ends at an end at depth 1
 abbrev pub DepthAs : ℕ → FieldValue → Turn → Type 0
 DepthAs n what (on e) = depth_of e ≡ depth_after n what
 DepthAs n what (made u) = (n ≡ 1) × (what ≡ ends)
@@ -165,7 +165,7 @@ turn_at-depth g d t zero e =
     subst (λ (m : ℕ). DepthAs m t.what (area_turn g t d.pending d.area)) same (area-depth g t d.pending d.area)
 turn_at-depth g d t (suc n) e = inside-depth t.what d n e
 
--- a turn goes on at the depth behind the item, or ends at an end at depth 1
+-- a turn goes on at the depth after the item, or ends at an end at depth 1
 pub turn-depth : (g : Ground) (d : Declaring) (t : ItemView) → DepthAs (depth_of d) t.what (turn g d t)
 turn-depth g d t = turn_at-depth g d t d.inside refl
 
@@ -219,7 +219,7 @@ is_fine : (k : Checked) (x : Result Unit Fault) → CheckedAs k x → x ≡ Ok t
 is_fine fine x says e = refl
 is_fine (bad reason place) x says e = cc
 
--- an item on which a declaration goes on: the user items to come, which were those of the first reading, are those behind it
+-- an item on which a declaration goes on: the user items to come, which were those of the first reading, are those after it
 pub goes_on : (catalog : List Shared) (limit : ℕ) (t : Table) (d e : Declaring) (i j : PlacedItem) (first old new : Reading) (x : Result Unit Fault)
     → first ≡ users catalog limit (record { table = t; mode = declaring d }) old → old ≡ More i new → j ≡ i
     → CheckedAs (checked t false j) x → x ≡ Ok tt

@@ -8,20 +8,21 @@ use Rattle.ion_value.specs.declared.ion_type.Kind.{Kind}
 use Rattle.ion_value.specs.declared.ion_type.Kind.TheVariants as kind
 use Rattle.ion_value.specs.Value as value
 use Rattle.ion_value.specs.Value.{SymbolAt, UserSymbol, user_symbol, Scalar, Head, Value, Members, scalar, container, nothing, member, Top, tree, PlacedItem, Item, bare_item, value_items, member_items, top_items, map_scalar, map_head, map_item, map_value, map_members}
-use Rattle.ion_value.specs.Reading.{Reading, Finished, Stopped, More, Gives, GoesOn, behind}
+use Rattle.ion_value.specs.Reading.{Reading, Finished, Stopped, More, Gives, GoesOn, items_then}
 use Rattle.ion_value.specs.Items.{named_at}
 use Rattle.ion_value.specs.Standing.{is_marker}
 use Rattle.ion_symbols.specs.Table.{Shared, Table, system, text_at}
 use Rattle.ion_symbols.specs.Declaration.{start, word_in}
 use Rattle.ion_symbols.specs.Users.{Checked, fine, bad, checked, resolve, plain, declaring, users, by_step, after_check, level_after, begins_declaration, is_struct, declares, is_declaration}
 use Rattle.ion_symbols.specs.Tree.{first_of, content_of, next_table, declared, user_at, declares_table, user_tops}
-use Rattle.ion_symbols.specs.Laws.{by_declared, WhatIsDeclared, UsersAreRead, AnyAbove, table_behind, UsersStand, SymbolsStand}
+use Rattle.ion_symbols.specs.Laws.{by_declared, WhatIsDeclared, UsersAreRead, AnyAbove, table_after, UsersStand, SymbolsStand}
 use Rattle.ion_symbols.specs.Resolved.{AreResolved, WhatIsAcceptedIsResolved}
 use Rattle.ion_value.specs.Value.{user_item}
 use Rattle.ion_symbols.proofs.AllAppended.{AllByRecursion-append}
 use Rattle.ion_symbols.proofs.IdsAbove.{begins_fine}
 use Rattle.ion_symbols.proofs.StandingSymbols.{IsFine, AllFine, value-stands}
-use Rattle.ion_symbols.proofs.DeclarationReadings.{behind_append, declarations_are_read}
+use Rattle.ion_symbols.proofs.DeclarationReadings.{declarations_are_read}
+use Rattle.ion_value.proofs.Readings.{items_then-append}
 
 -- ---- the items of a value as a user knows them
 
@@ -97,34 +98,34 @@ mutual
 abbrev pub sees : List Shared → ℕ → Table → ℕ → Reading → Reading
 sees catalog limit t n rest = users catalog limit (record { table = t; mode = plain n }) rest
 
--- these items stand resolved in front, and behind them the reading goes on
+-- these items stand resolved in front, and after them the reading goes on
 pub record Passes (catalog : List Shared) (limit : ℕ) (t : Table) (n : ℕ) (prefix : List PlacedItem) (rest : Reading) (items : List PlacedItem) : Type 0 where
   pub later : List PlacedItem
-  pub goes_on : sees catalog limit t n rest ≡ behind later Finished
+  pub goes_on : sees catalog limit t n rest ≡ items_then later Finished
   pub items_are : items ≡ map (resolve t) prefix ++ later
   pub checks : AllFine t prefix
 
 -- a fault is not the end of accepted items
-pub not_stopped : (reason : Reason) (place : ℕ) (items : List PlacedItem) → Stopped reason place ≡ behind items Finished → ⊥
+pub not_stopped : (reason : Reason) (place : ℕ) (items : List PlacedItem) → Stopped reason place ≡ items_then items Finished → ⊥
 not_stopped reason place [] e = cc
 not_stopped reason place (i ∷ is) e = cc
 
 -- an item that is given is the first
 given : (catalog : List Shared) (limit : ℕ) (t : Table) (n : ℕ) (i : PlacedItem) (rest : Reading) (items : List PlacedItem)
-    → checked t true i ≡ fine → More (resolve t i) (sees catalog limit t n rest) ≡ behind items Finished → Passes catalog limit t n (i ∷ []) rest items
+    → checked t true i ≡ fine → More (resolve t i) (sees catalog limit t n rest) ≡ items_then items Finished → Passes catalog limit t n (i ∷ []) rest items
 given catalog limit t n i rest [] is e = absurd (cc)
 given catalog limit t n i rest (j ∷ js) is e = record { later = js; goes_on = cc; items_are = cc; checks = (is, tt) }
 
 -- an accepted item was found fine, so it is given
 given_checked : (catalog : List Shared) (limit : ℕ) (t : Table) (n : ℕ) (c : Checked) (i : PlacedItem) (rest : Reading) (items : List PlacedItem)
-    → checked t true i ≡ c → by_step (after_check c (Gives (resolve t i) (record { table = t; mode = plain n }))) (λ s. users catalog limit s rest) ≡ behind items Finished
+    → checked t true i ≡ c → by_step (after_check c (Gives (resolve t i) (record { table = t; mode = plain n }))) (λ s. users catalog limit s rest) ≡ items_then items Finished
     → Passes catalog limit t n (i ∷ []) rest items
 given_checked catalog limit t n fine i rest items is e = given catalog limit t n i rest items is e
 given_checked catalog limit t n (bad reason place) i rest items is e = absurd (not_stopped reason place items e)
 
 -- an accepted item that is no version marker and begins no declaration is given, resolved
 pub one_item : (catalog : List Shared) (limit : ℕ) (t : Table) (n : ℕ) (i : PlacedItem) (rest : Reading) (items : List PlacedItem)
-    → is_marker i.head ≡ false → begins_declaration t n i ≡ false → sees catalog limit t n (More i rest) ≡ behind items Finished
+    → is_marker i.head ≡ false → begins_declaration t n i ≡ false → sees catalog limit t n (More i rest) ≡ items_then items Finished
     → Passes catalog limit t (level_after n i.head) (i ∷ []) rest items
 one_item catalog limit t n i rest items m b e = given_checked catalog limit t (level_after n i.head) (checked t true i) i rest items refl (rw (m, b) at e)
 
@@ -134,7 +135,7 @@ not_at_top n b = ap (λ e. e && b) (eqb-suc-zero n)
 
 -- one prefix, and then another
 pub both_pass : (catalog : List Shared) (limit : ℕ) (t : Table) (m n : ℕ) (is js : List PlacedItem) (rest : Reading) (items : List PlacedItem)
-    → (p : Passes catalog limit t m is (behind js rest) items) → Passes catalog limit t n js rest p.later → Passes catalog limit t n (is ++ js) rest items
+    → (p : Passes catalog limit t m is (items_then js rest) items) → Passes catalog limit t n js rest p.later → Passes catalog limit t n (is ++ js) rest items
 both_pass catalog limit t m n is js rest items p q = record {
   later = q.later;
   goes_on = q.goes_on;
@@ -146,7 +147,7 @@ both_pass catalog limit t m n is js rest items p q = record {
 
 -- nothing stands in front
 no_items : (catalog : List Shared) (limit : ℕ) (t : Table) (n : ℕ) (rest : Reading) (items : List PlacedItem) → sees catalog limit t n rest
-    ≡ behind items Finished → Passes catalog limit t n [] rest items
+    ≡ items_then items Finished → Passes catalog limit t n [] rest items
 no_items catalog limit t n rest items e = record { later = items; goes_on = e; items_are = refl; checks = tt }
 
 -- the same at an equal number of open containers
@@ -167,29 +168,29 @@ content_passes catalog limit t n top k members last rest items p =
 container_passes : (catalog : List Shared) (limit : ℕ) (t : Table) (n : ℕ) (top : ℕ) (field : Option SymbolAt) (annotations : List SymbolAt) (place : ℕ)
     (k : Kind) (members : Members SymbolAt ℕ) (last : ℕ) (rest : Reading) (items : List PlacedItem)
     → begins_declaration t n (first_of top field annotations place (container k members last)) ≡ false
-    → ((js : List PlacedItem) → sees catalog limit t (suc n) (behind (member_items top members) (More (bare_item value.end last top) rest)) ≡ behind js Finished
+    → ((js : List PlacedItem) → sees catalog limit t (suc n) (items_then (member_items top members) (More (bare_item value.end last top) rest)) ≡ items_then js Finished
     → Passes catalog limit t (suc n) (member_items top members) (More (bare_item value.end last top) rest) js)
-    → sees catalog limit t n (behind (value_items top field annotations place (container k members last)) rest) ≡ behind items Finished
+    → sees catalog limit t n (items_then (value_items top field annotations place (container k members last)) rest) ≡ items_then items Finished
     → Passes catalog limit t n (value_items top field annotations place (container k members last)) rest items
 container_passes catalog limit t n top field annotations place k members last rest items b inside e =
     let p : Passes catalog limit t (suc n) (first_of top field annotations place (container k members last) ∷ [])
-    (behind (content_of top (container k members last)) rest) items
+    (items_then (content_of top (container k members last)) rest) items
     = at_level catalog limit t (n + 1) (suc n) (first_of top field annotations place (container k members last) ∷ [])
-    (behind (content_of top (container k members last)) rest) items (add-one n)
+    (items_then (content_of top (container k members last)) rest) items (add-one n)
     (one_item catalog limit t n (first_of top field annotations place (container k members last))
-    (behind (content_of top (container k members last)) rest) items refl b e) in
+    (items_then (content_of top (container k members last)) rest) items refl b e) in
     let level : suc n - 1 ≡ n = omega arith in
     both_pass catalog limit t (suc n) n (first_of top field annotations place (container k members last) ∷ [])
     (content_of top (container k members last)) rest items p
     (at_level catalog limit t (suc n - 1) n (content_of top (container k members last)) rest p.later level
     (content_passes catalog limit t n top k members last rest p.later
-    (inside p.later (ap (sees catalog limit t (suc n)) (sym (behind_append (member_items top members) (bare_item value.end last top ∷ []) rest)) ∙ p.goes_on))))
+    (inside p.later (ap (sees catalog limit t (suc n)) (sym (items_then-append (member_items top members) (bare_item value.end last top ∷ []) rest)) ∙ p.goes_on))))
 
 -- a value in a container
 mutual
   value_passes : (catalog : List Shared) (limit : ℕ) (t : Table) (n : ℕ) (top : ℕ) (field : Option SymbolAt) (annotations : List SymbolAt) (place : ℕ)
       (x : Value SymbolAt ℕ) (rest : Reading) (items : List PlacedItem)
-      → sees catalog limit t (suc n) (behind (value_items top field annotations place x) rest) ≡ behind items Finished
+      → sees catalog limit t (suc n) (items_then (value_items top field annotations place x) rest) ≡ items_then items Finished
       → Passes catalog limit t (suc n) (value_items top field annotations place x) rest items
   value_passes catalog limit t n top field annotations place (scalar body) rest items e =
       one_item catalog limit t (suc n) (first_of top field annotations place (scalar body)) rest items refl (not_at_top n false) e
@@ -198,13 +199,13 @@ mutual
       (λ js h. members_pass catalog limit t (suc n) top members (More (bare_item value.end last top) rest) js h) e
 
   pub members_pass : (catalog : List Shared) (limit : ℕ) (t : Table) (n : ℕ) (top : ℕ) (members : Members SymbolAt ℕ) (rest : Reading) (items : List PlacedItem)
-      → sees catalog limit t (suc n) (behind (member_items top members) rest) ≡ behind items Finished
+      → sees catalog limit t (suc n) (items_then (member_items top members) rest) ≡ items_then items Finished
       → Passes catalog limit t (suc n) (member_items top members) rest items
   members_pass catalog limit t n top nothing rest items e = no_items catalog limit t (suc n) rest items e
   members_pass catalog limit t n top (member before field annotations place x) rest items e =
-      let p : Passes catalog limit t (suc n) (member_items top before) (behind (value_items top field annotations place x) rest) items
-      = members_pass catalog limit t n top before (behind (value_items top field annotations place x) rest) items
-      (ap (sees catalog limit t (suc n)) (sym (behind_append (member_items top before) (value_items top field annotations place x) rest)) ∙ e) in
+      let p : Passes catalog limit t (suc n) (member_items top before) (items_then (value_items top field annotations place x) rest) items
+      = members_pass catalog limit t n top before (items_then (value_items top field annotations place x) rest) items
+      (ap (sees catalog limit t (suc n)) (sym (items_then-append (member_items top before) (value_items top field annotations place x) rest)) ∙ e) in
       both_pass catalog limit t (suc n) (suc n) (member_items top before) (value_items top field annotations place x) rest items p
       (value_passes catalog limit t n top field annotations place x rest p.later p.goes_on)
 
@@ -212,7 +213,7 @@ mutual
 top_passes : (catalog : List Shared) (limit : ℕ) (t : Table) (first : ℕ) (annotations : List SymbolAt) (place : ℕ) (x : Value SymbolAt ℕ) (rest : Reading)
     (items : List PlacedItem)
     → begins_declaration t 0 (first_of first None annotations place x) ≡ false
-    → sees catalog limit t 0 (behind (value_items first None annotations place x) rest) ≡ behind items Finished
+    → sees catalog limit t 0 (items_then (value_items first None annotations place x) rest) ≡ items_then items Finished
     → Passes catalog limit t 0 (value_items first None annotations place x) rest items
 top_passes catalog limit t first annotations place (scalar body) rest items b e = one_item catalog limit t 0
     (first_of first None annotations place (scalar body)) rest items refl b e
@@ -222,21 +223,21 @@ top_passes catalog limit t first annotations place (container k members last) re
 
 -- ---- a stream of markers and values
 
--- the items in front are those of the user values, whose symbols stand in their tables, and behind them the reading goes on
+-- the items in front are those of the user values, whose symbols stand in their tables, and after them the reading goes on
 pub record AreRead (catalog : List Shared) (limit : ℕ) (t : Table) (tops : List (Top SymbolAt ℕ)) (ending : Reading) (items : List PlacedItem) : Type 0 where
   pub us : List (Top UserSymbol ℕ)
   pub table : Table
   pub later : List PlacedItem
   pub says : user_tops catalog t tops ≡ Some us
-  pub table_is : table_behind catalog t tops ≡ Some table
-  pub goes_on : sees catalog limit table 0 ending ≡ behind later Finished
+  pub table_is : table_after catalog t tops ≡ Some table
+  pub goes_on : sees catalog limit table 0 ending ≡ items_then later Finished
   pub items_are : map user_item items ≡ top_items us ++ map user_item later
   pub stand : UsersStand catalog t tops
   pub resolved : AreResolved catalog limit t tops
 
 -- they are so from each table on
 abbrev pub TopsAreRead : List Shared → ℕ → List (Top SymbolAt ℕ) → Reading → Type 0
-TopsAreRead catalog limit tops ending = (t : Table) (items : List PlacedItem) → sees catalog limit t 0 (behind (top_items tops) ending) ≡ behind items Finished
+TopsAreRead catalog limit tops ending = (t : Table) (items : List PlacedItem) → sees catalog limit t 0 (items_then (top_items tops) ending) ≡ items_then items Finished
     → AreRead catalog limit t tops ending items
 
 -- a value as a user knows it
@@ -250,16 +251,16 @@ plain_tops : (catalog : List Shared) (t : Table) (first : ℕ) (annotations : Li
     ≡ Some (user_tree t first annotations place x ∷ us)
 plain_tops catalog t first annotations place x tops us none e = rw (none, e, user_tops) refl
 
--- a value that is no declaration, and what is behind it
+-- a value that is no declaration, and what is after it
 plain_read : (catalog : List Shared) (limit : ℕ) (t : Table) (first : ℕ) (annotations : List SymbolAt) (place : ℕ) (x : Value SymbolAt ℕ)
     (tops : List (Top SymbolAt ℕ)) (ending : Reading) (items : List PlacedItem)
     → begins_declaration t 0 (first_of first None annotations place x) ≡ false → declares_table t annotations x ≡ None → TopsAreRead catalog limit tops ending
-    → sees catalog limit t 0 (behind (top_items (tree first annotations place x ∷ tops)) ending) ≡ behind items Finished
+    → sees catalog limit t 0 (items_then (top_items (tree first annotations place x ∷ tops)) ending) ≡ items_then items Finished
     → AreRead catalog limit t (tree first annotations place x ∷ tops) ending items
 plain_read catalog limit t first annotations place x tops ending items b none more e =
-    let p : Passes catalog limit t 0 (value_items first None annotations place x) (behind (top_items tops) ending) items
-    = top_passes catalog limit t first annotations place x (behind (top_items tops) ending) items b
-    (ap (sees catalog limit t 0) (sym (behind_append (value_items first None annotations place x) (top_items tops) ending)) ∙ e) in
+    let p : Passes catalog limit t 0 (value_items first None annotations place x) (items_then (top_items tops) ending) items
+    = top_passes catalog limit t first annotations place x (items_then (top_items tops) ending) items b
+    (ap (sees catalog limit t 0) (sym (items_then-append (value_items first None annotations place x) (top_items tops) ending)) ∙ e) in
     let r : AreRead catalog limit t tops ending p.later = more t p.later p.goes_on in
     let stands = (value-stands t first None annotations place x).0 p.checks in
     let shown : List (Item UserSymbol ℕ) = value_items first None (map (user_at t) annotations) place (map_value (user_at t) (λ (q : ℕ). q) x) in
@@ -268,7 +269,7 @@ plain_read catalog limit t first annotations place x tops ending items b none mo
       table = r.table;
       later = r.later;
       says = plain_tops catalog t first annotations place x tops r.us none r.says;
-      table_is = rw (none, table_behind) r.table_is;
+      table_is = rw (none, table_after) r.table_is;
       goes_on = r.goes_on;
       items_are =
           ap (map user_item) p.items_are
@@ -280,20 +281,20 @@ plain_read catalog limit t first annotations place x tops ending items b none mo
       resolved = rw (none, AreResolved) (stands.1, stands.2, r.resolved);
     }
 
--- a declaration leaves its table to those behind it
+-- a declaration leaves its table to those after it
 declared_tops : (catalog : List Shared) (t u : Table) (first : ℕ) (annotations : List SymbolAt) (place : ℕ) (x : Value SymbolAt ℕ) (members : Members SymbolAt ℕ)
     (tops : List (Top SymbolAt ℕ))
     → declares_table t annotations x ≡ Some members → next_table catalog (text_at t) t members ≡ Some u → user_tops catalog t (tree first annotations place x ∷ tops)
     ≡ user_tops catalog u tops
 declared_tops catalog t u first annotations place x members tops declares e = rw (declares, e, user_tops) refl
 
--- a declaration, and what is behind it
+-- a declaration, and what is after it
 by_declared_read : WhatIsDeclared
     → (catalog : List Shared) (limit : ℕ) (t : Table) (first : ℕ) (annotations : List SymbolAt) (place : ℕ) (x : Value SymbolAt ℕ) (members : Members SymbolAt ℕ)
     (tops : List (Top SymbolAt ℕ)) (ending : Reading) (items : List PlacedItem) (d : Result Table (Reason × ℕ))
     → declared (record { catalog = catalog; limit = limit; old = t }) first members ≡ d
     → declares_table t annotations x ≡ Some members → (AnyAbove t annotations → ⊥) → TopsAreRead catalog limit tops ending
-    → by_declared d (λ u. sees catalog limit u 0 (behind (top_items tops) ending)) ≡ behind items Finished
+    → by_declared d (λ u. sees catalog limit u 0 (items_then (top_items tops) ending)) ≡ items_then items Finished
     → AreRead catalog limit t (tree first annotations place x ∷ tops) ending items
 by_declared_read what catalog limit t first annotations place x members tops ending items (Ok u) is declares below more e =
     let r : AreRead catalog limit u tops ending items = more u items e in
@@ -303,7 +304,7 @@ by_declared_read what catalog limit t first annotations place x members tops end
       table = r.table;
       later = r.later;
       says = declared_tops catalog t u first annotations place x members tops declares next ∙ r.says;
-      table_is = rw (declares, next, table_behind) r.table_is;
+      table_is = rw (declares, next, table_after) r.table_is;
       goes_on = r.goes_on;
       items_are = r.items_are;
       stand = rw (declares, next, UsersStand) r.stand;
@@ -313,14 +314,14 @@ by_declared_read what catalog limit t first annotations place x members tops end
 
 -- a declaration's first item is checked
 pub begun : (catalog : List Shared) (limit : ℕ) (t : Table) (c : Checked) (rest : Reading) (items : List PlacedItem)
-    → by_step (after_check c (GoesOn (record { table = t; mode = declaring start }))) (λ s. users catalog limit s rest) ≡ behind items Finished
-    → users catalog limit (record { table = t; mode = declaring start }) rest ≡ behind items Finished
+    → by_step (after_check c (GoesOn (record { table = t; mode = declaring start }))) (λ s. users catalog limit s rest) ≡ items_then items Finished
+    → users catalog limit (record { table = t; mode = declaring start }) rest ≡ items_then items Finished
 begun catalog limit t fine rest items e = e
 begun catalog limit t (bad reason place) rest items e = absurd (not_stopped reason place items e)
 
 -- and found fine
 begun_fine : (catalog : List Shared) (limit : ℕ) (t : Table) (c : Checked) (rest : Reading) (items : List PlacedItem)
-    → by_step (after_check c (GoesOn (record { table = t; mode = declaring start }))) (λ s. users catalog limit s rest) ≡ behind items Finished
+    → by_step (after_check c (GoesOn (record { table = t; mode = declaring start }))) (λ s. users catalog limit s rest) ≡ items_then items Finished
     → c ≡ fine
 begun_fine catalog limit t fine rest items e = refl
 begun_fine catalog limit t (bad reason place) rest items e = absurd (not_stopped reason place items e)
@@ -329,15 +330,15 @@ begun_fine catalog limit t (bad reason place) rest items e = absurd (not_stopped
 struct_read : WhatIsDeclared → (catalog : List Shared) (limit : ℕ) (t : Table) (first : ℕ) (s : SymbolAt) (annotations : List SymbolAt) (place : ℕ)
     (members : Members SymbolAt ℕ) (last : ℕ) (tops : List (Top SymbolAt ℕ)) (ending : Reading) (items : List PlacedItem) (b : Bool)
     → is_declaration (word_in (text_at t) s.symbol) ≡ b → TopsAreRead catalog limit tops ending
-    → sees catalog limit t 0 (behind (top_items (tree first (s ∷ annotations) place (container kind.Struct members last) ∷ tops)) ending) ≡ behind items Finished
+    → sees catalog limit t 0 (items_then (top_items (tree first (s ∷ annotations) place (container kind.Struct members last) ∷ tops)) ending) ≡ items_then items Finished
     → AreRead catalog limit t (tree first (s ∷ annotations) place (container kind.Struct members last) ∷ tops) ending items
 struct_read what catalog limit t first s annotations place members last tops ending items false is more e =
     plain_read catalog limit t first (s ∷ annotations) place (container kind.Struct members last) tops ending items is (rw is refl) more e
 struct_read what catalog limit t first s annotations place members last tops ending items true is more e =
-    let rest : Reading = behind (top_items tops) ending in
+    let rest : Reading = items_then (top_items tops) ending in
     let f : PlacedItem = first_of first None (s ∷ annotations) place (container kind.Struct members last) in
-    let more_items : Reading = behind (content_of first (container kind.Struct members last) ++ top_items tops) ending in
-    let begins : users catalog limit (record { table = t; mode = declaring start }) more_items ≡ behind items Finished
+    let more_items : Reading = items_then (content_of first (container kind.Struct members last) ++ top_items tops) ending in
+    let begins : users catalog limit (record { table = t; mode = declaring start }) more_items ≡ items_then items Finished
     = begun catalog limit t (checked t false f) more_items items (rw is at e) in
     let is_fine : checked t false f ≡ fine = begun_fine catalog limit t (checked t false f) more_items items (rw is at e) in
     by_declared_read what catalog limit t first (s ∷ annotations) place (container kind.Struct members last) members tops ending items
@@ -345,12 +346,12 @@ struct_read what catalog limit t first s annotations place members last tops end
     ((begins_fine t first (s ∷ annotations) place kind.Struct members last).0 is_fine) more
     (sym (declarations_are_read catalog limit t first last members rest)
     ∙ (ap (users catalog limit (record { table = t; mode = declaring start }))
-    (sym (behind_append (content_of first (container kind.Struct members last)) (top_items tops) ending)) ∙ begins))
+    (sym (items_then-append (content_of first (container kind.Struct members last)) (top_items tops) ending)) ∙ begins))
 
--- a value, and what is behind it
+-- a value, and what is after it
 tree_read : WhatIsDeclared → (catalog : List Shared) (limit : ℕ) (t : Table) (first : ℕ) (annotations : List SymbolAt) (place : ℕ) (x : Value SymbolAt ℕ)
     (tops : List (Top SymbolAt ℕ)) (ending : Reading) (items : List PlacedItem)
-    → TopsAreRead catalog limit tops ending → sees catalog limit t 0 (behind (top_items (tree first annotations place x ∷ tops)) ending) ≡ behind items Finished
+    → TopsAreRead catalog limit tops ending → sees catalog limit t 0 (items_then (top_items (tree first annotations place x ∷ tops)) ending) ≡ items_then items Finished
     → AreRead catalog limit t (tree first annotations place x ∷ tops) ending items
 tree_read what catalog limit t first [] place (scalar body) tops ending items more e = plain_read catalog limit t first [] place
     (scalar body) tops ending items refl refl more e
@@ -389,8 +390,8 @@ tops_are_read what catalog limit (value.version place ∷ tops) ending t items e
 tops_are_read what catalog limit (tree first annotations place x ∷ tops) ending t items e =
     tree_read what catalog limit t first annotations place x tops ending items (tops_are_read what catalog limit tops ending) e
 
--- nothing is behind the end
-pub none_later : (items : List PlacedItem) → Finished ≡ behind items Finished → items ≡ []
+-- nothing is after the end
+pub none_later : (items : List PlacedItem) → Finished ≡ items_then items Finished → items ≡ []
 none_later [] e = refl
 none_later (i ∷ is) e = absurd (cc)
 

@@ -61,8 +61,8 @@ module _ (P : List ℕ → Type 0) (standard : SlotsHave P system_slots) where
   abbrev FromEach : List Shared → List (Top SymbolAt ℕ) → Type 0
   FromEach catalog tops = (t : Table) → TableHas P t → IfSome (user_tops catalog t tops) TopsHave
 
-  -- a value, and what is behind it, by what it declares
-  tree-behind : (catalog : List Shared) (t : Table) (first : ℕ) (annotations : List SymbolAt) (place : ℕ) (x : Value SymbolAt ℕ)
+  -- a value, and what is after it, by what it declares
+  tree-after : (catalog : List Shared) (t : Table) (first : ℕ) (annotations : List SymbolAt) (place : ℕ) (x : Value SymbolAt ℕ)
       (tops : List (Top SymbolAt ℕ)) (declares : Option (Members SymbolAt ℕ))
       → CatalogHas P catalog → TableHas P t → TopHas P (tree first annotations place x) → IfSome declares (MembersHave P)
       → FromEach catalog tops
@@ -70,14 +70,14 @@ module _ (P : List ℕ → Type 0) (standard : SlotsHave P system_slots) where
         | Some members ↦ elim (next_table catalog (text_at t) t members) [ None ↦ None | Some u ↦ user_tops catalog u tops ]
         | None ↦ option_map (λ us. user_tree t first annotations place x ∷ us) (user_tops catalog t tops)
       ]) TopsHave
-  tree-behind catalog t first annotations place x tops (Some members) c texts h strings later =
+  tree-after catalog t first annotations place x tops (Some members) c texts h strings later =
       by (next_table catalog (text_at t) t members) (next_table-has P catalog (text_at t) t members c texts strings)
     where
       by : (next : Option Table) → IfSome next (TableHas P)
           → IfSome (elim next [ None ↦ None | Some u ↦ user_tops catalog u tops ]) TopsHave
       by None h = tt
       by (Some u) h = later u h
-  tree-behind catalog t first annotations place x tops None c texts h strings later = by (user_tops catalog t tops) (later t texts)
+  tree-after catalog t first annotations place x tops None c texts h strings later = by (user_tops catalog t tops) (later t texts)
     where
       by : (others : Option (List (Top UserSymbol ℕ))) → IfSome others TopsHave
           → IfSome (option_map (λ us. user_tree t first annotations place x ∷ us) others) TopsHave
@@ -89,7 +89,7 @@ module _ (P : List ℕ → Type 0) (standard : SlotsHave P system_slots) where
   tops-have catalog [] c h t texts = tt
   tops-have catalog (version place ∷ tops) c h t texts = tops-have catalog tops c h.1 system (system-has P)
   tops-have catalog (tree first annotations place x ∷ tops) c h t texts =
-      tree-behind catalog t first annotations place x tops (declares_table t annotations x) c texts h.0
+      tree-after catalog t first annotations place x tops (declares_table t annotations x) c texts h.0
       (declares_table-has t annotations x h.0.0) (tops-have catalog tops c h.1)
 
 -- ---- how long they are

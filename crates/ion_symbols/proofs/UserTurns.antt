@@ -56,7 +56,7 @@ pub item_refused : (catalog : List Shared) (limit : ℕ) (t : Table) (n : ℕ) (
 item_refused catalog limit t n i j r rest fault reason place e same marker begins says is =
     rw (e, marker, begins, sym same, is_bad (checked t true j) fault reason place says is) refl
 
--- how many containers are open behind an item
+-- how many containers are open after an item
 pub level_opens : (count n : ℕ) (before after : List Kind) (h : Head SymbolAt)
     → n ≡ length before → count ≡ level_after n h → after ≡ open_after before h → count ≡ length after
 level_opens count n before after (value.whole body) e k o = k ∙ (e ∙ sym (ap length o))

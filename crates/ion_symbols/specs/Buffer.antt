@@ -146,7 +146,7 @@ pub record CanTake {A : Type 0} (most : ℕ) (now : Present) (b : SymbolBuffer A
   pub small : most ≤ 2 ^ 30
   pub pending : IsPending most now.table b
 
--- a table that was read can be put in place of the present one, or behind it
+-- a table that was read can be put in place of the present one, or after it
 pub record CanInstall {A : Type 0} (most : ℕ) (now : Present) (b : SymbolBuffer A) (meter : Counts) : Type 0 where
   pub room : meter.held ≤ 2 ^ 62
   pub held : table_cost now.table + own_of b ≤ meter.held

@@ -8,7 +8,7 @@ use Rattle.ion_meter.specs.declared.fault.Fault.TheVariants.{Refused, Memory, Re
 use Rattle.ion_meter.specs.declared.limits.Limits.{Limits}
 use Rattle.ion_value.specs.Value.{UserSymbol, PlacedItem, user_items}
 use Rattle.ion_value.specs.Shares.{Charges, MemoryCauses, fault_of}
-use Rattle.ion_value.specs.Standing.{open_behind, WritesWithin}
+use Rattle.ion_value.specs.Standing.{open_after_all, WritesWithin}
 use Rattle.ion_symbols.specs.Table.{catalog_cost, shared_cost}
 use Rattle.ion_symbols.specs.Buffer.{field_value_of}
 use Rattle.ion_symbols.specs.CatalogItems.{EntryView, names_shared, Draft, name_cost, counted, Loading, Loaded, loaded, nothing_loaded}
@@ -73,7 +73,7 @@ level_of s = stage_level s.stage + s.inside
 pub record HasRead {A : Type 0} (b : CatalogBuilder A) (path : List PlacedItem) : Type 0 where
   pub well : b.failed ≡ None
   pub read : loaded b.limits.symbols (user_items path) ≡ Ok (loading_of b)
-  pub level : level_of (loading_of b) ≡ length (open_behind [] path)
+  pub level : level_of (loading_of b) ≡ length (open_after_all [] path)
   pub deep : level_of (loading_of b) ≤ b.limits.depth
 
 -- ---- calls

@@ -82,8 +82,8 @@ abbrev pub blank : Shared
 blank = record { name = []; version = 1; slots = [] }
 
 -- a draft of whole tables, where nothing was read of another
-abbrev pub behind_tables : List Shared → Draft
-behind_tables tables = record { tables = tables; has_version = false; has_symbols = false; table = blank }
+abbrev pub after_tables : List Shared → Draft
+after_tables tables = record { tables = tables; has_version = false; has_symbols = false; table = blank }
 
 -- a draft, or a reason and a place
 abbrev pub Drafted : Type 0
@@ -133,7 +133,7 @@ symbols_met top d = if d.has_symbols then Err (CatalogEntry, top) else Ok (recor
 
 -- the table's struct ends
 abbrev pub table_ended : ℕ → Draft → Drafted
-table_ended top d = if may_stand d.tables d.table then Ok (behind_tables (d.tables ++ d.table ∷ [])) else Err (CatalogEntry, top)
+table_ended top d = if may_stand d.tables d.table then Ok (after_tables (d.tables ++ d.table ∷ [])) else Err (CatalogEntry, top)
 
 -- ---- item by item
 
@@ -229,7 +229,7 @@ load_from limit s (i ∷ is) = and_load (load_step limit s (entry_view i)) (λ t
 
 -- a catalogue of which nothing was read
 abbrev pub nothing_loaded : Loading
-nothing_loaded = at stage.Outside (behind_tables [])
+nothing_loaded = at stage.Outside (after_tables [])
 
 -- what items lead to, from the first of a stream on
 abbrev pub loaded : ℕ → List (Item UserSymbol ℕ) → Loaded
@@ -240,6 +240,6 @@ abbrev pub why_not : Loaded → Option (Reason × ℕ)
 why_not (Ok s) = None
 why_not (Err why) = Some why
 
--- why an item behind others is refused in a catalogue, and where
+-- why an item after others is refused in a catalogue, and where
 abbrev pub catalog_refusal : Limits → List PlacedItem → PlacedItem → Option (Reason × ℕ)
 catalog_refusal limits path item = why_not (loaded limits.symbols (user_items (path ++ item ∷ [])))

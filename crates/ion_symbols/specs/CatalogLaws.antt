@@ -7,14 +7,14 @@ use Rattle.ion_value.specs.declared.ion_type.Kind.TheVariants as kind
 use Rattle.ion_value.specs.Value.{UserSymbol, container, Top, version, tree, top_items}
 use Rattle.ion_symbols.specs.declared.catalog_builder.Stage.TheVariants as stage
 use Rattle.ion_symbols.specs.Table.{Shared, slots_cost, catalog_cost}
-use Rattle.ion_symbols.specs.CatalogItems.{behind_tables, name_cost, at, then_load, loaded}
+use Rattle.ion_symbols.specs.CatalogItems.{after_tables, name_cost, at, then_load, loaded}
 use Rattle.ion_symbols.specs.CatalogTrees.{shared_in, shared_of, add_table, tops_drafted, tables_of, catalog_of}
 use Rattle.ion_symbols.specs.UserValues.{IsUser, CatalogIsText}
 
 -- the items of whole values lead to what their trees give: the same tables, or the same reason and place
 abbrev pub CatalogsAreRead : Type 0
 CatalogsAreRead =
-    (limit : ℕ) (us : List (Top UserSymbol ℕ)) → loaded limit (top_items us) ≡ then_load (tops_drafted limit us (behind_tables [])) (λ d. Ok (at stage.Outside d))
+    (limit : ℕ) (us : List (Top UserSymbol ℕ)) → loaded limit (top_items us) ≡ then_load (tops_drafted limit us (after_tables [])) (λ d. Ok (at stage.Outside d))
 
 -- and what they give without a fault are the tables of the values, within the limit; values that are such tables are without a fault
 abbrev pub CatalogsAreTables : Type 0
@@ -32,7 +32,7 @@ abbrev pub entry_cost : Top UserSymbol ℕ → ℕ
 entry_cost (tree first annotations place (container kind.Struct members last)) = name_cost (shared_in members).name + slots_cost (shared_in members).slots
 entry_cost _ = 0
 
--- behind tables a value is refused where it begins, if it is no table or its table may not stand there; or its name and slots cost more than the
+-- after tables a value is refused where it begins, if it is no table or its table may not stand there; or its name and slots cost more than the
 -- limit with them
 pub data EntryAtFault (limit : ℕ) (tables : List Shared) (u : Top UserSymbol ℕ) (place : ℕ) : Reason → Type 0 where
   no_table : place ≡ top_place u → add_table tables (shared_of u) ≡ None → EntryAtFault limit tables u place CatalogEntry

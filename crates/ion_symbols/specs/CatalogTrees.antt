@@ -10,7 +10,7 @@ use Rattle.ion_symbols.specs.declared.known_text.Word.TheVariants as word
 use Rattle.ion_symbols.specs.Table.{Slots, Shared, may_stand}
 use Rattle.ion_symbols.specs.Declaration.{FieldValue, string_in, version_in}
 use Rattle.ion_symbols.specs.Tree.{same_word, or_later}
-use Rattle.ion_symbols.specs.CatalogItems.{user_field, is_shared, head_seen, Draft, Drafted, behind_tables, within, with_text, name_met, version_met, symbols_met, table_ended}
+use Rattle.ion_symbols.specs.CatalogItems.{user_field, is_shared, head_seen, Draft, Drafted, after_tables, within, with_text, name_met, version_met, symbols_met, table_ended}
 
 -- the head of the first item of a value
 abbrev pub head_of : Value UserSymbol ℕ → Head UserSymbol
@@ -74,7 +74,7 @@ shared_of (tree first annotations place (container kind.Struct members last)) =
     if is_shared annotations && fields_fit members then Some (shared_in members) else None
 shared_of _ = None
 
--- a table more, where it may stand behind the others
+-- a table more, where it may stand after the others
 abbrev pub add_table : List Shared → Option Shared → Option (List Shared)
 add_table tables None = None
 add_table tables (Some s) = if may_stand tables s then Some (tables ++ s ∷ []) else None
@@ -84,14 +84,14 @@ abbrev pub and_tables : Option (List Shared) → (List Shared → Option (List S
 and_tables None later = None
 and_tables (Some tables) later = later tables
 
--- these tables and those of user values behind them; None where a value is no table, or its table may not stand there
-abbrev pub tables_behind : List Shared → List (Top UserSymbol ℕ) → Option (List Shared)
-tables_behind tables [] = Some tables
-tables_behind tables (u ∷ us) = and_tables (add_table tables (shared_of u)) (λ more. tables_behind more us)
+-- these tables and those of user values after them; None where a value is no table, or its table may not stand there
+abbrev pub tables_after : List Shared → List (Top UserSymbol ℕ) → Option (List Shared)
+tables_after tables [] = Some tables
+tables_after tables (u ∷ us) = and_tables (add_table tables (shared_of u)) (λ more. tables_after more us)
 
 -- the catalogue of user values, whatever it costs: the table of each in order; None where one is no table, or its table may not stand there
 abbrev pub tables_of : List (Top UserSymbol ℕ) → Option (List Shared)
-tables_of us = tables_behind [] us
+tables_of us = tables_after [] us
 
 -- ---- the same with every fault, the first of them in order of place
 
@@ -100,18 +100,18 @@ abbrev pub and_draft : Drafted → (Draft → Drafted) → Drafted
 and_draft (Ok d) later = later d
 and_draft (Err why) later = Err why
 
--- the draft behind the elements of `symbols`, or their first fault
+-- the draft after the elements of `symbols`, or their first fault
 abbrev pub elements_drafted : ℕ → Members UserSymbol ℕ → Draft → Drafted
 elements_drafted limit nothing d = Ok d
 elements_drafted limit (member before field annotations place x) d =
     and_draft (elements_drafted limit before d) (λ e. within limit place (with_text (string_in (seen x)) e))
 
--- the draft behind the value of `symbols`: a list has the slots, and anything else means nothing
+-- the draft after the value of `symbols`: a list has the slots, and anything else means nothing
 abbrev pub symbols_drafted : ℕ → Value UserSymbol ℕ → Draft → Drafted
 symbols_drafted limit (container kind.List members last) d = elements_drafted limit members d
 symbols_drafted limit _ d = Ok d
 
--- the draft behind a field of a table, by the place of its top-level value, that of its value, its value and its word
+-- the draft after a field of a table, by the place of its top-level value, that of its value, its value and its word
 abbrev pub field_drafted : ℕ → ℕ → ℕ → Value UserSymbol ℕ → Draft → Word → Drafted
 field_drafted limit top place x d word.Name = name_met limit place top (seen x) d
 field_drafted limit top place x d word.Version = version_met top (seen x) d
@@ -121,13 +121,13 @@ field_drafted limit top place x d word.MaxId = Ok d
 field_drafted limit top place x d word.Declaration = Ok d
 field_drafted limit top place x d word.Other = Ok d
 
--- the draft behind the fields of a table, or their first fault
+-- the draft after the fields of a table, or their first fault
 abbrev pub fields_drafted : ℕ → ℕ → Members UserSymbol ℕ → Draft → Drafted
 fields_drafted limit top nothing d = Ok d
 fields_drafted limit top (member before field annotations place x) d =
     and_draft (fields_drafted limit top before d) (λ e. field_drafted limit top place x e (user_field field))
 
--- the draft behind a value at top level, which has to be a table, or its first fault
+-- the draft after a value at top level, which has to be a table, or its first fault
 abbrev pub top_drafted : ℕ → Top UserSymbol ℕ → Draft → Drafted
 top_drafted limit (tree first annotations place (container kind.Struct members last)) d =
     if is_shared annotations then and_draft (fields_drafted limit first members d) (λ e. table_ended first e) else Err (CatalogEntry, first)
@@ -136,7 +136,7 @@ top_drafted limit (tree first annotations place (container kind.Sexp members las
 top_drafted limit (tree first annotations place (scalar body)) d = Err (CatalogEntry, first)
 top_drafted limit (version place) d = Err (CatalogEntry, place)
 
--- the draft behind values at top level, or their first fault
+-- the draft after values at top level, or their first fault
 abbrev pub tops_drafted : ℕ → List (Top UserSymbol ℕ) → Draft → Drafted
 tops_drafted limit [] d = Ok d
 tops_drafted limit (u ∷ us) d = and_draft (top_drafted limit u d) (λ e. tops_drafted limit us e)
@@ -148,4 +148,4 @@ drafted_tables (Err why) = Err why
 
 -- the catalogue of user values under a limit, or its first fault
 abbrev pub catalog_of : ℕ → List (Top UserSymbol ℕ) → Result (List Shared) (Reason × ℕ)
-catalog_of limit us = drafted_tables (tops_drafted limit us (behind_tables []))
+catalog_of limit us = drafted_tables (tops_drafted limit us (after_tables []))

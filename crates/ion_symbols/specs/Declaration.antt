@@ -122,7 +122,7 @@ add_cost limit place cost count p =
     then Ok (record p { cost = p.cost + cost; count = p.count + count })
     else Err (SymbolLimit, place)
 
--- the table that a declaration leaves: behind the present one where that is kept
+-- the table that a declaration leaves: after the present one where that is kept
 abbrev pub next : Table → Pending → Table
 next old p =
     if p.keeps then record { imports = old.imports; locals = old.locals ++ p.locals }
@@ -218,7 +218,7 @@ pub record Declaring : Type 0 where
 abbrev pub at : Area → Pending → Declaring
 at area p = record { area = area; inside = 0; pending = p }
 
--- a declaration of which nothing was read, behind the beginning of its struct
+-- a declaration of which nothing was read, after the beginning of its struct
 abbrev pub start : Declaring
 start = at area.Fields nothing_yet
 

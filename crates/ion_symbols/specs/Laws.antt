@@ -7,7 +7,7 @@ use Rattle.ion_value.specs.declared.ion_type.Kind.TheVariants as kind
 use Rattle.ion_value.specs.Value as value
 use Rattle.ion_value.specs.Value.{Symbol, SymbolAt, UserSymbol, Scalar, Value, Members, container, nothing, member, Top, PlacedItem, bare_item, map_members, member_items, top_items, user_item}
 use Rattle.ion_value.specs.Path.{Nest, outermost, inner, opened, path_items}
-use Rattle.ion_value.specs.Reading.{Reading, Finished, Stopped, More, Leaves, items_of, behind}
+use Rattle.ion_value.specs.Reading.{Reading, Finished, Stopped, More, Leaves, items_of, items_then}
 use Rattle.ion_value.specs.Standing.{is_marker}
 use Rattle.ion_symbols.specs.declared.known_text.Word.{Word}
 use Rattle.ion_symbols.specs.declared.known_text.Word.TheVariants as word
@@ -17,7 +17,7 @@ use Rattle.ion_symbols.specs.Declaration.{Ground, Declaring, start, turn, stop, 
 use Rattle.ion_symbols.specs.Users.{users, user_step, begins_declaration, State, Mode, plain, declaring, at_start}
 use Rattle.ion_symbols.specs.Tree.{same_word, value_of, elements, value_import, next_table, declared, declares_table, user_at, user_tops}
 
--- the user items behind a declaration, or its fault
+-- the user items after a declaration, or its fault
 abbrev pub by_declared : Result Table (Reason × ℕ) → (Table → Reading) → Reading
 by_declared (Ok t) later = later t
 by_declared (Err why) later = Stopped why.0 why.1
@@ -26,7 +26,7 @@ by_declared (Err why) later = Stopped why.0 why.1
 abbrev pub DeclarationsAreRead : Type 0
 DeclarationsAreRead =
     (catalog : List Shared) (limit : ℕ) (old : Table) (top last : ℕ) (members : Members SymbolAt ℕ) (rest : Reading)
-    → users catalog limit (record { table = old; mode = declaring start }) (behind (member_items top members ++ bare_item value.end last top ∷ []) rest)
+    → users catalog limit (record { table = old; mode = declaring start }) (items_then (member_items top members ++ bare_item value.end last top ∷ []) rest)
     ≡ by_declared (declared (record { catalog = catalog; limit = limit; old = old }) top members) (λ t. users catalog limit (record { table = t; mode = plain 0 }) rest)
 
 -- the table that a declaration leaves is the one that it says
@@ -188,17 +188,17 @@ WhatIsAccepted = (g : Ground) (top : ℕ) (members : Members SymbolAt ℕ) (t : 
 abbrev pub UsersAreRead : Type 0
 UsersAreRead =
     (catalog : List Shared) (limit : ℕ) (tops : List (Top SymbolAt ℕ)) (items : List PlacedItem)
-    → users catalog limit at_start (behind (top_items tops) Finished) ≡ behind items Finished
+    → users catalog limit at_start (items_then (top_items tops) Finished) ≡ items_then items Finished
     → (us : List (Top UserSymbol ℕ)) × (user_tops catalog system tops ≡ Some us) × (map user_item items ≡ top_items us)
 
--- the table behind version markers and values; None where a declaration has no next table
-abbrev pub table_behind : List Shared → Table → List (Top SymbolAt ℕ) → Option Table
-table_behind catalog t [] = Some t
-table_behind catalog t (value.version place ∷ tops) = table_behind catalog system tops
-table_behind catalog t (value.tree first annotations place x ∷ tops) =
+-- the table after version markers and values; None where a declaration has no next table
+abbrev pub table_after : List Shared → Table → List (Top SymbolAt ℕ) → Option Table
+table_after catalog t [] = Some t
+table_after catalog t (value.version place ∷ tops) = table_after catalog system tops
+table_after catalog t (value.tree first annotations place x ∷ tops) =
     elim (declares_table t annotations x) [
-      | Some members ↦ elim (next_table catalog (text_at t) t members) [ None ↦ None | Some u ↦ table_behind catalog u tops ]
-      | None ↦ table_behind catalog t tops
+      | Some members ↦ elim (next_table catalog (text_at t) t members) [ None ↦ None | Some u ↦ table_after catalog u tops ]
+      | None ↦ table_after catalog t tops
     ]
 
 -- open containers with other symbols
@@ -217,8 +217,8 @@ open_declaration t (inner around field annotations place kind members) = open_de
 abbrev pub OpenUsersAreRead : Type 0
 OpenUsersAreRead =
     (catalog : List Shared) (limit : ℕ) (tops : List (Top SymbolAt ℕ)) (first : ℕ) (nest : Nest SymbolAt ℕ) (items : List PlacedItem)
-    → users catalog limit at_start (behind (path_items (opened tops first nest)) Finished) ≡ behind items Finished
-    → (us : List (Top UserSymbol ℕ)) × (t : Table) × (user_tops catalog system tops ≡ Some us) × (table_behind catalog system tops ≡ Some t)
+    → users catalog limit at_start (items_then (path_items (opened tops first nest)) Finished) ≡ items_then items Finished
+    → (us : List (Top UserSymbol ℕ)) × (t : Table) × (user_tops catalog system tops ≡ Some us) × (table_after catalog system tops ≡ Some t)
     × (open_declaration t nest ≡ None → map user_item items ≡ path_items (opened us first (map_nest (user_at t) nest)))
     × ((members : Members SymbolAt ℕ) → open_declaration t nest ≡ Some members → map user_item items ≡ top_items us)
 
@@ -276,7 +276,7 @@ UsersStand catalog t (value.tree first annotations place x ∷ tops) =
 abbrev pub SymbolsStand : Type 0
 SymbolsStand =
     (catalog : List Shared) (limit : ℕ) (tops : List (Top SymbolAt ℕ)) (items : List PlacedItem)
-    → users catalog limit at_start (behind (top_items tops) Finished) ≡ behind items Finished
+    → users catalog limit at_start (items_then (top_items tops) Finished) ≡ items_then items Finished
     → UsersStand catalog system tops
 
 -- ---- why a user item is refused
@@ -320,13 +320,13 @@ pub data AreTaken (catalog : List Shared) (limit : ℕ) : State → List PlacedI
   one : (s after end : State) (i : PlacedItem) (is : List PlacedItem) → Leaves (user_step catalog limit s i) after
       → AreTaken catalog limit after is end → AreTaken catalog limit s (i ∷ is) end
 
--- a raw item is refused, behind others that are taken in
+-- a raw item is refused, after others that are taken in
 pub record AtItem (catalog : List Shared) (limit : ℕ) (s : State) (raw : Reading) (reason : Reason) (place : ℕ) : Type 0 where
   pub before : List PlacedItem
   pub item : PlacedItem
   pub rest : Reading
   pub state : State
-  pub raw_is : raw ≡ behind before (More item rest)
+  pub raw_is : raw ≡ items_then before (More item rest)
   pub taken : AreTaken catalog limit s before state
   pub refused : IsRefused catalog limit state.table item reason place state.mode
 
@@ -334,5 +334,5 @@ pub record AtItem (catalog : List Shared) (limit : ℕ) (s : State) (raw : Readi
 abbrev pub WhyUsersStop : Type 0
 WhyUsersStop =
     (catalog : List Shared) (limit : ℕ) (raw : Reading) (items : List PlacedItem) (reason : Reason) (place : ℕ)
-    → users catalog limit at_start raw ≡ behind items (Stopped reason place)
-    → (raw ≡ behind (items_of raw) (Stopped reason place)) ⊎ AtItem catalog limit at_start raw reason place
+    → users catalog limit at_start raw ≡ items_then items (Stopped reason place)
+    → (raw ≡ items_then (items_of raw) (Stopped reason place)) ⊎ AtItem catalog limit at_start raw reason place

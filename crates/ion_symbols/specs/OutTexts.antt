@@ -3,7 +3,7 @@ use Rattle.std.specs.Prelude.{◌≡◌, ℕ, zero, suc, ◌+◌, ◌/◌, ◌%�
 use Rattle.ion_symbols.specs.declared.ordered.Place.{Place}
 use Rattle.ion_symbols.specs.declared.out_texts.OutTexts.{OutTexts}
 use Rattle.ion_symbols.specs.declared.out_texts.Spot.{Spot}
-use Rattle.ion_symbols.specs.declared.out_texts.Spot.TheVariants.{InOrder, First, Behind}
+use Rattle.ion_symbols.specs.declared.out_texts.Spot.TheVariants.{InOrder, First, After}
 use Rattle.ion_symbols.specs.declared.out_texts.Sought.{Sought}
 use Rattle.ion_symbols.specs.declared.out_texts.Sought.TheVariants.{At, Free, TooFar}
 use Rattle.ion_symbols.specs.Hash.{hash_of, bucket_in, digits_in}
@@ -14,7 +14,7 @@ use Rattle.ion_symbols.specs.Ordered.{Follow, Orders, in_order, texts_in}
 abbrev pub texts_of : {A : Type 0} → OutTexts A → List (List ℕ)
 texts_of k = texts_in k.bytes k.places.items
 
--- each stands behind the one before it, no two are alike, and none is of the system table
+-- each stands after the one before it, no two are alike, and none is of the system table
 pub record AreDistinct (bytes : List ℕ) (places : List Place) : Type 0 where
   pub follow : Follow 0 places (length bytes)
   pub few : length places < 2 ^ 31
@@ -62,7 +62,7 @@ pub record AreKept {A : Type 0} (k : OutTexts A) : Type 0 where
   pub links : k.is_ordered ≡ false → AreLinked (texts_of k) (firsts k.places.items) k.ids.items k.buckets
 
 -- where it is linked from there a text is come to
-pub record IsBehind {A : Type 0} (k : OutTexts A) (t : List ℕ) (number digits : ℕ) : Type 0 where
+pub record IsAfter {A : Type 0} (k : OutTexts A) (t : List ℕ) (number digits : ℕ) : Type 0 where
   pub linked : k.is_ordered ≡ false
   pub within : number < length k.places.items
   pub free : link_of (firsts k.places.items) k.ids.items number digits ≡ 0
@@ -74,7 +74,7 @@ pub record IsBehind {A : Type 0} (k : OutTexts A) (t : List ℕ) (number digits 
 abbrev pub IsSpot : {A : Type 0} → OutTexts A → List ℕ → Spot → Type 0
 IsSpot k t (InOrder place) = (k.is_ordered ≡ true) × Belongs (in_order (texts_of k) k.ids.items) t place
 IsSpot k t First = (k.is_ordered ≡ false) × (slice_index k.buckets (bucket_in (hash_of t)) ≡ 0)
-IsSpot k t (Behind number digits) = IsBehind k t number digits
+IsSpot k t (After number digits) = IsAfter k t number digits
 
 -- what is found by the links is right
 abbrev pub Seeks : {A : Type 0} → OutTexts A → List ℕ → Sought → Type 0
@@ -88,9 +88,9 @@ Seeks k t TooFar = position (texts_of k) t ≡ None
 abbrev pub entry_at : Spot → ℕ → ℕ × ℕ
 entry_at (InOrder place) number = (place, number)
 entry_at First number = (number, 0)
-entry_at (Behind other digits) number = (number, 0)
+entry_at (After other digits) number = (number, 0)
 
--- a text was put behind the others, at a spot where it is not linked yet
+-- a text was put after the others, at a spot where it is not linked yet
 pub record CanLink {A : Type 0} (now : OutTexts A) (t : List ℕ) (spot : Spot) : Type 0 where
   pub before : OutTexts A
   pub kept : AreKept before

@@ -79,7 +79,7 @@ text_cmp s t = slice_cmp nat_cmp s t
 pub record Belongs (texts : List (List ℕ)) (t : List ℕ) (place : ℕ) : Type 0 where
   pub within : place ≤ length texts
   pub before : All (λ s. text_cmp s t ≡ Less) (take place texts)
-  pub behind : All (λ s. text_cmp s t ≡ Greater) (drop place texts)
+  pub after : All (λ s. text_cmp s t ≡ Greater) (drop place texts)
 
 -- one text greater than the other
 abbrev pub Ascend : List (List ℕ) → Type 0
@@ -107,13 +107,13 @@ digits_within (suc most) (suc n) = 1 + digits_within most (suc n / 2)
 abbrev pub binary_digits : ℕ → ℕ
 binary_digits n = digits_within n n
 
--- the probes that follow a comparison: behind the middle, or before it, or none
+-- the probes that follow a comparison: after the middle, or before it, or none
 abbrev pub probes_by : Ordering → ℕ → ℕ → ℕ
-probes_by Less behind before = behind
-probes_by Equal behind before = 0
-probes_by Greater behind before = before
+probes_by Less after before = after
+probes_by Equal after before = 0
+probes_by Greater after before = before
 
--- how often a text is compared among texts in order by halving: with the one in the middle, and then among those behind it or before it
+-- how often a text is compared among texts in order by halving: with the one in the middle, and then among those after it or before it
 abbrev pub probes_within : ℕ → List (List ℕ) → List ℕ → ℕ
 probes_within zero texts t = 0
 probes_within (suc most) [] t = 0

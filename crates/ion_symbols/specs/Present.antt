@@ -33,7 +33,7 @@ imports_in catalog founds = map (import_in catalog) founds
 abbrev pub kept_table : List Shared → List FoundImport → Slots → Table
 kept_table catalog founds slots = record { imports = imports_in catalog founds; locals = slots }
 
--- local slots behind those that are there
+-- local slots after those that are there
 abbrev pub with_locals : Present → Slots → Present
 with_locals p more = record p { table = record p.table { locals = p.table.locals ++ more } }
 

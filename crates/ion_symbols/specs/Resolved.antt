@@ -2,13 +2,13 @@
 use Rattle.std.specs.Prelude.{◌≡◌, ℕ, List, [], ◌∷◌, Some, None, IsOkAnd, ⊤}
 use Rattle.std.specs.List.{AllByRecursion}
 use Rattle.ion_value.specs.Value.{SymbolAt, Top, version, tree, PlacedItem, top_items}
-use Rattle.ion_value.specs.Reading.{Finished, behind}
+use Rattle.ion_value.specs.Reading.{Finished, items_then}
 use Rattle.ion_symbols.specs.Table.{Shared, Table, system}
 use Rattle.ion_symbols.specs.Users.{at_start, users}
 use Rattle.ion_symbols.specs.Tree.{declared, declares_table}
 use Rattle.ion_symbols.specs.Laws.{AnyAbove, Stands, ValueStands}
 
--- from a table on. A declaration has no annotation above the table, and leaves one, by which the values behind it are read; each
+-- from a table on. A declaration has no annotation above the table, and leaves one, by which the values after it are read; each
 -- symbol of any other value stands in the table; a version marker sets it back to the system table
 abbrev pub AreResolved : List Shared → ℕ → Table → List (Top SymbolAt ℕ) → Type 0
 AreResolved catalog limit t [] = ⊤
@@ -26,11 +26,11 @@ AreResolved catalog limit t (tree first annotations place x ∷ tops) =
 abbrev pub WhatIsResolvedIsAccepted : Type 0
 WhatIsResolvedIsAccepted =
     (catalog : List Shared) (limit : ℕ) (tops : List (Top SymbolAt ℕ)) → AreResolved catalog limit system tops
-    → (items : List PlacedItem) × (users catalog limit at_start (behind (top_items tops) Finished) ≡ behind items Finished)
+    → (items : List PlacedItem) × (users catalog limit at_start (items_then (top_items tops) Finished) ≡ items_then items Finished)
 
 -- and no other is
 abbrev pub WhatIsAcceptedIsResolved : Type 0
 WhatIsAcceptedIsResolved =
     (catalog : List Shared) (limit : ℕ) (tops : List (Top SymbolAt ℕ)) (items : List PlacedItem)
-    → users catalog limit at_start (behind (top_items tops) Finished) ≡ behind items Finished
+    → users catalog limit at_start (items_then (top_items tops) Finished) ≡ items_then items Finished
     → AreResolved catalog limit system tops

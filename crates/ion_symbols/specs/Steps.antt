@@ -19,9 +19,9 @@ use Rattle.ion_symbols.specs.declared.buffer.SymbolBuffer.{SymbolBuffer}
 abbrev pub coming_inside : Present → ℕ → Declaring → Reading → Reading
 coming_inside now limit d rest = users now.catalog limit (record { table = now.table; mode = declaring d }) rest
 
--- and behind it, by the table that it leaves
-abbrev pub coming_behind : Present → ℕ → Table → Reading → Reading
-coming_behind now limit t rest = users now.catalog limit (record { table = t; mode = plain 0 }) rest
+-- and after it, by the table that it leaves
+abbrev pub coming_after : Present → ℕ → Table → Reading → Reading
+coming_after now limit t rest = users now.catalog limit (record { table = t; mode = plain 0 }) rest
 
 -- the items of a declaration can be taken in
 pub record CanGather {R A : Type 0} (r : RawReaderOf R A) (most : ℕ) (now : Present) (raw : R) (b : SymbolBuffer A) (meter : Counts) : Type 0 where
@@ -37,7 +37,7 @@ pub record CanGather {R A : Type 0} (r : RawReaderOf R A) (most : ℕ) (now : Pr
 -- what was taken in, and what the user items to come are by it: true where the declaration ended
 pub record GatherGives {R A : Type 0} (r : RawReaderOf R A) (most : ℕ) (now : Present) (old new : SymbolBuffer A) (before after : R) (result : Result Bool Fault) : Type 0 where
   pub gives : r.observable before → result ≡ Ok true
-      → coming_inside now most (declaring_in now old) (r.reading before) ≡ coming_behind now most (table_left now new) (r.reading after)
+      → coming_inside now most (declaring_in now old) (r.reading before) ≡ coming_after now most (table_left now new) (r.reading after)
   pub ends : r.observable before → result ≡ Ok false
       → (coming_inside now most (declaring_in now old) (r.reading before) ≡ Finished) × (r.reading after ≡ Finished)
   pub refuses : r.observable before → r.failed before ≡ None → (reason : Reason) (place : ℕ) → result ≡ Err (Refused reason place)

@@ -35,7 +35,7 @@ pub record Import : Type 0 where
   pub slots : Slots
   pub count : ℕ
 
--- the slots behind the system ones
+-- the slots after the system ones
 pub record Table : Type 0 where
   pub imports : List Import
   pub locals : Slots
@@ -46,11 +46,11 @@ system_slots =
     None ∷ Some (codes "$ion") ∷ Some (codes "$ion_1_0") ∷ Some (codes "$ion_symbol_table") ∷ Some (codes "name") ∷ Some (codes "version")
     ∷ Some (codes "imports") ∷ Some (codes "symbols") ∷ Some (codes "max_id") ∷ Some (codes "$ion_shared_symbol_table") ∷ []
 
--- the symbol table at the beginning of a stream and behind a version marker: the system slots alone
+-- the symbol table at the beginning of a stream and after a version marker: the system slots alone
 abbrev pub system : Table
 system = record { imports = []; locals = [] }
 
--- the most slots behind the system ones: the greatest id is 2^31 - 1
+-- the most slots after the system ones: the greatest id is 2^31 - 1
 abbrev pub most_slots : ℕ
 most_slots = 2147483638
 
@@ -66,12 +66,12 @@ import_slot None = gap
 import_slot (Some None) = gap
 import_slot (Some (Some t)) = known t
 
--- the slot at a place behind the system ones: imports in order, then local slots
+-- the slot at a place after the system ones: imports in order, then local slots
 abbrev pub slot_in : List Import → Slots → ℕ → Slot
 slot_in [] locals place = local_slot (slice_get locals place)
 slot_in (i ∷ is) locals place = if nat_lt place i.count then import_slot (slice_get i.slots place) else slot_in is locals (place - i.count)
 
--- the slot of an id: one of the ten system slots, or one behind them
+-- the slot of an id: one of the ten system slots, or one after them
 abbrev pub slot_of : Table → ℕ → Slot
 slot_of t id = if nat_lt id 10 then local_slot (slice_get system_slots id) else slot_in t.imports t.locals (id - 10)
 
@@ -103,7 +103,7 @@ abbrev pub import_count : List Import → ℕ
 import_count [] = 0
 import_count (i ∷ is) = i.count + import_count is
 
--- how many slots a table has behind the system ones
+-- how many slots a table has after the system ones
 abbrev pub count_of : Table → ℕ
 count_of t = import_count t.imports + length t.locals
 

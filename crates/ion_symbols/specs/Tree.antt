@@ -80,7 +80,7 @@ abbrev pub value_import : List Shared → (ℕ → Option (List ℕ)) → Value 
 value_import catalog texts (container kind.Struct members last) = struct_import catalog texts members
 value_import catalog texts _ = Some []
 
--- imports and those behind them, where neither are missing
+-- imports and those after them, where neither are missing
 abbrev pub both : Option (List Import) → Option (List Import) → Option (List Import)
 both (Some xs) (Some ys) = Some (xs ++ ys)
 both (Some xs) None = None
@@ -139,7 +139,7 @@ head_of (container kind members last) = value.begin kind
 abbrev pub first_of : ℕ → Option SymbolAt → List SymbolAt → ℕ → Value SymbolAt ℕ → PlacedItem
 first_of top field annotations place x = record { field = field; annotations = annotations; head = head_of x; place = place; top = top }
 
--- the items behind it, with the place of their top-level value; a scalar has none
+-- the items after it, with the place of their top-level value; a scalar has none
 abbrev pub content_of : ℕ → Value SymbolAt ℕ → List PlacedItem
 content_of top (scalar body) = []
 content_of top (container kind members last) = member_items top members ++ bare_item value.end last top ∷ []
@@ -152,7 +152,7 @@ check_ignored t top x p = if_fine (items_checked t (content_of top x)) (Ok p)
 abbrev pub element_held : Ground → ℕ → ℕ → Value SymbolAt ℕ → Pending → Held
 element_held g top place x p = and_then (with_slot g place (element x) p) (λ q. check_ignored g.old top x q)
 
--- the pending table behind the elements of `symbols`, or their first fault
+-- the pending table after the elements of `symbols`, or their first fault
 abbrev pub elements_held : Ground → ℕ → Members SymbolAt ℕ → Pending → Held
 elements_held g top nothing p = Ok p
 elements_held g top (member before field annotations place x) p =
@@ -166,7 +166,7 @@ part_held g top place word.Version x p =
 part_held g top place word.MaxId x p = check_ignored g.old top x (cut_to (max_of (Some x)) p)
 part_held g top place _ x p = check_ignored g.old top x p
 
--- the pending table behind the fields of an import, or their first fault
+-- the pending table after the fields of an import, or their first fault
 abbrev pub parts_held : Ground → ℕ → Members SymbolAt ℕ → Pending → Held
 parts_held g top nothing p = Ok p
 parts_held g top (member before field annotations place x) p =
@@ -179,7 +179,7 @@ import_held g top place (container kind.Struct members last) p =
     and_then (parts_held g top members (record p { entry = new_entry place })) (λ q. import_ended g q)
 import_held g top place x p = check_ignored g.old top x p
 
--- the pending table behind the elements of `imports`, or their first fault
+-- the pending table after the elements of `imports`, or their first fault
 abbrev pub imports_held : Ground → ℕ → Members SymbolAt ℕ → Pending → Held
 imports_held g top nothing p = Ok p
 imports_held g top (member before field annotations place x) p =
@@ -197,7 +197,7 @@ field_held g top place word.Imports (scalar (value.symbol s)) p = keeping_by g p
 field_held g top place word.Symbols (container kind.List members last) p = elements_held g top members p
 field_held g top place _ x p = check_ignored g.old top x p
 
--- the pending table behind the fields of a declaration, or their first fault
+-- the pending table after the fields of a declaration, or their first fault
 abbrev pub fields_held : Ground → ℕ → Members SymbolAt ℕ → Pending → Held
 fields_held g top nothing p = Ok p
 fields_held g top (member before field annotations place x) p =

@@ -11,7 +11,7 @@ ghost use Rattle.ion_symbols.specs.Table as tables;
 ghost use Rattle.ion_symbols.specs.Table.{Shared, most_slots, table_cost, text_at};
 ghost use Rattle.ion_symbols.specs.Declaration.{area_turn, at, element_turn, head_view, then_turn, imports_turn, keeping, with_import_name, next, on, part_turn, skip_ignored, start, item_view, turn};
 ghost use Rattle.ion_symbols.specs.Buffer.{CanInstall, CanTake, HoldsSame, IsPending, Takes, TurnGives, declaring_in, declaring_of, ground_in, import_end_turn, own_of, pending_in, pending_of, table_left, item_view_of, field_value_of};
-ghost use Rattle.ion_symbols.specs.Steps.{CanGather, CanRead, GatherGives, Gathered, LeavesReader, LeavesTable, coming_behind, coming_inside};
+ghost use Rattle.ion_symbols.specs.Steps.{CanGather, CanRead, GatherGives, Gathered, LeavesReader, LeavesTable, coming_after, coming_inside};
 
 use crate::catalog::Import;
 use crate::checks::check_item;
@@ -110,7 +110,7 @@ impl<A: Allocator + Copy> SymbolBuffer<A> {
         requires level { R.opened raw.old ≡ kinds.Struct ∷ [] }
         ensures gives { R.observable raw.old → result ≡ Ok true
             → coming_inside symbols.old limits.symbols start (R.reading raw.old)
-            ≡ coming_behind symbols.old limits.symbols symbols.new.table (R.reading raw.new) }
+            ≡ coming_after symbols.old limits.symbols symbols.new.table (R.reading raw.new) }
         ensures ends { R.observable raw.old → result ≡ Ok false
             → (coming_inside symbols.old limits.symbols start (R.reading raw.old) ≡ Finished)
             × (R.reading raw.new ≡ Finished) }
@@ -501,7 +501,7 @@ impl<A: Allocator + Copy> SymbolBuffer<A> {
         }
     }
 
-    // Puts the table that was read behind the present one where that is kept, else in its place.
+    // Puts the table that was read after the present one where that is kept, else in its place.
     // Where memory is refused, that one stays; this one is given back.
     fn install(
         self,

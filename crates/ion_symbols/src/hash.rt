@@ -90,7 +90,7 @@ fn back(text: &[u8]) -> u64
     }
 }
 
-// Of a text of more than 16 bytes eight behind the first eight and eight before the last eight.
+// Of a text of more than 16 bytes eight after the first eight and eight before the last eight.
 #[inline]
 fn middle(text: &[u8]) -> u64
     requires { 16 < length text.now }

@@ -83,7 +83,7 @@ pub fn catalogs_are_tables()
     ensures { CatalogsAreTables }
 {}
 
-/// Values are refused for one of them, behind others that are tables within the limit: for
+/// Values are refused for one of them, after others that are tables within the limit: for
 /// `CatalogEntry`, at its first byte, where it is no table or its table may not stand there; for
 /// `SymbolLimit` where its name and slots cost more than the limit with the tables before it.
 pub fn why_catalogs_are_refused()

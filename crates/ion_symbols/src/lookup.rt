@@ -83,7 +83,7 @@ pub(crate) fn seek<A: Allocator + Copy>(probe: &mut Probe<'_, A>, text: &[u8], h
             if left == 1 {
                 return Sought::TooFar;
             }
-            return Sought::Free(Spot::Behind(number, digits));
+            return Sought::Free(Spot::After(number, digits));
         }
         at = next;
         digits /= 2;

@@ -12,7 +12,7 @@ use std::marker::Model;
 pub(crate) struct Place {
     /// Where its first byte stands.
     pub(crate) from: u32,
-    /// Where the byte behind its last one stands.
+    /// Where the byte after its last one stands.
     pub(crate) to: u32,
     /// The first of its links: one more than the number of another text of its bucket, or 0.
     pub(crate) next: u32,

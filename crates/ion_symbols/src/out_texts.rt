@@ -55,8 +55,8 @@ pub(crate) enum Spot {
     InOrder(u32),
     /// First in its bucket.
     First,
-    /// Behind the text of this number, where the last of these digits says.
-    Behind(u32, u64),
+    /// After the text of this number, where the last of these digits says.
+    After(u32, u64),
 }
 
 /// What becomes of looking for a text by the links.
@@ -78,7 +78,7 @@ impl Spot {
     {
         match self {
             Spot::InOrder(place) => (place as usize, number),
-            Spot::First | Spot::Behind(_, _) => (number as usize, 0),
+            Spot::First | Spot::After(_, _) => (number as usize, 0),
         }
     }
 }
@@ -352,8 +352,8 @@ impl<A: Allocator + Copy> OutTexts<A> {
         ensures order { self.new.is_ordered ≡ self.old.is_ordered }
     {
         let last = self.places.as_slice().len() as u32;
-        if let Spot::Behind(number, digits) = spot {
-            self.link_behind(number, digits, last);
+        if let Spot::After(number, digits) = spot {
+            self.link_after(number, digits, last);
             return;
         }
         let of = bucket(hash(text));
@@ -364,7 +364,7 @@ impl<A: Allocator + Copy> OutTexts<A> {
     }
 
     // Links a text to the last one.
-    fn link_behind(&mut self, number: u32, digits: u64, last: u32)
+    fn link_after(&mut self, number: u32, digits: u64, last: u32)
         requires within { number < length self.old.places.items }
         requires long { length self.old.ids.items ≡ length self.old.places.items }
         ensures { Links self.old self.new number digits last }

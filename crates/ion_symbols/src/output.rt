@@ -22,7 +22,7 @@ use ion_meter::meter::Meter;
 use std::alloc::Allocator;
 use std::marker::Model;
 
-/// The first id behind the system table's.
+/// The first id after the system table's.
 const FIRST_ID: u32 = 10;
 
 /// The texts of an output that have been given ids, from 10 on, each once since all of them were
@@ -80,7 +80,7 @@ impl<A: Allocator + Copy> OutSymbols<A> {
     ///
     /// The text is looked for by halving, and the texts are put in order of bytes first where they are
     /// not: those that `give_id` added. Then each text that is new moves, until all are taken away, what
-    /// stands behind it in that order.
+    /// stands after it in that order.
     ///
     /// Where memory is refused, it answers `Memory` and the texts stay as they were. A text that has an
     /// id asks for none.

@@ -14,7 +14,7 @@ use ion_value::quoting::{NameText, Quoting, bare};
 use std::alloc::Allocator;
 use std::marker::Model;
 
-/// The most slots behind the system ones: the greatest id is 2^31 - 1.
+/// The most slots after the system ones: the greatest id is 2^31 - 1.
 pub(crate) const MOST_SLOTS: u64 = 2_147_483_638;
 
 /// Where a slot's text stands among bytes, and whether it has one.
@@ -22,7 +22,7 @@ pub(crate) const MOST_SLOTS: u64 = 2_147_483_638;
 pub(crate) struct Part {
     /// Where its first byte stands.
     pub(crate) from: usize,
-    /// Where the byte behind its last one stands.
+    /// Where the byte after its last one stands.
     pub(crate) to: usize,
     /// Whether it has a text.
     pub(crate) known: bool,

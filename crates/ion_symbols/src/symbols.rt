@@ -20,13 +20,13 @@ use std::mem;
 /// The cost of an import, in counted bytes, whatever its number of slots.
 pub(crate) const IMPORT_COST: u64 = 32;
 
-/// An import: the place in the catalogue of the shared table that it found, its first slot behind
+/// An import: the place in the catalogue of the shared table that it found, its first slot after
 /// the system ones, and its number of slots.
 #[derive(Clone, Copy)]
 pub(crate) struct FoundImport {
     /// Where the table stands, if one was found.
     pub(crate) table: Option<usize>,
-    /// Its first slot, counted from 0 behind the system ones.
+    /// Its first slot, counted from 0 after the system ones.
     pub(crate) start: u64,
     /// How many slots it has.
     pub(crate) count: u64,
@@ -218,7 +218,7 @@ impl<'c, A: Allocator + Copy> Symbols<'c, A> {
         IMPORT_COST * self.imports.as_slice().len() as u64 + self.slots.cost()
     }
 
-    // How many slots the table has behind the system ones.
+    // How many slots the table has after the system ones.
     pub(crate) fn count(&self) -> u64
         ensures { result ≡ count_of self.now.table }
     {
@@ -237,7 +237,7 @@ impl<'c, A: Allocator + Copy> Symbols<'c, A> {
         self.slots.clear(meter);
     }
 
-    // Local slots behind those that are there; where memory is refused, none.
+    // Local slots after those that are there; where memory is refused, none.
     pub(crate) fn append(&mut self, meter: &mut Meter<A>, more: &Slots<A>) -> Result<(), Fault>
         requires can_grow { CanGrow (slots_cost more.now) meter.old }
         requires held { table_cost self.old.table ≤ meter.old.held }

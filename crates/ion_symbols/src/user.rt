@@ -278,7 +278,7 @@ impl<'c, R: RawReader<A>, A: Allocator + Copy> UserReader<'c, R, A> {
     }
 
     /// Hands items of user values to a writer, as many as the raw reader can (`RawReader::feed`). It is
-    /// called behind an item that `next` took, or behind another call of it.
+    /// called after an item that `next` took, or after another call of it.
     #[inline(always)]
     pub fn feed<W: ValueWriter<O, A>, O: Output>(
         &mut self,

@@ -1,4 +1,4 @@
-//! Tables that tests take apart: a row a line, with a `|` behind each field.
+//! Tables that tests take apart: a row a line, with a `|` after each field.
 //!
 //! A table is one text, since the prover takes a text of any length as one term, and each number,
 //! text and tuple of a constant as one more. A line that begins with `#` is a comment.

@@ -1,4 +1,4 @@
-// An allocator for tests, which refuses one allocation, or one and all behind it.
+// An allocator for tests, which refuses one allocation, or one and all after it.
 use std::alloc::{AllocError, Allocator};
 use std::cell::Cell;
 
@@ -7,13 +7,13 @@ use std::cell::Cell;
 struct Refusals {
     /// How many calls there are to the next one that is refused, with it; none is refused where this is 0.
     left: u64,
-    /// Whether all behind that one are refused too.
+    /// Whether all after that one are refused too.
     onward: bool,
     /// Whether one was refused.
     is_met: bool,
 }
 
-/// An allocator that refuses exactly its nth allocation, or that and all behind it, and passes every
+/// An allocator that refuses exactly its nth allocation, or that and all after it, and passes every
 /// other call on.
 pub struct Refusing<B: Allocator> {
     inner: B,
@@ -33,7 +33,7 @@ impl<B: Allocator> Refusing<B> {
         }
     }
 
-    /// Refuses the nth allocation from now on, or that and all behind it.
+    /// Refuses the nth allocation from now on, or that and all after it.
     pub fn refuse(&self, nth: u64, onward: bool) {
         self.refusals.set(Refusals {
             left: nth,

@@ -6,14 +6,14 @@ use Rattle.ion_value.specs.Digits.{first_is, all_are}
 use Rattle.ion_text_in.specs.declared.blank.Comment.{Comment}
 use Rattle.ion_text_in.specs.declared.blank.Comment.TheVariants as comment
 use Rattle.ion_text_in.specs.Blanks.{is_white, is_line_end, here, blanks_at, in_line, opening, in_block, closing}
-use Rattle.ion_text_in.specs.Places.{run_of, behind_run}
+use Rattle.ion_text_in.specs.Places.{run_of, after_run}
 use Rattle.ion_text_in.specs.Meaning.{at}
 use Rattle.ion_text_in.specs.Overrun.{begun, cut_at, ends_blanks, is_neither, overrun, stays_in, turned, within}
 use Rattle.ion_text_in.proofs.Meaning.{run-more, run-none}
 use Rattle.ion_text_in.proofs.Runs.{at-front, first-off, found-not, second-byte}
 use Rattle.ion_text_in.proofs.BlankRuns.{stays-first, stays-over}
 
--- ---- behind a run of bytes
+-- ---- after a run of bytes
 
 next-place : (p n : ℕ) → p + suc n ≡ p + 1 + n
 next-place p n = omega arith
@@ -25,56 +25,56 @@ two : (p : ℕ) → suc (suc p) ≡ p + 2
 two p = omega arith
 
 module _ (test : ℕ → Bool) where
-  abbrev behind : Cursor → Cursor
-  behind c = behind_run (first_is test) c
+  abbrev after : Cursor → Cursor
+  after c = after_run (first_is test) c
 
-  pub behind-first : (p b : ℕ) (bytes : List ℕ) → test b ≡ true → behind (at p (b ∷ bytes)) ≡ behind (at (p + 1) bytes)
-  behind-first p b bytes on =
+  pub after-first : (p b : ℕ) (bytes : List ℕ) → test b ≡ true → after (at p (b ∷ bytes)) ≡ after (at (p + 1) bytes)
+  after-first p b bytes on =
       ap (λ (z : List ℕ × List ℕ). skip (length z.0) (at p (b ∷ bytes))) (run-more (first_is test) b bytes on)
       ∙ ap (λ (n : ℕ). at n (drop (length (run_of (first_is test) bytes).0) bytes)) (next-place p (length (run_of (first_is test) bytes).0))
 
-  pub behind-over : (p : ℕ) (xs rest : List ℕ) → all_are test xs ≡ true → behind (at p (xs ++ rest)) ≡ behind (at (p + length xs) rest)
-  behind-over p [] rest all = ap (λ (n : ℕ). behind (at n rest)) (sym (no-more p))
-  behind-over p (b ∷ xs) rest all =
+  pub after-over : (p : ℕ) (xs rest : List ℕ) → all_are test xs ≡ true → after (at p (xs ++ rest)) ≡ after (at (p + length xs) rest)
+  after-over p [] rest all = ap (λ (n : ℕ). after (at n rest)) (sym (no-more p))
+  after-over p (b ∷ xs) rest all =
       let parts = and_parts (test b) (all_are test xs) all in
-      behind-first p b (xs ++ rest) parts.0 ∙ behind-over (p + 1) xs rest parts.1 ∙ ap (λ (n : ℕ). behind (at n rest)) (sym (next-place p (length xs)))
+      after-first p b (xs ++ rest) parts.0 ∙ after-over (p + 1) xs rest parts.1 ∙ ap (λ (n : ℕ). after (at n rest)) (sym (next-place p (length xs)))
 
-  pub behind-none : (p : ℕ) (bytes : List ℕ) → first_is test bytes ≡ false → behind (at p bytes) ≡ at p bytes
-  behind-none p bytes none =
+  pub after-none : (p : ℕ) (bytes : List ℕ) → first_is test bytes ≡ false → after (at p bytes) ≡ at p bytes
+  after-none p bytes none =
       ap (λ (z : List ℕ × List ℕ). skip (length z.0) (at p bytes)) (run-none (first_is test) bytes none)
       ∙ ap (λ (n : ℕ). at n bytes) (no-more p)
 
-  -- none stands behind it
-  pub behind-ends : (p : ℕ) (bytes : List ℕ) → first_is test (behind (at p bytes)).rest ≡ false
+  -- none stands after it
+  pub after-ends : (p : ℕ) (bytes : List ℕ) → first_is test (after (at p bytes)).rest ≡ false
   unfolding run_of
-  behind-ends p [] = refl
-  behind-ends p (b ∷ bytes) = elim (cases_Bool (test b)) [
-    | inl on ↦ ap (λ (c : Cursor). first_is test c.rest) (behind-first p b bytes on) ∙ behind-ends (p + 1) bytes
-    | inr off ↦ ap (λ (c : Cursor). first_is test c.rest) (behind-none p (b ∷ bytes) off) ∙ off
+  after-ends p [] = refl
+  after-ends p (b ∷ bytes) = elim (cases_Bool (test b)) [
+    | inl on ↦ ap (λ (c : Cursor). first_is test c.rest) (after-first p b bytes on) ∙ after-ends (p + 1) bytes
+    | inr off ↦ ap (λ (c : Cursor). first_is test c.rest) (after-none p (b ∷ bytes) off) ∙ off
   ]
 
 -- of white space
-abbrev pub behind_white : Cursor → Cursor
-behind_white c = behind_run (first_is is_white) c
+abbrev pub after_white : Cursor → Cursor
+after_white c = after_run (first_is is_white) c
 
-pub white-first : (p b : ℕ) (bytes : List ℕ) → is_white b ≡ true → behind_white (at p (b ∷ bytes)) ≡ behind_white (at (p + 1) bytes)
-white-first p b bytes white = behind-first is_white p b bytes white
+pub white-first : (p b : ℕ) (bytes : List ℕ) → is_white b ≡ true → after_white (at p (b ∷ bytes)) ≡ after_white (at (p + 1) bytes)
+white-first p b bytes white = after-first is_white p b bytes white
 
-pub white-none : (p : ℕ) (bytes : List ℕ) → first_is is_white bytes ≡ false → behind_white (at p bytes) ≡ at p bytes
-white-none p bytes none = behind-none is_white p bytes none
+pub white-none : (p : ℕ) (bytes : List ℕ) → first_is is_white bytes ≡ false → after_white (at p bytes) ≡ at p bytes
+white-none p bytes none = after-none is_white p bytes none
 
-pub white-ends : (p : ℕ) (bytes : List ℕ) → first_is is_white (behind_white (at p bytes)).rest ≡ false
-white-ends p bytes = behind-ends is_white p bytes
+pub white-ends : (p : ℕ) (bytes : List ℕ) → first_is is_white (after_white (at p bytes)).rest ≡ false
+white-ends p bytes = after-ends is_white p bytes
 
--- what is read on is read on from behind it
-pub within-behind : (c : Comment) (start p : ℕ) (bytes : List ℕ) → within c start (at p bytes) ≡ within c start (behind_run (first_is (stays_in c)) (at p bytes))
-within-behind c start p [] = ap (λ (d : Cursor). within c start d) (sym (behind-none (stays_in c) p [] refl))
-within-behind c start p (b ∷ bytes) = elim (cases_Bool (stays_in c b)) [
-  | inl on ↦ stays-first c start p b bytes on ∙ within-behind c start (p + 1) bytes ∙ ap (λ (d : Cursor). within c start d) (sym (behind-first (stays_in c) p b bytes on))
-  | inr off ↦ ap (λ (d : Cursor). within c start d) (sym (behind-none (stays_in c) p (b ∷ bytes) off))
+-- what is read on is read on from after it
+pub within-after : (c : Comment) (start p : ℕ) (bytes : List ℕ) → within c start (at p bytes) ≡ within c start (after_run (first_is (stays_in c)) (at p bytes))
+within-after c start p [] = ap (λ (d : Cursor). within c start d) (sym (after-none (stays_in c) p [] refl))
+within-after c start p (b ∷ bytes) = elim (cases_Bool (stays_in c b)) [
+  | inl on ↦ stays-first c start p b bytes on ∙ within-after c start (p + 1) bytes ∙ ap (λ (d : Cursor). within c start d) (sym (after-first (stays_in c) p b bytes on))
+  | inr off ↦ ap (λ (d : Cursor). within c start d) (sym (after-none (stays_in c) p (b ∷ bytes) off))
 ]
 
--- ---- what stands behind it
+-- ---- what stands after it
 
 -- the end of the input
 pub within-end : (c : Comment) (start p : ℕ) → within c start (at p []) ≡ overrun (cut_at c start) (at p [])
@@ -157,7 +157,7 @@ star-other start p (c ∷ d ∷ bytes) first other =
 
 -- ---- by the two bytes
 
--- what is read on at some bytes is read on behind so many of them
+-- what is read on at some bytes is read on after so many of them
 abbrev pub Turns : Comment → ℕ → Option ℕ → Comment × ℕ → Type 0
 Turns old first second next =
     (start p : ℕ) (bytes : List ℕ) → slice_get bytes 0 ≡ Some first → slice_get bytes 1 ≡ second

@@ -17,9 +17,9 @@ use Rattle.ion_meter.specs.Sources.{Cursor, skip}
 use Rattle.ion_value.specs.Parts.{refuse, ◌>>=◌, ◌>>◌}
 use Rattle.ion_text_in.specs.Blanks.{is_white}
 use Rattle.ion_text_in.specs.Lob as lob
-use Rattle.ion_text_in.specs.Lob.{braces, closed_at, group_of, behind_to, last_group, group_bytes, groups_for, lob_at}
+use Rattle.ion_text_in.specs.Lob.{braces, closed_at, group_of, after_to, last_group, group_bytes, groups_for, lob_at}
 use Rattle.ion_text_in.specs.Limit.{passes}
-use Rattle.ion_text_in.specs.Places.{run_of, behind_run}
+use Rattle.ion_text_in.specs.Places.{run_of, after_run}
 use Rattle.ion_text_in.specs.Quoted.{short_quote, long_quote, text_at}
 use Rattle.ion_text_in.specs.Token.{Token, plain, first_at, token_of}
 use Rattle.ion_text_in.specs.Meaning.{Limit, Allows, IsBase64, at, solid, BlobText, BlobsAreBase64, Base64IsRead}
@@ -137,11 +137,11 @@ octets-prefix [] ys all = All-nil (λ octet. octet < 256)
 octets-prefix (x ∷ xs) ys all =
     All-cons (λ octet. octet < 256) x xs (All-head (λ octet. octet < 256) x (xs ++ ys) all) (octets-prefix xs ys (All-tail (λ octet. octet < 256) x (xs ++ ys) all))
 
-pub octets-behind : (xs ys : List ℕ) → Octets (xs ++ ys) → Octets ys
-octets-behind [] ys all = all
-octets-behind (x ∷ xs) ys all = octets-behind xs ys (All-tail (λ octet. octet < 256) x (xs ++ ys) all)
+pub octets-after : (xs ys : List ℕ) → Octets (xs ++ ys) → Octets ys
+octets-after [] ys all = all
+octets-after (x ∷ xs) ys all = octets-after xs ys (All-tail (λ octet. octet < 256) x (xs ++ ys) all)
 
--- the braces, and what stands behind them
+-- the braces, and what stands after them
 record Closed (c d : Cursor) : Type 0 where
   text : c.rest ≡ 125 ∷ 125 ∷ d.rest
   place : d.place ≡ c.place + 2
@@ -190,23 +190,23 @@ record IsRead (padded : Bool) (bytes : List ℕ) (c d : Cursor) : Type 0 where
   text : BlobText bytes c d
   none : padded ≡ true → bytes ≡ []
 
--- a place behind so many bytes
-behind-place : (p : ℕ) (all prefix rest : List ℕ) → all ≡ prefix ++ rest → p + (length all - length rest) ≡ p + length prefix
-behind-place p all prefix rest is = omega (arith, length-append prefix rest, ap (λ (xs : List ℕ). length xs) is)
+-- a place after so many bytes
+after-place : (p : ℕ) (all prefix rest : List ℕ) → all ≡ prefix ++ rest → p + (length all - length rest) ≡ p + length prefix
+after-place p all prefix rest is = omega (arith, length-append prefix rest, ap (λ (xs : List ℕ). length xs) is)
 
 pub encode-nil : encode_of standard [] ≡ []
 encode-nil = encode_of-nil standard
 
 end-read : (padded : Bool) (p : ℕ) (all prefix rest bytes : List ℕ) (d : Cursor) → all ≡ prefix ++ rest → solid prefix ≡ [] → bytes ≡ []
-    → Closed (behind_to (at p all) rest) d → IsRead padded bytes (at p all) d
+    → Closed (after_to (at p all) rest) d → IsRead padded bytes (at p all) d
 end-read padded p all prefix rest bytes d is chars none closed =
-    let behind = behind-place p all prefix rest is in
+    let after = after-place p all prefix rest is in
     let place = closed.place in
     record {
       text = record {
         chars = prefix;
         text = is ∙ ap (λ (xs : List ℕ). prefix ++ xs) closed.text;
-        place = omega (arith, behind, place);
+        place = omega (arith, after, place);
         base64 = rw (none, chars, encode-nil) refl;
       };
       none = λ _. none;
@@ -214,10 +214,10 @@ end-read padded p all prefix rest bytes d is chars none closed =
 
 -- a group and what follows it
 more-read : (padded : Bool) (p : ℕ) (all prefix rest group bytes others : List ℕ) (d : Cursor) → all ≡ prefix ++ rest → solid prefix ≡ group → length group ≡ 4
-    → IsGroup padded group bytes → IsRead (nat_lt (length bytes) 3) others (behind_to (at p all) rest) d → IsRead padded (bytes ++ others) (at p all) d
+    → IsGroup padded group bytes → IsRead (nat_lt (length bytes) 3) others (after_to (at p all) rest) d → IsRead padded (bytes ++ others) (at p all) d
 more-read padded p all prefix rest group bytes others d is chars four group_is read =
     let t = read.text in
-    let behind = behind-place p all prefix rest is in
+    let after = after-place p all prefix rest is in
     let place = t.place in
     let text_is : all ≡ (prefix ++ t.chars) ++ (125 ∷ 125 ∷ d.rest) =
     is ∙ ap (λ (xs : List ℕ). prefix ++ xs) t.text ∙ sym (append_assoc prefix t.chars (125 ∷ 125 ∷ d.rest)) in
@@ -225,7 +225,7 @@ more-read padded p all prefix rest group bytes others d is chars four group_is r
       text = record {
         chars = prefix ++ t.chars;
         text = text_is;
-        place = omega (arith, behind, place, length-append prefix t.chars);
+        place = omega (arith, after, place, length-append prefix t.chars);
         base64 = filter-append (λ b. not (is_white b)) prefix t.chars ∙ rw (chars, t.base64, group_is.base64) (sym joined);
       };
       none = λ late. absurd (false≢true (sym group_is.first ∙ late));
@@ -242,11 +242,11 @@ more-read padded p all prefix rest group bytes others d is chars four group_is r
           encode_of-append standard bytes others (omega (arith, many, sym (length-encode_of bytes) ∙ long))
     ]
 
--- what a group of four characters and what stands behind it come to
+-- what a group of four characters and what stands after it come to
 abbrev grouping : ℕ → Limit → ℕ → Bool → Cursor → List ℕ × List ℕ → Got
 grouping most limit count padded c g =
     group_bytes padded g.0 >>= (λ bytes. refuse (passes limit (count + length bytes)) ScalarLimit
-    >> (groups_for most limit (count + length bytes) (nat_lt (length bytes) 3) (behind_to c g.1) >>= (λ others. got (bytes ++ others.0) others.1)))
+    >> (groups_for most limit (count + length bytes) (nat_lt (length bytes) 3) (after_to c g.1) >>= (λ others. got (bytes ++ others.0) others.1)))
 
 groups-read : (most : ℕ) (limit : Limit) (count : ℕ) (padded : Bool) (p : ℕ) (all bytes : List ℕ) (d : Cursor) → Octets all
     → groups_for most limit count padded (at p all) ≡ got bytes d → IsRead padded bytes (at p all) d
@@ -257,7 +257,7 @@ groups-read (suc most) limit count padded p all bytes d octets e =
   where
     go : ((count : ℕ) (padded : Bool) (p : ℕ) (all bytes : List ℕ) (d : Cursor) → Octets all → groups_for most limit count padded (at p all) ≡ got bytes d → IsRead padded bytes (at p all) d)
         → (few : Bool) → nat_lt (length (group_of 4 all).0) 4 ≡ few
-        → (if few then last_group (group_of 4 all).0 (behind_to (at p all) (group_of 4 all).1) else grouping most limit count padded (at p all) (group_of 4 all)) ≡ got bytes d
+        → (if few then last_group (group_of 4 all).0 (after_to (at p all) (group_of 4 all).1) else grouping most limit count padded (at p all) (group_of 4 all)) ≡ got bytes d
         → IsRead padded bytes (at p all) d
     go later true few e =
         let g = grouped 4 all in
@@ -271,11 +271,11 @@ groups-read (suc most) limit count padded p all bytes d octets e =
         let chars : Octets (group_of 4 all).0 = subst Octets g.chars (All-filter (λ b. not (is_white b)) (λ octet. octet < 256) g.prefix (octets-prefix g.prefix (group_of 4 all).1 text)) in
         let w = went (group_bytes padded (group_of 4 all).0) _ (bytes, d) e in
         let ok = passed (passes limit (count + length w.value)) ScalarLimit _ (bytes, d) w.second in
-        let v = went (groups_for most limit (count + length w.value) (nat_lt (length w.value) 3) (behind_to (at p all) (group_of 4 all).1)) _ (bytes, d) ok.1 in
+        let v = went (groups_for most limit (count + length w.value) (nat_lt (length w.value) 3) (after_to (at p all) (group_of 4 all).1)) _ (bytes, d) ok.1 in
         let both : ◌≡◌ {A = List ℕ × Cursor} (w.value ++ v.value.0, v.value.1) (bytes, d) = cc v.second in
-        let rest_is : groups_for most limit (count + length w.value) (nat_lt (length w.value) 3) (behind_to (at p all) (group_of 4 all).1) ≡ got v.value.0 v.value.1 = v.first in
+        let rest_is : groups_for most limit (count + length w.value) (nat_lt (length w.value) 3) (after_to (at p all) (group_of 4 all).1) ≡ got v.value.0 v.value.1 = v.first in
         let rest = later (count + length w.value) (nat_lt (length w.value) 3) (p + (length all - length (group_of 4 all).1)) (group_of 4 all).1
-        v.value.0 v.value.1 (octets-behind g.prefix (group_of 4 all).1 text) rest_is in
+        v.value.0 v.value.1 (octets-after g.prefix (group_of 4 all).1 text) rest_is in
         let read : IsRead padded (w.value ++ v.value.0) (at p all) v.value.1 =
         more-read padded p all g.prefix (group_of 4 all).1 (group_of 4 all).0 w.value v.value.0 v.value.1 g.is g.chars (omega arith)
         (group-is padded (group_of 4 all).0 w.value chars w.first) rest in
@@ -297,7 +297,7 @@ blob-of v w c d e =
 no-clob : (limit : Limit) (is_long : Bool) (c d : Cursor) (bytes : List ℕ) → lob.clob_at limit is_long c ≡ body (blob bytes) d → ⊥
 no-clob limit is_long c d bytes e =
     let w = went (text_at (if is_long then long_quote true else short_quote true) limit c) _ (blob bytes, d) e in
-    let v = went (lob.clob_closed_at is_long (behind_run (first_is is_white) w.value.1)) _ (blob bytes, d) w.second in
+    let v = went (lob.clob_closed_at is_long (after_run (first_is is_white) w.value.1)) _ (blob bytes, d) w.second in
     let is = blob-of (clob w.value.0) (blob bytes) v.value d v.second in
     cc is.0
 
@@ -349,9 +349,9 @@ unfolding lob_at
 lob-read limit p all bytes d octets e =
     let r : List ℕ × List ℕ = run_of (first_is is_white) all in
     let f = white-prefix all in
-    let behind : behind_run (first_is is_white) (at p all) ≡ at (p + length r.0) r.1 = ap (λ (xs : List ℕ). at (p + length r.0) (drop (length r.0) xs)) f.is ∙ skip-prefix p r.0 r.1 in
+    let after : after_run (first_is is_white) (at p all) ≡ at (p + length r.0) r.1 = ap (λ (xs : List ℕ). at (p + length r.0) (drop (length r.0) xs)) f.is ∙ skip-prefix p r.0 r.1 in
     prefix-text p all r.0 r.1 bytes d f.is f.white
-    (lob-in limit (p + length r.0) r.1 bytes d (octets-behind r.0 r.1 (subst Octets f.is octets)) (subst (λ (c : Cursor). lob.lob_in limit c ≡ body (blob bytes) d) behind e))
+    (lob-in limit (p + length r.0) r.1 bytes d (octets-after r.0 r.1 (subst Octets f.is octets)) (subst (λ (c : Cursor). lob.lob_in limit c ≡ body (blob bytes) d) after e))
 
 pub blobs_are_base64 : BlobsAreBase64
 unfolding first_at token_of
@@ -360,11 +360,11 @@ blobs_are_base64 limit sexp place rest bytes d octets e =
     let both : ◌≡◌ {A = Token × Cursor} (plain w.value.0, w.value.1) (plain (blob bytes), d) = cc w.second in
     let same : plain w.value.0 ≡ plain (blob bytes) = ap (λ (z : Token × Cursor). z.0) both in
     let is : w.value.0 ≡ blob bytes = cc same in
-    let behind : w.value.1 ≡ d = ap (λ (z : Token × Cursor). z.1) both in
-    lob-read limit (place + 2) rest bytes d octets (w.first ∙ ap Ok (pair w.value (blob bytes) d is behind))
+    let after : w.value.1 ≡ d = ap (λ (z : Token × Cursor). z.1) both in
+    lob-read limit (place + 2) rest bytes d octets (w.first ∙ ap Ok (pair w.value (blob bytes) d is after))
   where
     pair : (u : Scalar SymbolAt × Cursor) (v : Scalar SymbolAt) (d : Cursor) → u.0 ≡ v → u.1 ≡ d → u ≡ (v, d)
-    pair u v d is behind = rw (← is, ← behind) refl
+    pair u v d is after = rw (← is, ← after) refl
 
 -- ---- base64 is a blob
 
@@ -401,43 +401,43 @@ base64-chars m =
     (symbols-chars standard.encode_table refl m) (padding-chars (padding_len (length m)))
 
 -- the characters of a group are cut from the front, and what they leave
-record Taken (n : ℕ) (chars group tail behind : List ℕ) : Type 0 where
+record Taken (n : ℕ) (chars group tail after : List ℕ) : Type 0 where
   more : List ℕ
-  cut : group_of n (chars ++ behind) ≡ (group, more ++ behind)
+  cut : group_of n (chars ++ after) ≡ (group, more ++ after)
   rest : solid more ≡ tail
   fewer : length more + n ≤ length chars
 
-taken : (n : ℕ) (chars group tail behind : List ℕ) → solid chars ≡ group ++ tail → length group ≡ n → all_are is_char group ≡ true → Taken n chars group tail behind
+taken : (n : ℕ) (chars group tail after : List ℕ) → solid chars ≡ group ++ tail → length group ≡ n → all_are is_char group ≡ true → Taken n chars group tail after
 unfolding group_of
-taken zero chars [] tail behind e len all = record { more = chars; cut = refl; rest = e; fewer = omega arith }
-taken zero chars (g ∷ group) tail behind e len all = absurd (omega (arith, len))
-taken (suc n) chars [] tail behind e len all = absurd (omega (arith, len))
-taken (suc n) [] (g ∷ group) tail behind e len all = absurd (cc e)
-taken (suc n) (b ∷ chars) (g ∷ group) tail behind e len all = elim (cases_Bool (is_white b)) [
+taken zero chars [] tail after e len all = record { more = chars; cut = refl; rest = e; fewer = omega arith }
+taken zero chars (g ∷ group) tail after e len all = absurd (omega (arith, len))
+taken (suc n) chars [] tail after e len all = absurd (omega (arith, len))
+taken (suc n) [] (g ∷ group) tail after e len all = absurd (cc e)
+taken (suc n) (b ∷ chars) (g ∷ group) tail after e len all = elim (cases_Bool (is_white b)) [
   | inl white ↦
-      let t = taken (suc n) chars (g ∷ group) tail behind (sym (solid-white b chars white) ∙ e) len all in
+      let t = taken (suc n) chars (g ∷ group) tail after (sym (solid-white b chars white) ∙ e) len all in
       let fewer = t.fewer in
-      record { more = t.more; cut = group-white n b (chars ++ behind) white ∙ t.cut; rest = t.rest; fewer = omega (arith, fewer) }
+      record { more = t.more; cut = group-white n b (chars ++ after) white ∙ t.cut; rest = t.rest; fewer = omega (arith, fewer) }
   | inr dark ↦
       let cons : ◌≡◌ {A = List ℕ} (b ∷ solid chars) (g ∷ (group ++ tail)) = sym (solid-char b chars dark) ∙ e in
       let same : b ≡ g = cc cons in
       let later : solid chars ≡ group ++ tail = cc cons in
       let parts = and_parts (is_char g) (all_are is_char group) all in
-      let t = taken n chars group tail behind later (omega (arith, len)) parts.1 in
+      let t = taken n chars group tail after later (omega (arith, len)) parts.1 in
       let fewer = t.fewer in
       let no_brace : (b == 125) ≡ false = rw same (not-true (g == 125) (and_parts (not (g == 125)) (is_open g) (and_parts (not (is_white g)) (not (g == 125) && is_open g) parts.0).1).0) in
       record {
         more = t.more;
-        cut = group-char n b (chars ++ behind) dark no_brace ∙ ap (λ (z : List ℕ × List ℕ). (b ∷ z.0, z.1)) t.cut ∙ ap (λ (g : ℕ). (g ∷ group, t.more ++ behind)) same;
+        cut = group-char n b (chars ++ after) dark no_brace ∙ ap (λ (z : List ℕ × List ℕ). (b ∷ z.0, z.1)) t.cut ∙ ap (λ (g : ℕ). (g ∷ group, t.more ++ after)) same;
         rest = t.rest;
         fewer = omega (arith, fewer);
       }
 ]
 
-none-taken : (n : ℕ) (chars behind : List ℕ) → solid chars ≡ [] → group_of (suc n) (chars ++ 125 ∷ behind) ≡ ([], 125 ∷ behind)
-none-taken n [] behind e = group-brace n 125 behind refl refl
-none-taken n (b ∷ chars) behind e = elim (cases_Bool (is_white b)) [
-  | inl white ↦ group-white n b (chars ++ 125 ∷ behind) white ∙ none-taken n chars behind (sym (solid-white b chars white) ∙ e)
+none-taken : (n : ℕ) (chars after : List ℕ) → solid chars ≡ [] → group_of (suc n) (chars ++ 125 ∷ after) ≡ ([], 125 ∷ after)
+none-taken n [] after e = group-brace n 125 after refl refl
+none-taken n (b ∷ chars) after e = elim (cases_Bool (is_white b)) [
+  | inl white ↦ group-white n b (chars ++ 125 ∷ after) white ∙ none-taken n chars after (sym (solid-white b chars white) ∙ e)
   | inr dark ↦ absurd (cc (sym (solid-char b chars dark) ∙ e))
 ]
 
@@ -483,57 +483,57 @@ split b (c ∷ d ∷ bytes) = record {
 -- a group is read, and what follows it
 one-group : (most : ℕ) (limit : Limit) (count : ℕ) (p : ℕ) (all group rest bytes others : List ℕ) (d : Cursor) → group_of 4 all ≡ (group, rest) → length group ≡ 4
     → group_bytes false group ≡ Ok bytes → Allows limit (count + length bytes)
-    → groups_for most limit (count + length bytes) (nat_lt (length bytes) 3) (behind_to (at p all) rest) ≡ got others d
+    → groups_for most limit (count + length bytes) (nat_lt (length bytes) 3) (after_to (at p all) rest) ≡ got others d
     → groups_for (suc most) limit count false (at p all) ≡ got (bytes ++ others) d
 unfolding groups_for
 one-group most limit count p all group rest bytes others d cut four decoded allows later =
-    ap (λ (g : List ℕ × List ℕ). if nat_lt (length g.0) 4 then last_group g.0 (behind_to (at p all) g.1) else grouping most limit count false (at p all) g) cut
-    ∙ ap (λ (few : Bool). if few then last_group group (behind_to (at p all) rest) else grouping most limit count false (at p all) (group, rest)) (le-ltb (length group) 4 (omega (arith, four)))
+    ap (λ (g : List ℕ × List ℕ). if nat_lt (length g.0) 4 then last_group g.0 (after_to (at p all) g.1) else grouping most limit count false (at p all) g) cut
+    ∙ ap (λ (few : Bool). if few then last_group group (after_to (at p all) rest) else grouping most limit count false (at p all) (group, rest)) (le-ltb (length group) 4 (omega (arith, four)))
     ∙ ap (λ (o : Result (List ℕ) Reason). o >>= (λ bytes. refuse (passes limit (count + length bytes)) ScalarLimit
-    >> (groups_for most limit (count + length bytes) (nat_lt (length bytes) 3) (behind_to (at p all) rest) >>= (λ others. got (bytes ++ others.0) others.1)))) decoded
+    >> (groups_for most limit (count + length bytes) (nat_lt (length bytes) 3) (after_to (at p all) rest) >>= (λ others. got (bytes ++ others.0) others.1)))) decoded
     ∙ ap (λ (over : Bool). refuse over ScalarLimit
-    >> (groups_for most limit (count + length bytes) (nat_lt (length bytes) 3) (behind_to (at p all) rest) >>= (λ others. got (bytes ++ others.0) others.1))) (allowed limit (count + length bytes) allows)
+    >> (groups_for most limit (count + length bytes) (nat_lt (length bytes) 3) (after_to (at p all) rest) >>= (λ others. got (bytes ++ others.0) others.1))) (allowed limit (count + length bytes) allows)
     ∙ ap (λ (o : Got). o >>= (λ others. got (bytes ++ others.0) others.1)) later
 
-no-group : (most : ℕ) (limit : Limit) (count : ℕ) (padded : Bool) (p q : ℕ) (all behind : List ℕ) → group_of 4 all ≡ ([], 125 ∷ 125 ∷ behind)
-    → p + (length all - length (125 ∷ 125 ∷ behind)) + 2 ≡ q → groups_for (suc most) limit count padded (at p all) ≡ got [] (at q behind)
+no-group : (most : ℕ) (limit : Limit) (count : ℕ) (padded : Bool) (p q : ℕ) (all after : List ℕ) → group_of 4 all ≡ ([], 125 ∷ 125 ∷ after)
+    → p + (length all - length (125 ∷ 125 ∷ after)) + 2 ≡ q → groups_for (suc most) limit count padded (at p all) ≡ got [] (at q after)
 unfolding groups_for
-no-group most limit count padded p q all behind cut place =
-    ap (λ (g : List ℕ × List ℕ). if nat_lt (length g.0) 4 then last_group g.0 (behind_to (at p all) g.1) else grouping most limit count padded (at p all) g) cut
-    ∙ ap (λ (q : ℕ). got [] (at q behind)) place
+no-group most limit count padded p q all after cut place =
+    ap (λ (g : List ℕ × List ℕ). if nat_lt (length g.0) 4 then last_group g.0 (after_to (at p all) g.1) else grouping most limit count padded (at p all) g) cut
+    ∙ ap (λ (q : ℕ). got [] (at q after)) place
 
-behind-braces : (p : ℕ) (chars behind : List ℕ) → p + (length (chars ++ 125 ∷ 125 ∷ behind) - length (125 ∷ 125 ∷ behind)) + 2 ≡ p + (length chars + 2)
-behind-braces p chars behind = omega (arith, length-append chars (125 ∷ 125 ∷ behind))
+after-braces : (p : ℕ) (chars after : List ℕ) → p + (length (chars ++ 125 ∷ 125 ∷ after) - length (125 ∷ 125 ∷ after)) + 2 ≡ p + (length chars + 2)
+after-braces p chars after = omega (arith, length-append chars (125 ∷ 125 ∷ after))
 
-pub groups-given : (most : ℕ) (limit : Limit) (count : ℕ) (padded : Bool) (p q : ℕ) (bytes chars behind : List ℕ) → Octets bytes → IsBase64 chars bytes
+pub groups-given : (most : ℕ) (limit : Limit) (count : ℕ) (padded : Bool) (p q : ℕ) (bytes chars after : List ℕ) → Octets bytes → IsBase64 chars bytes
     → (padded ≡ true → bytes ≡ []) → Allows limit (count + length bytes) → length chars < most → p + (length chars + 2) ≡ q
-    → groups_for most limit count padded (at p (chars ++ 125 ∷ 125 ∷ behind)) ≡ got bytes (at q behind)
-groups-given zero limit count padded p q bytes chars behind octets base64 last allows enough place = absurd (omega (arith, enough))
-groups-given (suc most) limit count padded p q [] chars behind octets base64 last allows enough place =
-    no-group most limit count padded p q (chars ++ 125 ∷ 125 ∷ behind) behind (none-taken 3 chars (125 ∷ behind) (base64 ∙ encode-nil)) (behind-braces p chars behind ∙ place)
-groups-given (suc most) limit count true p q (b ∷ bytes) chars behind octets base64 last allows enough place = absurd (cc (last refl))
-groups-given (suc most) limit count false p q (b ∷ bytes) chars behind octets base64 last allows enough place =
+    → groups_for most limit count padded (at p (chars ++ 125 ∷ 125 ∷ after)) ≡ got bytes (at q after)
+groups-given zero limit count padded p q bytes chars after octets base64 last allows enough place = absurd (omega (arith, enough))
+groups-given (suc most) limit count padded p q [] chars after octets base64 last allows enough place =
+    no-group most limit count padded p q (chars ++ 125 ∷ 125 ∷ after) after (none-taken 3 chars (125 ∷ after) (base64 ∙ encode-nil)) (after-braces p chars after ∙ place)
+groups-given (suc most) limit count true p q (b ∷ bytes) chars after octets base64 last allows enough place = absurd (cc (last refl))
+groups-given (suc most) limit count false p q (b ∷ bytes) chars after octets base64 last allows enough place =
     let s = split b bytes in
-    let t = taken 4 chars (encode_of standard s.prefix) (encode_of standard s.others) (125 ∷ 125 ∷ behind) (base64 ∙ s.base64) s.four (base64-chars s.prefix) in
+    let t = taken 4 chars (encode_of standard s.prefix) (encode_of standard s.others) (125 ∷ 125 ∷ after) (base64 ∙ s.base64) s.four (base64-chars s.prefix) in
     let all : Octets (s.prefix ++ s.others) = subst Octets s.is octets in
     let many : length (b ∷ bytes) ≡ length s.prefix + length s.others = ap (λ (xs : List ℕ). length xs) s.is ∙ length-append s.prefix s.others in
     let some = s.some in
     let fewer = t.fewer in
     let later = groups-given most limit (count + length s.prefix) (nat_lt (length s.prefix) 3)
-    (p + (length (chars ++ 125 ∷ 125 ∷ behind) - length (t.more ++ 125 ∷ 125 ∷ behind))) q s.others t.more behind
-    (octets-behind s.prefix s.others all) t.rest s.last
-    (subst (Allows limit) (total count (length s.prefix) (length s.others) (length (b ∷ bytes)) many) allows) (omega (arith, enough, fewer)) (omega (arith, place, fewer, length-append chars (125 ∷ 125 ∷ behind), length-append t.more (125 ∷ 125 ∷ behind))) in
-    one-group most limit count p (chars ++ 125 ∷ 125 ∷ behind) (encode_of standard s.prefix) (t.more ++ 125 ∷ 125 ∷ behind) s.prefix s.others (at q behind) t.cut s.four
+    (p + (length (chars ++ 125 ∷ 125 ∷ after) - length (t.more ++ 125 ∷ 125 ∷ after))) q s.others t.more after
+    (octets-after s.prefix s.others all) t.rest s.last
+    (subst (Allows limit) (total count (length s.prefix) (length s.others) (length (b ∷ bytes)) many) allows) (omega (arith, enough, fewer)) (omega (arith, place, fewer, length-append chars (125 ∷ 125 ∷ after), length-append t.more (125 ∷ 125 ∷ after))) in
+    one-group most limit count p (chars ++ 125 ∷ 125 ∷ after) (encode_of standard s.prefix) (t.more ++ 125 ∷ 125 ∷ after) s.prefix s.others (at q after) t.cut s.four
     (group-decoded s.prefix (octets-prefix s.prefix s.others all))
     (allows-fewer limit (count + length (b ∷ bytes)) (count + length s.prefix) (omega (arith, many)) allows) later
-    ∙ ap (λ (xs : List ℕ). got xs (at q behind)) (sym s.is)
+    ∙ ap (λ (xs : List ℕ). got xs (at q after)) (sym s.is)
   where
     total : (count a b n : ℕ) → n ≡ a + b → count + n ≡ count + a + b
     total count a b n e = omega (arith, e)
 
 -- ---- and so is its token
 
--- the white space in front of the characters, and what stands behind it, which does not begin with a quote
+-- the white space in front of the characters, and what stands after it, which does not begin with a quote
 record Led (chars tail : List ℕ) : Type 0 where
   white : List ℕ
   more : List ℕ
@@ -578,32 +578,32 @@ no-quote (b ∷ bytes) e =
     flip : (a b : ℕ) → (b == a) ≡ false → (a == b) ≡ false
     flip a b e = grind (arith, nat_tests)
 
-lob-given : (limit : Limit) (p q : ℕ) (bytes chars behind : List ℕ) → Octets bytes → IsBase64 chars bytes → Allows limit (length bytes)
-    → first_is is_open (chars ++ 125 ∷ 125 ∷ behind) ≡ true → p + (length chars + 2) ≡ q → lob.lob_in limit (at p (chars ++ 125 ∷ 125 ∷ behind)) ≡ body (blob bytes) (at q behind)
-lob-given limit p q bytes chars behind octets base64 allows first place =
-    let all : List ℕ = chars ++ 125 ∷ 125 ∷ behind in
-    let quotes = no-quote (chars ++ 125 ∷ 125 ∷ behind) first in
+lob-given : (limit : Limit) (p q : ℕ) (bytes chars after : List ℕ) → Octets bytes → IsBase64 chars bytes → Allows limit (length bytes)
+    → first_is is_open (chars ++ 125 ∷ 125 ∷ after) ≡ true → p + (length chars + 2) ≡ q → lob.lob_in limit (at p (chars ++ 125 ∷ 125 ∷ after)) ≡ body (blob bytes) (at q after)
+lob-given limit p q bytes chars after octets base64 allows first place =
+    let all : List ℕ = chars ++ 125 ∷ 125 ∷ after in
+    let quotes = no-quote (chars ++ 125 ∷ 125 ∷ after) first in
     ap (λ (short : Bool). if short then lob.clob_at limit false (skip 1 (at p all)) else (if begins_with (39 ∷ 39 ∷ 39 ∷ []) all then lob.clob_at limit true (skip 3 (at p all)) else lob.blob_at limit (at p all))) quotes.0
     ∙ ap (λ (long : Bool). if long then lob.clob_at limit true (skip 3 (at p all)) else lob.blob_at limit (at p all)) quotes.1
     ∙ ap (λ (o : Got). o >>= (λ b. body (blob b.0) b.1))
-    (groups-given (suc (length (chars ++ 125 ∷ 125 ∷ behind))) limit 0 false p q bytes chars behind octets base64 (λ late. absurd (false≢true late))
-    (subst (Allows limit) (zero-more (length bytes)) allows) (omega (arith, length-append chars (125 ∷ 125 ∷ behind))) place)
+    (groups-given (suc (length (chars ++ 125 ∷ 125 ∷ after))) limit 0 false p q bytes chars after octets base64 (λ late. absurd (false≢true late))
+    (subst (Allows limit) (zero-more (length bytes)) allows) (omega (arith, length-append chars (125 ∷ 125 ∷ after))) place)
   where
     zero-more : (n : ℕ) → n ≡ 0 + n
     zero-more n = omega arith
 
-lob_at-given : (limit : Limit) (p q : ℕ) (bytes chars behind : List ℕ) → Octets bytes → IsBase64 chars bytes → Allows limit (length bytes)
-    → p + (length chars + 2) ≡ q → lob.lob_at limit (at p (chars ++ 125 ∷ 125 ∷ behind)) ≡ body (blob bytes) (at q behind)
+lob_at-given : (limit : Limit) (p q : ℕ) (bytes chars after : List ℕ) → Octets bytes → IsBase64 chars bytes → Allows limit (length bytes)
+    → p + (length chars + 2) ≡ q → lob.lob_at limit (at p (chars ++ 125 ∷ 125 ∷ after)) ≡ body (blob bytes) (at q after)
 unfolding lob_at
-lob_at-given limit p q bytes chars behind octets base64 allows place =
-    let l = led chars (125 ∷ behind) (rw base64 (base64-chars bytes)) in
-    let parts : chars ++ 125 ∷ 125 ∷ behind ≡ l.white ++ (l.more ++ 125 ∷ 125 ∷ behind) = ap (λ (xs : List ℕ). xs ++ 125 ∷ 125 ∷ behind) l.is ∙ append_assoc l.white l.more (125 ∷ 125 ∷ behind) in
-    let start : behind_run (first_is is_white) (at p (chars ++ 125 ∷ 125 ∷ behind)) ≡ at (p + length l.white) (l.more ++ 125 ∷ 125 ∷ behind) =
-    ap (λ (z : List ℕ × List ℕ). skip (length z.0) (at p (chars ++ 125 ∷ 125 ∷ behind))) l.run
+lob_at-given limit p q bytes chars after octets base64 allows place =
+    let l = led chars (125 ∷ after) (rw base64 (base64-chars bytes)) in
+    let parts : chars ++ 125 ∷ 125 ∷ after ≡ l.white ++ (l.more ++ 125 ∷ 125 ∷ after) = ap (λ (xs : List ℕ). xs ++ 125 ∷ 125 ∷ after) l.is ∙ append_assoc l.white l.more (125 ∷ 125 ∷ after) in
+    let start : after_run (first_is is_white) (at p (chars ++ 125 ∷ 125 ∷ after)) ≡ at (p + length l.white) (l.more ++ 125 ∷ 125 ∷ after) =
+    ap (λ (z : List ℕ × List ℕ). skip (length z.0) (at p (chars ++ 125 ∷ 125 ∷ after))) l.run
     ∙ ap (λ (xs : List ℕ). skip (length l.white) (at p xs)) parts
-    ∙ skip-prefix p l.white (l.more ++ 125 ∷ 125 ∷ behind) in
+    ∙ skip-prefix p l.white (l.more ++ 125 ∷ 125 ∷ after) in
     ap (λ (c : Cursor). lob.lob_in limit c) start
-    ∙ lob-given limit (p + length l.white) q bytes l.more behind octets (l.same ∙ base64) allows l.first
+    ∙ lob-given limit (p + length l.white) q bytes l.more after octets (l.same ∙ base64) allows l.first
     (omega (arith, place, length-append l.white l.more, ap (λ (xs : List ℕ). length xs) l.is))
 
 pub base64_is_read : Base64IsRead

@@ -10,7 +10,7 @@ use lib.Lanes.{chunk, mask_l}
 use lib.Count.{count_trailing_zeros}
 use Rattle.ion_value.specs.Digits.{first_is, all_are}
 use Rattle.ion_text_in.specs.Overrun.{IsRun}
-use Rattle.ion_text_in.proofs.Runs.{all-behind}
+use Rattle.ion_text_in.proofs.Runs.{all-after}
 
 pub not_not : (b : Bool) → b ≡ not (not b)
 not_not true = refl
@@ -45,7 +45,7 @@ module _ (p : ℕ → Bool) where
   passes_by true x xs n e r = subst (λ k. all_are p (take k (x ∷ xs)) ≡ true) (one_more n) (ap₂ (λ y z. y && z) e r)
   passes_by false x xs n e r = refl
 
-  -- the run passes, and what stands behind it does not
+  -- the run passes, and what stands after it does not
   pub run_passes : (xs : List ℕ) → all_are p (take (prefix_len p xs) xs) ≡ true
   run_passes [] = refl
   run_passes (x ∷ xs) = passes_by (p x) x xs (prefix_len p xs) refl (run_passes xs)
@@ -72,16 +72,16 @@ module _ (p : ℕ → Bool) where
       let within : prefix_len p c < length c = omega (arith, prefix_len-le-length p c, other) in
       (split d i n ∙ ap (λ b. cond b (length c + prefix_len p (drop (i + n) d)) (prefix_len p c)) (ne_eqb _ _ other) ∙ lowest, omega (arith, lowest, long, within))
 
-  -- a run behind bytes that pass
-  pub run-behind : (d : List ℕ) (i n : ℕ) → i ≤ length d → all_are p (take i d) ≡ true → IsRun p (drop i d) n → IsRun p d (i + n)
-  run-behind d i n le before run =
+  -- a run after bytes that pass
+  pub run-after : (d : List ℕ) (i n : ℕ) → i ≤ length d → all_are p (take i d) ≡ true → IsRun p (drop i d) n → IsRun p d (i + n)
+  run-after d i n le before run =
       let within = run.within in
       let long = length-drop i d in
-      record { within = omega (arith, le, within, long); run = all-behind p d i n before run.run; ends = rw (drop-drop n i d) at run.ends }
+      record { within = omega (arith, le, within, long); run = all-after p d i n before run.run; ends = rw (drop-drop n i d) at run.ends }
 
   -- a block in which all pass
   pub run-block : (d : List ℕ) (i n bits : ℕ) → bits ≡ mask_l (map (λ x. not (p x)) (chunk i n d)) → bits ≡ 0 → all_are p (take i d) ≡ true → all_are p (take (i + n) d) ≡ true
-  run-block d i n bits e none before = all-behind p d i n before (all_pass (chunk i n d) (omega (arith, e, none)))
+  run-block d i n bits e none before = all-after p d i n before (all_pass (chunk i n d) (omega (arith, e, none)))
 
   -- one in which one does not
   pub run-found : (d : List ℕ) (i n bits : ℕ) → i + n ≤ length d → n ≤ 64 → bits ≡ mask_l (map (λ x. not (p x)) (chunk i n d)) → 0 < bits → all_are p (take i d) ≡ true
@@ -92,7 +92,7 @@ module _ (p : ℕ → Bool) where
       let count : prefix_len p (drop i d) ≡ count_trailing_zeros 64 bits = at.0 ∙ sym same in
       let within : prefix_len p (drop i d) < length (drop i d) = omega (arith, at.0, at.1, length-drop i d, room) in
       let run : IsRun p (drop i d) (prefix_len p (drop i d)) = record { within = omega (arith, within); run = run_passes (drop i d); ends = run_ends (drop i d) within } in (
-        run-behind d i (count_trailing_zeros 64 bits) (omega (arith, room)) before (subst (λ k. IsRun p (drop i d) k) count run),
+        run-after d i (count_trailing_zeros 64 bits) (omega (arith, room)) before (subst (λ k. IsRun p (drop i d) k) count run),
         omega (arith, at.1, same),
       )
 

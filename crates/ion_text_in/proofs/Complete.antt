@@ -12,15 +12,15 @@ use Rattle.ion_value.specs.Name.{version_word}
 use Rattle.ion_value.specs.Value as value
 use Rattle.ion_value.specs.Value.{Symbol, SymbolAt, Scalar, Value, Members, Top, PlacedItem, bare_item, value_items, member_items, top_items}
 use Rattle.ion_value.specs.Path.{Path, closed, opened, begin_item, nest_items, path_items}
-use Rattle.ion_value.specs.Reading.{Reading, Finished, More, behind, Step, Ends, Gives, GoesOn, reading_by}
-use Rattle.ion_value.proofs.Readings.{behind-append, reading_by-ends, reading_by-gives, reading_by-goes_on}
+use Rattle.ion_value.specs.Reading.{Reading, Finished, More, items_then, Step, Ends, Gives, GoesOn, reading_by}
+use Rattle.ion_value.proofs.Readings.{items_then-append, reading_by-ends, reading_by-gives, reading_by-goes_on}
 use Rattle.ion_meter.specs.Sources.{Cursor}
 use Rattle.ion_value.specs.Parts.{part, refuse, ◌>>=◌, ◌>>◌}
 use Rattle.ion_text_in.specs.Blanks.{blanks}
 use Rattle.ion_text_in.specs.Token.{Token, plain, name, text, operator, begin, end, comma, colons}
 use Rattle.ion_text_in.specs.Reading as reading
 use Rattle.ion_text_in.specs.Positions.{Wants, a_value, a_field, a_separator, State, innermost, in_sexp, has_commas, at, first_place}
-use Rattle.ion_text_in.specs.Reading.{member_of, at_member, behind_member, top_of, item_of, cost, tells_version, behind_colons, step, step_of, take, size, start}
+use Rattle.ion_text_in.specs.Reading.{member_of, at_member, after_member, top_of, item_of, cost, tells_version, after_colons, step, step_of, take, size, start}
 use Rattle.ion_text_in.specs.Grammar.{Tok, Annotations, Field, Txt, Inside, Tops, start_of}
 use Rattle.ion_text_in.specs.Paths.{open_in, Spells, IsTop}
 use Rattle.ion_text_in.specs.Laws.{Complete, StreamsAreRead, PathsWithinAreRead, StreamsWithinAreRead}
@@ -37,12 +37,12 @@ use Rattle.ion_text_in.proofs.Tokens.{state, Suits, value-suits, mark-suits, end
 unfoldable pub read_from : Limits → State → Reading
 read_from limits s = reading_by (step limits) size s
 
--- from a state on these items are read, and what is read behind them is read from the other
+-- from a state on these items are read, and what is read after them is read from the other
 abbrev pub Reads : Limits → State → List PlacedItem → State → Type 0
-Reads limits s items t = read_from limits s ≡ behind items (read_from limits t)
+Reads limits s items t = read_from limits s ≡ items_then items (read_from limits t)
 
 pub reads-then : (limits : Limits) (s t u : State) (xs ys : List PlacedItem) → Reads limits s xs t → Reads limits t ys u → Reads limits s (xs ++ ys) u
-reads-then limits s t u xs ys p q = p ∙ ap (behind xs) q ∙ sym (behind-append xs ys (read_from limits u))
+reads-then limits s t u xs ys p q = p ∙ ap (items_then xs) q ∙ sym (items_then-append xs ys (read_from limits u))
 
 pub reads-gives : (limits : Limits) (s t : State) (item : PlacedItem) → step limits s ≡ Gives item t → Reads limits s (item ∷ []) t
 unfolding read_from
@@ -97,11 +97,11 @@ field-read limits kinds top _ _ c e is (Field.in_quotes {d = d} {p = p} {q = q} 
 
 -- ---- values and members
 
--- what must come behind members
-abbrev pub wants_behind : Option Kind → Bool → Wants
-wants_behind k full = if full then a_separator else at_member k
+-- what must come after members
+abbrev pub wants_after : Option Kind → Bool → Wants
+wants_after k full = if full then a_separator else at_member k
 
-same-wants : (k : Kind) → behind_member (Some k) ≡ wants_behind (Some k) (has_commas (Some k))
+same-wants : (k : Kind) → after_member (Some k) ≡ wants_after (Some k) (has_commas (Some k))
 same-wants kind.List = refl
 same-wants kind.Sexp = refl
 same-wants kind.Struct = refl
@@ -113,28 +113,28 @@ mark-within limits t p d none = omega (arith, none)
 scalar-read : (limits : Limits) (kinds : List Kind) (top : ℕ) (field : Option SymbolAt) (annotations : List SymbolAt) (sexp : Bool) (c d e : Cursor) (p : ℕ) (t : Token) (body : Scalar SymbolAt)
     → in_sexp (innermost kinds) ≡ sexp → (ns : Annotations sexp c annotations d) → AnnotationsWithin limits ns → Tok sexp d t p e → TokenWithin limits t p e
     → step_of (take limits kinds top (a_value field annotations) p t e) ≡ reading.scalar_step kinds top field annotations p body e
-    → Reads limits (state kinds top (a_value field []) c) (value_items (top_of kinds top annotations p) field annotations p (value.scalar body)) (state kinds (top_of kinds top annotations p) (behind_member (innermost kinds)) e)
+    → Reads limits (state kinds top (a_value field []) c) (value_items (top_of kinds top annotations p) field annotations p (value.scalar body)) (state kinds (top_of kinds top annotations p) (after_member (innermost kinds)) e)
 scalar-read limits kinds top field annotations sexp c d e p t body is ns ns_within tok within taken =
     annotations-read limits kinds top field sexp c d annotations is ns ns_within
-    ∙ reads-gives limits (state kinds top (a_value field annotations) d) (state kinds (top_of kinds top annotations p) (behind_member (innermost kinds)) e)
+    ∙ reads-gives limits (state kinds top (a_value field annotations) d) (state kinds (top_of kinds top annotations p) (after_member (innermost kinds)) e)
     (item_of (top_of kinds top annotations p) field annotations p (value.whole body))
     (step-token limits kinds top (a_value field annotations) d t p e (value-suits field annotations t) within (subst (λ sexp. Tok sexp d t p e) (sym is) tok) ∙ taken)
 
--- the end of a container behind its members
-end-suits-behind : (k : Kind) (full : Bool) → Suits (wants_behind (Some k) full) (end k)
-end-suits-behind k true = mark-suits (end k) refl
-end-suits-behind kind.List false = value-suits None [] (end kind.List)
-end-suits-behind kind.Sexp false = value-suits None [] (end kind.Sexp)
-end-suits-behind kind.Struct false = end-suits (end kind.Struct) refl
+-- the end of a container after its members
+end-suits-after : (k : Kind) (full : Bool) → Suits (wants_after (Some k) full) (end k)
+end-suits-after k true = mark-suits (end k) refl
+end-suits-after kind.List false = value-suits None [] (end kind.List)
+end-suits-after kind.Sexp false = value-suits None [] (end kind.Sexp)
+end-suits-after kind.Struct false = end-suits (end kind.Struct) refl
 
 closed-is : (kinds : List Kind) (top : ℕ) (k : Kind) (q : ℕ) (c : Cursor) → step_of (part q (reading.end_step (k ∷ kinds) top k q c))
-    ≡ Gives (item_of top None [] q value.end) (state kinds top (behind_member (innermost kinds)) c)
+    ≡ Gives (item_of top None [] q value.end) (state kinds top (after_member (innermost kinds)) c)
 closed-is kinds top kind.List q c = refl
 closed-is kinds top kind.Sexp q c = refl
 closed-is kinds top kind.Struct q c = refl
 
-end-taken : (limits : Limits) (kinds : List Kind) (top : ℕ) (k : Kind) (full : Bool) (q : ℕ) (c : Cursor) → step_of (take limits (k ∷ kinds) top (wants_behind (Some k) full) q (end k) c)
-    ≡ Gives (item_of top None [] q value.end) (state kinds top (behind_member (innermost kinds)) c)
+end-taken : (limits : Limits) (kinds : List Kind) (top : ℕ) (k : Kind) (full : Bool) (q : ℕ) (c : Cursor) → step_of (take limits (k ∷ kinds) top (wants_after (Some k) full) q (end k) c)
+    ≡ Gives (item_of top None [] q value.end) (state kinds top (after_member (innermost kinds)) c)
 unfolding take
 end-taken limits kinds top k true q c = closed-is kinds top k q c
 end-taken limits kinds top kind.List false q c = refl
@@ -147,7 +147,7 @@ module _ (limits : Limits) where
 
     pub value-read : (kinds : List Kind) (top : ℕ) (field : Option SymbolAt) (k : Option Kind) (c e : Cursor) (annotations : List SymbolAt) (p : ℕ) (v : Value SymbolAt ℕ) → innermost kinds ≡ k
         → (txt : Txt k c annotations p v e) → TxtWithin limits (length kinds) txt
-        → Reads limits (state kinds top (a_value field []) c) (value_items (top_of kinds top annotations p) field annotations p v) (state kinds (top_of kinds top annotations p) (behind_member (innermost kinds)) e)
+        → Reads limits (state kinds top (a_value field []) c) (value_items (top_of kinds top annotations p) field annotations p v) (state kinds (top_of kinds top annotations p) (after_member (innermost kinds)) e)
     value-read kinds top field _ c e _ p _ is (Txt.of_plain {k = k} {d = d} {annotations = annotations} {v = v} ns tok) within =
         scalar-read limits kinds top field annotations (in_sexp k) c d e p (plain v) v (ap in_sexp is) ns within.0 tok within.1 refl
     value-read kinds top field _ c e _ p _ is (Txt.of_text {k = k} {d = d} {annotations = annotations} {bytes = bytes} ns tok) within =
@@ -156,7 +156,7 @@ module _ (limits : Limits) where
         scalar-read limits kinds top field annotations (in_sexp k) c d e p (operator bytes) (value.symbol (at (value.Text bytes) p)) (ap in_sexp is) ns within.0 tok within.1 refl
     value-read kinds top field _ c e _ p _ is (Txt.of_symbol {k = k} {d = d} {annotations = annotations} {quoted = quoted} {symbol = symbol} ns tok alone no_version) within =
         scalar-read limits kinds top field annotations (in_sexp k) c d e p (name quoted symbol) (value.symbol (at symbol p)) (ap in_sexp is) ns within.0 tok within.1
-        (ap (λ o. step_of (part p (reading.symbol_step limits kinds top field annotations quoted (at symbol p) e o))) (ap (λ k. behind_colons (in_sexp k) e) is ∙ colons-none (in_sexp k) e alone)
+        (ap (λ o. step_of (part p (reading.symbol_step limits kinds top field annotations quoted (at symbol p) e o))) (ap (λ k. after_colons (in_sexp k) e) is ∙ colons-none (in_sexp k) e alone)
         ∙ ap (λ told. step_of (part p (reading.value_or_version kinds top field annotations (at symbol p) e told))) (ap (λ k. tells_version k annotations quoted symbol) is ∙ version-none k annotations quoted symbol no_version))
     value-read kinds top field _ c g _ p _ is (Txt.of_members {k = k} {d = d} {e = e} {f = f} {annotations = annotations} {q = q} {j = j} {members = members} {full = full} ns tok ins tok') within =
         let top' : ℕ = top_of kinds top annotations p in
@@ -166,28 +166,28 @@ module _ (limits : Limits) where
         let first = annotations-read limits kinds top field (in_sexp k) c d annotations (ap in_sexp is) ns within.0
         ∙ reads-gives limits (state kinds top (a_value field annotations) d) (state (j ∷ kinds) top' (member_of j) e) (item_of top' field annotations p (value.begin j)) begun in
         let inner = members-read kinds top' j e f members full ins within.1.1 in
-        let last = reads-gives limits (state (j ∷ kinds) top' (wants_behind (Some j) full) f) (state kinds top' (behind_member (innermost kinds)) g) (item_of top' None [] q value.end)
-        (step-token limits (j ∷ kinds) top' (wants_behind (Some j) full) f (end j) q g (end-suits-behind j full) (mark-within limits (end j) q g refl) tok' ∙ end-taken limits kinds top' j full q g) in
+        let last = reads-gives limits (state (j ∷ kinds) top' (wants_after (Some j) full) f) (state kinds top' (after_member (innermost kinds)) g) (item_of top' None [] q value.end)
+        (step-token limits (j ∷ kinds) top' (wants_after (Some j) full) f (end j) q g (end-suits-after j full) (mark-within limits (end j) q g refl) tok' ∙ end-taken limits kinds top' j full q g) in
         first ∙ ap (More (item_of top' field annotations p (value.begin j)))
-        (reads-then limits (state (j ∷ kinds) top' (member_of j) e) (state (j ∷ kinds) top' (wants_behind (Some j) full) f) (state kinds top' (behind_member (innermost kinds)) g)
+        (reads-then limits (state (j ∷ kinds) top' (member_of j) e) (state (j ∷ kinds) top' (wants_after (Some j) full) f) (state kinds top' (after_member (innermost kinds)) g)
         (member_items top' members) (item_of top' None [] q value.end ∷ []) inner last)
 
     pub members-read : (kinds : List Kind) (top : ℕ) (j : Kind) (c d : Cursor) (members : Members SymbolAt ℕ) (full : Bool) → (inside : Inside j c members full d)
         → InsideWithin limits (suc (length kinds)) inside
-        → Reads limits (state (j ∷ kinds) top (member_of j) c) (member_items top members) (state (j ∷ kinds) top (wants_behind (Some j) full) d)
+        → Reads limits (state (j ∷ kinds) top (member_of j) c) (member_items top members) (state (j ∷ kinds) top (wants_after (Some j) full) d)
     members-read kinds top j c _ _ _ Inside.nothing within = refl
     members-read kinds top j c f _ _ (Inside.with_value {d = d} {e = e} {members = members} {field = field} {annotations = annotations} {p = p} {v = v} ins own txt) within =
         let before = members-read kinds top j c d members false ins within.0 in
         let name = field-read limits (j ∷ kinds) top (Some j) field d e refl own within.1.0 in
         let one = value-read (j ∷ kinds) top field (Some j) e f annotations p v refl txt within.1.1 in
-        let all = reads-then limits (state (j ∷ kinds) top (member_of j) c) (state (j ∷ kinds) top (at_member (Some j)) d) (state (j ∷ kinds) top (behind_member (Some j)) f)
+        let all = reads-then limits (state (j ∷ kinds) top (member_of j) c) (state (j ∷ kinds) top (at_member (Some j)) d) (state (j ∷ kinds) top (after_member (Some j)) f)
         (member_items top members) (value_items top field annotations p v) before (name ∙ one) in
         subst (λ wants. Reads limits (state (j ∷ kinds) top (member_of j) c) (member_items top members ++ value_items top field annotations p v) (state (j ∷ kinds) top wants f)) (same-wants j) all
     members-read kinds top j c e _ _ (Inside.with_comma {d = d} {members = members} {p = p} ins tok) within =
         let before = members-read kinds top j c d members true ins within in
         let comma_read = reads-goes_on limits (state (j ∷ kinds) top a_separator d) (state (j ∷ kinds) top (at_member (Some j)) e)
         (step-token limits (j ∷ kinds) top a_separator d comma p e (mark-suits comma refl) (mark-within limits comma p e refl) tok) in
-        before ∙ ap (behind (member_items top members)) comma_read
+        before ∙ ap (items_then (member_items top members)) comma_read
 
 -- ---- the top level, and paths
 
@@ -238,7 +238,7 @@ open-items (opened tops first nest) q top field annotations p k members fits =
 record PathRead (limits : Limits) (bytes : List ℕ) (path : Path SymbolAt ℕ) (kinds : List Kind) (full : Bool) (c : Cursor) : Type 0 where
   top : ℕ
   is_top : IsTop path top
-  read : Reads limits (start bytes) (path_items path) (state kinds top (wants_behind (innermost kinds) full) c)
+  read : Reads limits (start bytes) (path_items path) (state kinds top (wants_after (innermost kinds) full) c)
 
 module _ (limits : Limits) (bytes : List ℕ) where
   path-read : (c : Cursor) (path : Path SymbolAt ℕ) (kinds : List Kind) (full : Bool) (s : Spells (start_of bytes) path kinds full c) → PathWithin limits s
@@ -255,12 +255,12 @@ module _ (limits : Limits) (bytes : List ℕ) where
       ∙ annotations-read limits kinds before.top field (in_sexp (innermost kinds)) d e annotations refl ns within.1.1.0
       ∙ reads-gives limits (state kinds before.top (a_value field annotations) e) (state (k ∷ kinds) top' (member_of k) f) (item_of top' field annotations p (value.begin k)) begun in
       let inner = members-read limits kinds top' k f g members full ins within.1.1.1.1 in
-      let all = reads-then limits (start bytes) (state kinds before.top (at_member (innermost kinds)) c) (state (k ∷ kinds) top' (wants_behind (Some k) full) g) (path_items path)
+      let all = reads-then limits (start bytes) (state kinds before.top (at_member (innermost kinds)) c) (state (k ∷ kinds) top' (wants_after (Some k) full) g) (path_items path)
       (item_of top' field annotations p (value.begin k) ∷ member_items top' members) before.read (first ∙ ap (More (item_of top' field annotations p (value.begin k))) inner) in
       record {
         top = top';
         is_top = open-top path kinds false before.top field annotations p k members s before.is_top;
-        read = subst (λ items. Reads limits (start bytes) items (state (k ∷ kinds) top' (wants_behind (Some k) full) g))
+        read = subst (λ items. Reads limits (start bytes) items (state (k ∷ kinds) top' (wants_after (Some k) full) g))
             (sym (open-items path (first_place annotations p) top' field annotations p k members (fits path kinds false before.top field annotations p s before.is_top own))) all;
       }
 
@@ -270,8 +270,8 @@ reading-read_from limits bytes = refl
 
 pub paths_within : PathsWithinAreRead
 paths_within limits bytes q path is within =
-    let all = path-read limits bytes is.behind path is.kinds is.full is.spells within in
-    (read_from limits (state is.kinds all.top (wants_behind (innermost is.kinds) is.full) is.behind), reading-read_from limits bytes ∙ all.read)
+    let all = path-read limits bytes is.after path is.kinds is.full is.spells within in
+    (read_from limits (state is.kinds all.top (wants_after (innermost is.kinds) is.full) is.after), reading-read_from limits bytes ∙ all.read)
 
 pub complete : Complete
 complete limits bytes q path allows is = paths_within limits bytes q path is (path-allowed limits bytes allows is.spells)
@@ -279,12 +279,12 @@ complete limits bytes q path allows is = paths_within limits bytes q path is (pa
 ends-step : (limits : Limits) (top : ℕ) (c e : Cursor) → blanks c ≡ Ok e → e.rest ≡ [] → step limits (state [] top (a_value None []) c) ≡ Ends
 unfolding step reading.part_at
 ends-step limits top c e blank none =
-    ap step_of (ap (λ o. o >>= (λ b. reading.part_behind limits (state [] top (a_value None []) c) b b.rest)) blank ∙ ap (reading.part_behind limits (state [] top (a_value None []) c) e) none)
+    ap step_of (ap (λ o. o >>= (λ b. reading.part_after limits (state [] top (a_value None []) c) b b.rest)) blank ∙ ap (reading.part_after limits (state [] top (a_value None []) c) e) none)
 
 pub streams_within : StreamsWithinAreRead
 streams_within limits bytes tops is within =
     let all = tops-read limits bytes is.last tops is.spells within in
-    reading-read_from limits bytes ∙ all.1 ∙ ap (behind (top_items tops)) (read_from-ends limits (state [] all.0 (a_value None []) is.last) (ends-step limits all.0 is.last is.end is.blank is.nothing_left))
+    reading-read_from limits bytes ∙ all.1 ∙ ap (items_then (top_items tops)) (read_from-ends limits (state [] all.0 (a_value None []) is.last) (ends-step limits all.0 is.last is.end is.blank is.nothing_left))
 
 pub streams_are_read : StreamsAreRead
 streams_are_read limits bytes tops allows is = streams_within limits bytes tops is (tops-allowed limits bytes allows is.spells)

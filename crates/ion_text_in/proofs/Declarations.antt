@@ -73,7 +73,7 @@ long-text bytes many = record {
   version = λ same. let long : length bytes ≡ 8 = ap length (ap text_in same) in absurd (omega (arith, many, long));
 }
 
--- ---- words behind a dollar sign
+-- ---- words after a dollar sign
 
 first-dollar : (in_sexp : Bool) (b : ℕ) (bytes : List ℕ) → is_dollar b ≡ true → first_at in_sexp (b ∷ bytes) ≡ a_word
 unfolding first_at
@@ -106,11 +106,11 @@ word-first b bytes other = by_type (bytes_eq (codes "null") (b ∷ (run_of in_wo
     by_type true = other
     by_type false = other
 
-word-none : (w : List ℕ) (behind : Cursor) → first_is is_dollar w ≡ false → IfOk (word_token w >>= (λ t. Ok (t, behind))) (λ (read : Token × Cursor). DeclaresNone read.0)
+word-none : (w : List ℕ) (after : Cursor) → first_is is_dollar w ≡ false → IfOk (word_token w >>= (λ t. Ok (t, after))) (λ (read : Token × Cursor). DeclaresNone read.0)
 unfolding word_token
-word-none w behind other = by (keyword w)
+word-none w after other = by (keyword w)
   where
-    by : (k : Option Keyword) → IfOk (by_keyword k w >>= (λ t. Ok (t, behind))) (λ (read : Token × Cursor). DeclaresNone read.0)
+    by : (k : Option Keyword) → IfOk (by_keyword k w >>= (λ t. Ok (t, after))) (λ (read : Token × Cursor). DeclaresNone read.0)
     by None = rw other (other-text w other)
     by (Some (a_null None)) = tt
     by k = tt

@@ -8,7 +8,7 @@ use Rattle.ion_meter.specs.declared.limits.Limits.{Limits}
 use Rattle.ion_value.specs.declared.ion_type.Kind.{Kind}
 use Rattle.ion_value.specs.Value as value
 use Rattle.ion_value.specs.Value.{Symbol, SymbolAt}
-use Rattle.ion_value.specs.Reading.{Step, Ends, Stops, Gives, GoesOn, Leaves, behind_item, behind_nothing, Shrinks}
+use Rattle.ion_value.specs.Reading.{Step, Ends, Stops, Gives, GoesOn, Leaves, after_item, after_nothing, Shrinks}
 use Rattle.ion_value.specs.ReadingLaws.{AreWithin}
 use Rattle.ion_value.proofs.Faults.{Blames, is_limit, Free, free}
 use Rattle.ion_meter.specs.Sources.{Cursor}
@@ -19,10 +19,10 @@ use Rattle.ion_text_in.specs.Laws.{Passes}
 use Rattle.ion_text_in.specs.Token.{First, a_colon, first_at, Token, plain, name, text, operator, no_number, begin, end, comma, colons, token_of, next_token}
 use Rattle.ion_text_in.specs.Reading as reading
 use Rattle.ion_text_in.specs.Positions.{at, Wants, a_value, a_field, a_separator, State, innermost, in_sexp}
-use Rattle.ion_text_in.specs.Reading.{cost, may_come, behind_colons, tells_version, step, step_of, take, part_at, size}
+use Rattle.ion_text_in.specs.Reading.{cost, may_come, after_colons, tells_version, step, step_of, take, part_at, size}
 use Rattle.ion_text_in.proofs.Advancing.{tok-took}
 use Rattle.ion_text_in.proofs.Shrinking.{Passed, Past, skip-within, blanks-pass, blanks-within, token-past}
-use Rattle.ion_text_in.proofs.Steps.{tok-read, colons-behind}
+use Rattle.ion_text_in.proofs.Steps.{tok-read, colons-after}
 use Rattle.ion_text_in.proofs.TokenCuts.{Cut, same, limit, bind-Cut, Short, token_counts, token-cut}
 use Rattle.ion_text_in.proofs.WentWell.{part-known}
 
@@ -128,14 +128,14 @@ module _ (limits wide : Limits) (within : AreWithin limits wide) where
 
     -- an annotation
     symbol-Cut : (field : Option SymbolAt) (annotations : List SymbolAt) (quoted : Bool) (symbol : Symbol) (p : ℕ) (d : Cursor) → s.wants ≡ a_value field annotations
-        → Tok sexp s.cursor (name quoted symbol) p d → (o : Option Cursor) → behind_colons sexp d ≡ o
+        → Tok sexp s.cursor (name quoted symbol) p d → (o : Option Cursor) → after_colons sexp d ≡ o
         → Steps limits s (suc (length d.rest)) (part p (reading.symbol_step limits s.kinds s.top field annotations quoted (at symbol p) d o))
         (part p (reading.symbol_step wide s.kinds s.top field annotations quoted (at symbol p) d o))
     symbol-Cut field annotations quoted symbol p d are tok None found =
         same _ (told-less s.kinds s.top field annotations (at symbol p) p d (tells_version (innermost s.kinds) annotations quoted symbol))
     symbol-Cut field annotations quoted symbol p d are tok (Some e) found =
         let cost_is : ℕ = sum_by cost (annotations ++ at symbol p ∷ []) in
-        let after = colons-behind sexp d e found in
+        let after = colons-after sexp d e found in
         let le = (tok-took sexp d e colons after.0 after.1).less in
         refused-Cut limits s (suc (length d.rest)) p (nat_lt limits.scalar cost_is) (nat_lt wide.scalar cost_is) reason.AnnotationLimit _ (scalar-passed cost_is)
         (λ more. Passes.annotations field annotations quoted symbol after.0 d e are tok after.1 (ltb-true limits.scalar cost_is more)) (omega (arith, le))
@@ -159,7 +159,7 @@ module _ (limits wide : Limits) (within : AreWithin limits wide) where
     take-Cut (a_value field annotations) p (plain v) d are tok = same _ (record { so = omega arith })
     take-Cut (a_value field annotations) p (text t) d are tok = same _ (record { so = omega arith })
     take-Cut (a_value field annotations) p (operator t) d are tok = same _ (record { so = omega arith })
-    take-Cut (a_value field annotations) p (name quoted symbol) d are tok = symbol-Cut field annotations quoted symbol p d are tok (behind_colons (in_sexp (innermost s.kinds)) d) refl
+    take-Cut (a_value field annotations) p (name quoted symbol) d are tok = symbol-Cut field annotations quoted symbol p d are tok (after_colons (in_sexp (innermost s.kinds)) d) refl
     take-Cut (a_value field annotations) p (begin k) d are tok = begun-Cut field annotations k p d tok
     take-Cut (a_value field annotations) p no_number d are tok = same _ (fault _ p reason.Float refl)
     take-Cut wants p t d are tok = same _ (fault _ p reason.BadToken refl)
@@ -194,15 +194,15 @@ module _ (limits wide : Limits) (within : AreWithin limits wide) where
         (take-Cut s.wants c.place t.0 t.1 refl
         (tok-read (Some limits.scalar) sexp s.cursor c t.1 t.0 blank (ap (λ first. token_of (Some limits.scalar) first c) is ∙ token))))
 
-    behind-Cut : (c : Cursor) (rest : List ℕ) → blanks s.cursor ≡ Ok c → c.rest ≡ rest → Steps limits s (size s) (reading.part_behind limits s c rest) (reading.part_behind wide s c rest)
-    behind-Cut c [] blank is = same _ (ended-less (size s) s.kinds s.wants c.place)
-    behind-Cut c (b ∷ rest) blank is = coming-Cut c (first_at sexp (b ∷ rest)) (may_come s.wants (first_at sexp (b ∷ rest))) blank (omega (arith, ap length is)) (ap (first_at sexp) is)
+    after-Cut : (c : Cursor) (rest : List ℕ) → blanks s.cursor ≡ Ok c → c.rest ≡ rest → Steps limits s (size s) (reading.part_after limits s c rest) (reading.part_after wide s c rest)
+    after-Cut c [] blank is = same _ (ended-less (size s) s.kinds s.wants c.place)
+    after-Cut c (b ∷ rest) blank is = coming-Cut c (first_at sexp (b ∷ rest)) (may_come s.wants (first_at sexp (b ∷ rest))) blank (omega (arith, ap length is)) (ap (first_at sexp) is)
 
     pub step-Cut : StepCut limits s (step limits s) (step wide s)
     unfolding step part_at
     step-Cut = by (part_at limits s) (part_at wide s)
         (bind-Cut (λ r. Blames FreeAt r) (λ r. Less (size s) r) (PassesAt limits s) (PassesAt limits s) (blanks s.cursor) (blanks s.cursor) _ _ (λ e free. record { so = free.so }) (λ e w passes. passes)
-        (same _ (free-blanks (blanks s.cursor) (blanks-pass s.cursor))) (λ c blank _. behind-Cut c c.rest blank refl))
+        (same _ (free-blanks (blanks s.cursor) (blanks-pass s.cursor))) (λ c blank _. after-Cut c c.rest blank refl))
       where
         free-blanks : (o : Placed Cursor) → Passed (size s) o → Blames FreeAt o
         free-blanks (Ok c) passed = record { so = tt }
@@ -215,8 +215,8 @@ module _ (limits wide : Limits) (within : AreWithin limits wide) where
 -- ---- each step takes a byte
 
 leaves-less : (n : ℕ) (o : Step State) (after : State) → LeavesLess n o → Leaves o after → size after < n
-leaves-less n _ _ less (behind_item item after) = less
-leaves-less n _ _ less (behind_nothing after) = less
+leaves-less n _ _ less (after_item item after) = less
+leaves-less n _ _ less (after_nothing after) = less
 
 cut-falls : (limits : Limits) (s after : State) (o w : Step State) → StepCut limits s o w → Leaves o after → size after < size s
 cut-falls limits s after _ _ (same_step o less) leaves = leaves-less (size s) o after less leaves

@@ -10,7 +10,7 @@ use Rattle.ion_text_in.specs.Feeding.{LeadsTo, PassesBlanks}
 use Rattle.ion_text_in.specs.Overrun.{is_neither}
 use Rattle.ion_text_in.proofs.BlankRuns.{white-over}
 use Rattle.ion_text_in.proofs.BlankTurns.{block-begins, block-over-run, line-begins, line-over-end, star-other, star-stands, star-then}
-use Rattle.ion_text_in.proofs.FeedReading.{behind-then, some-behind}
+use Rattle.ion_text_in.proofs.FeedReading.{after-then, some-after}
 
 -- ---- one after the other
 
@@ -19,19 +19,19 @@ leads-then f g h x y z a b =
     let first = a.fewer in
     let second = b.fewer in
     record {
-      part = behind-then x y z a.part b.part;
+      part = after-then x y z a.part b.part;
       fewer = omega (arith, first, second);
       same = λ p r more e.
           let q : ℕ = p + (length x - length y) in
           a.same p q more (omega (arith, first)) ∙ b.same q r more (omega (arith, first, second, e));
     }
 
-pub passes-behind : (x y z : List ℕ) → LeadsTo blanks_at blanks_at x y → PassesBlanks y z → PassesBlanks x z
-passes-behind x y z a b =
+pub passes-after : (x y z : List ℕ) → LeadsTo blanks_at blanks_at x y → PassesBlanks y z → PassesBlanks x z
+passes-after x y z a b =
     let first = a.fewer in
     let second = b.fewer in
     record {
-      part = behind-then x y z a.part b.part;
+      part = after-then x y z a.part b.part;
       fewer = omega (arith, first, second);
       blank = λ p r more e.
           let q : ℕ = p + (length x - length y) in
@@ -47,7 +47,7 @@ leads-over f g bytes n within over =
     let long : length rest ≡ length bytes - n = length-drop n bytes in
     let taken_long : length (take n bytes) ≡ n = length-take-le n bytes within in
     record {
-      part = some-behind bytes n within;
+      part = some-after bytes n within;
       fewer = omega (arith, long);
       same = λ p q more e.
           let q_is : p + length (take n bytes) ≡ q = omega (arith, e, long, within, taken_long) in
@@ -66,7 +66,7 @@ line-after : (line rest : List ℕ) → LeadsTo in_line blanks_at line rest → 
 line-after line rest a =
     let fewer = a.fewer in
     record {
-      part = behind-then (47 ∷ 47 ∷ line) line rest (some-behind (47 ∷ 47 ∷ line) 2 (omega arith)) a.part;
+      part = after-then (47 ∷ 47 ∷ line) line rest (some-after (47 ∷ 47 ∷ line) 2 (omega arith)) a.part;
       fewer = omega (arith, fewer);
       same = λ p q more e. line-begins p (line ++ more) ∙ a.same (p + 2) q more (omega (arith, e));
     }
@@ -76,7 +76,7 @@ block-after block rest a =
     let any = a 0 in
     let fewer = any.fewer in
     record {
-      part = behind-then (47 ∷ 42 ∷ block) block rest (some-behind (47 ∷ 42 ∷ block) 2 (omega arith)) any.part;
+      part = after-then (47 ∷ 42 ∷ block) block rest (some-after (47 ∷ 42 ∷ block) 2 (omega arith)) any.part;
       fewer = omega (arith, fewer);
       same = λ p q more e. let own = a p in block-begins p (block ++ more) ∙ own.same (p + 2) q more (omega (arith, e));
     }
@@ -108,7 +108,7 @@ star-ends : (start : ℕ) (t rest : List ℕ) → 2 ≤ length t → slice_get t
 star-ends start [] rest two first second is = absurd (omega (arith, two))
 star-ends start (a ∷ []) rest two first second is = absurd (omega (arith, two))
 star-ends start (a ∷ b ∷ t) rest two first second is = subst (λ (l : List ℕ). LeadsTo (in_block start) blanks_at (a ∷ b ∷ t) l) (sym is) (record {
-  part = some-behind (a ∷ b ∷ t) 2 (omega arith);
+  part = some-after (a ∷ b ∷ t) 2 (omega arith);
   fewer = omega arith;
   same = λ p q more e.
       let q_is : p + 2 ≡ q = omega (arith, e) in
@@ -119,7 +119,7 @@ star-passed : (start : ℕ) (t rest : List ℕ) → 2 ≤ length t → slice_get
 star-passed start [] rest two first other is = absurd (omega (arith, two))
 star-passed start (a ∷ []) rest two first other is = absurd (omega (arith, two))
 star-passed start (a ∷ b ∷ t) rest two first other is = subst (λ (l : List ℕ). LeadsTo (in_block start) (in_block start) (a ∷ b ∷ t) l) (sym is) (record {
-  part = some-behind (a ∷ b ∷ t) 1 (omega arith);
+  part = some-after (a ∷ b ∷ t) 1 (omega arith);
   fewer = omega arith;
   same = λ p q more e.
       let q_is : p + 1 ≡ q = omega (arith, e) in
@@ -134,12 +134,12 @@ star-at bytes star n is within two ends =
 
 pub leads-block : (start : ℕ) (bytes star rest : List ℕ) (n : ℕ) → n ≤ length bytes → all_are (is_neither 42 42) (take n bytes) ≡ true → first_is (is_neither 42 42) (drop n bytes) ≡ false → star ≡ drop n bytes
     → 2 ≤ length star → get_or star 1 0 ≡ 47 → rest ≡ drop 2 star → LeadsTo (in_block start) blanks_at bytes rest
-leads-block start bytes star rest n within run ends is two slash behind =
+leads-block start bytes star rest n within run ends is two slash after =
     leads-then (in_block start) (in_block start) blanks_at bytes star rest (subst (λ (l : List ℕ). LeadsTo (in_block start) (in_block start) bytes l) (sym is) (leads-plain start bytes n within run))
-    (star-ends start star rest two (star-at bytes star n is within two ends) slash behind)
+    (star-ends start star rest two (star-at bytes star n is within two ends) slash after)
 
 pub leads-star : (start : ℕ) (bytes star rest : List ℕ) (n : ℕ) → n ≤ length bytes → all_are (is_neither 42 42) (take n bytes) ≡ true → first_is (is_neither 42 42) (drop n bytes) ≡ false → star ≡ drop n bytes
     → 2 ≤ length star → (get_or star 1 0 ≡ 47 → ⊥) → rest ≡ drop 1 star → LeadsTo (in_block start) (in_block start) bytes rest
-leads-star start bytes star rest n within run ends is two other behind =
+leads-star start bytes star rest n within run ends is two other after =
     leads-then (in_block start) (in_block start) (in_block start) bytes star rest (subst (λ (l : List ℕ). LeadsTo (in_block start) (in_block start) bytes l) (sym is) (leads-plain start bytes n within run))
-    (star-passed start star rest two (star-at bytes star n is within two ends) other behind)
+    (star-passed start star rest two (star-at bytes star n is within two ends) other after)

@@ -22,14 +22,14 @@ use Rattle.ion_text_in.specs.declared.quoted.Quote.{Quote as CodeQuote}
 use Rattle.ion_text_in.specs.declared.quoted.Quote.TheVariants as quotes
 use Rattle.ion_text_in.specs.declared.scanned.Scanned.TheVariants.{Whole}
 use Rattle.ion_text_in.specs.declared.word.Word.{Word}
-use Rattle.ion_text_in.specs.Feeding.{item_in, state, Begins, BeginsAs, BeginsText, IsBehind, IsBetween, IsHead, IsHeadAs, IsNext, IsSimpleWord}
+use Rattle.ion_text_in.specs.Feeding.{item_in, state, Begins, BeginsAs, BeginsText, IsAfter, IsBetween, IsHead, IsHeadAs, IsNext, IsSimpleWord}
 use Rattle.ion_text_in.specs.Firsts.{numbered}
 use Rattle.ion_text_in.specs.Meaning.{at}
 use Rattle.ion_text_in.specs.Positions as positions
 use Rattle.ion_text_in.specs.Positions.{a_value, in_sexp, innermost}
 use Rattle.ion_text_in.specs.Quoted.{Quote, short_quote, symbol_quote, text_at}
 use Rattle.ion_text_in.specs.Quotes.{quote_of}
-use Rattle.ion_text_in.specs.Reading.{take as taken, behind_colons, behind_member, colons_at, colons_behind, symbol_step, tells_version, top_of, value_or_version}
+use Rattle.ion_text_in.specs.Reading.{take as taken, after_colons, after_member, colons_at, colons_after, symbol_step, tells_version, top_of, value_or_version}
 use Rattle.ion_text_in.specs.Scanners.{Shows}
 use Rattle.ion_text_in.specs.Steps.{comes, later}
 use Rattle.ion_text_in.specs.Token as tokens
@@ -37,7 +37,7 @@ use Rattle.ion_text_in.specs.Token.{First, Token, first_at, token_of}
 use Rattle.ion_text_in.specs.Views.{word_token_of}
 use Rattle.ion_text_in.proofs.BlankTurns.{no-slash}
 use Rattle.ion_text_in.proofs.FeedNames.{dollar-version, may-quoted, may-string, name-token, string-names, symbol-names, IsName}
-use Rattle.ion_text_in.proofs.FeedReading.{behind-then, head-token, mark-behind, plain-taken, some-behind, token-front, IsToken}
+use Rattle.ion_text_in.proofs.FeedReading.{after-then, head-token, mark-after, plain-taken, some-after, token-front, IsToken}
 use Rattle.ion_text_in.proofs.FirstTokens.{no-colons}
 use Rattle.ion_text_in.proofs.ShownFurther.{shown-some}
 
@@ -46,17 +46,17 @@ use Rattle.ion_text_in.proofs.ShownFurther.{shown-some}
 -- a null or a bool, as the code reads it of a word
 pub head-keyword : {limits : Limits} {place n : ℕ} {x known : Word} {body : Scalar SymbolAt} {bytes rest : List ℕ} → x ≡ known → word_token_of (take n bytes) known ≡ tokens.plain body → IsPlainScalar body → InRange body
     → rest ≡ drop n bytes → Shows (word_token_of (take n bytes)) bytes (Whole x n) (token_of (Some limits.scalar) tokens.a_word) → BeginsAs tokens.a_word bytes → IsHead limits place bytes (value.whole body) rest
-head-keyword {limits} {place} {n} {x} {body} {bytes} {rest} is says known range behind shows begins =
+head-keyword {limits} {place} {n} {x} {body} {bytes} {rest} is says known range after shows begins =
     let counts = shown-some (word_token_of (take n bytes)) bytes x n (Some limits.scalar) tokens.a_word shows begins.some in
     let token = ap (λ (w : Word). word_token_of (take n bytes) w) is ∙ says in
-    head-token body body known range (token-front behind (omega (arith, counts)) shows.0 (λ place more. shows.1 place more ∙ ap (λ (t : Token). Ok (t, at (place + n) (drop n bytes ++ more))) token) begins)
+    head-token body body known range (token-front after (omega (arith, counts)) shows.0 (λ place more. shows.1 place more ∙ ap (λ (t : Token). Ok (t, at (place + n) (drop n bytes ++ more))) token) begins)
     (λ kinds top q field annotations more. plain-taken limits kinds top place q field annotations body (rest ++ more))
 
 -- ---- texts between quotes
 
 text-taken : (limits : Limits) (kinds : List Kind) (top place q : ℕ) (field : Option SymbolAt) (annotations : List SymbolAt) (bytes rest : List ℕ)
     → comes limits (taken limits kinds top (a_value field annotations) place (tokens.text bytes) (at q rest))
-    ≡ More (item_in kinds top field annotations place (value.whole (value.string bytes))) (later limits (state kinds (top_of kinds top annotations place) (behind_member (innermost kinds)) q rest))
+    ≡ More (item_in kinds top field annotations place (value.whole (value.string bytes))) (later limits (state kinds (top_of kinds top annotations place) (after_member (innermost kinds)) q rest))
 unfolding taken
 text-taken limits kinds top place q field annotations bytes rest = refl
 
@@ -68,26 +68,26 @@ quoted-token : (limit : Option ℕ) (c d : Cursor) (bytes : List ℕ) → text_a
 unfolding token_of
 quoted-token limit c d bytes e = ap (λ (o : Result (List ℕ × Cursor) Reason). o >>= (λ t. Ok (tokens.name true (value.Text t.0), t.1))) e
 
--- such a text, as the code finds it behind the first quote
+-- such a text, as the code finds it after the first quote
 pub is-between : {quote : Quote} {limit : ℕ} {bytes inside : List ℕ} {found : Between} (plain count : ℕ) → inside ≡ drop 1 bytes → found.text.now ≡ take plain inside → found.rest.now ≡ drop count inside
     → Shows (λ n. take n inside) inside (Whole plain count) (λ c. text_at quote (Some limit) c) → 0 < length bytes → IsBetween quote limit bytes found
-is-between {quote} {limit} {bytes} {inside} {found} plain count within_it text behind shows some =
+is-between {quote} {limit} {bytes} {inside} {found} plain count within_it text after shows some =
     let rest = found.rest.now in
     let one = length-drop 1 bytes in
     let inside_long = ap (λ (l : List ℕ). length l) within_it in
     let long = length-drop count inside in
-    let rest_long = ap (λ (l : List ℕ). length l) behind in
+    let rest_long = ap (λ (l : List ℕ). length l) after in
     let within = shows.0 in
     record {
-      part = behind-then bytes inside rest (subst (λ (l : List ℕ). IsBehind bytes l) (sym within_it) (some-behind bytes 1 (omega (arith, some))))
-          (subst (λ (l : List ℕ). IsBehind inside l) (sym behind) (some-behind inside count within));
+      part = after-then bytes inside rest (subst (λ (l : List ℕ). IsAfter bytes l) (sym within_it) (some-after bytes 1 (omega (arith, some))))
+          (subst (λ (l : List ℕ). IsAfter inside l) (sym after) (some-after inside count within));
       fewer = omega (arith, one, inside_long, long, rest_long, within, some);
       shown = λ place q more e.
           let q_is : (place + 1) + count ≡ q = omega (arith, e, one, inside_long, long, rest_long, within, some) in
-          ap (λ (c : Cursor). text_at quote (Some limit) c) (mark-behind bytes more place (place + 1) some (omega (arith, one, some)) ∙ ap (λ (l : List ℕ). at (place + 1) (l ++ more)) (sym within_it))
+          ap (λ (c : Cursor). text_at quote (Some limit) c) (mark-after bytes more place (place + 1) some (omega (arith, one, some)) ∙ ap (λ (l : List ℕ). at (place + 1) (l ++ more)) (sym within_it))
           ∙ (shows.1 (place + 1) more
           ∙ (ap (λ (k : ℕ). Ok (take plain inside, at k (drop count inside ++ more))) q_is
-          ∙ (ap (λ (l : List ℕ). Ok (take plain inside, at q (l ++ more))) (sym behind) ∙ ap (λ (l : List ℕ). Ok (l, at q (rest ++ more))) (sym text))));
+          ∙ (ap (λ (l : List ℕ). Ok (take plain inside, at q (l ++ more))) (sym after) ∙ ap (λ (l : List ℕ). Ok (l, at q (rest ++ more))) (sym text))));
     }
 
 pub token-short : {limit place : ℕ} {bytes : List ℕ} {found : Between} → IsBetween (short_quote false) limit bytes found → BeginsAs tokens.a_short bytes → IsToken limit tokens.a_short (tokens.text found.text.now) place bytes found.rest.now
@@ -144,9 +144,9 @@ quoted-marker None (a ∷ annotations) word = refl
 quoted-marker (Some k) annotations word = refl
 
 name-taken : (limits : Limits) (kinds : List Kind) (top place q : ℕ) (field : Option SymbolAt) (annotations : List SymbolAt) (quoted : Bool) (symbol : Symbol) (rest : List ℕ)
-    → behind_colons (in_sexp (innermost kinds)) (at q rest) ≡ None → tells_version (innermost kinds) annotations quoted symbol ≡ false
+    → after_colons (in_sexp (innermost kinds)) (at q rest) ≡ None → tells_version (innermost kinds) annotations quoted symbol ≡ false
     → comes limits (taken limits kinds top (a_value field annotations) place (tokens.name quoted symbol) (at q rest))
-    ≡ More (item_in kinds top field annotations place (value.whole (value.symbol (positions.at symbol place)))) (later limits (state kinds (top_of kinds top annotations place) (behind_member (innermost kinds)) q rest))
+    ≡ More (item_in kinds top field annotations place (value.whole (value.symbol (positions.at symbol place)))) (later limits (state kinds (top_of kinds top annotations place) (after_member (innermost kinds)) q rest))
 unfolding taken
 name-taken limits kinds top place q field annotations quoted symbol rest none told =
     let c = at q rest in
@@ -154,27 +154,27 @@ name-taken limits kinds top place q field annotations quoted symbol rest none to
     ∙ ap (λ (b : Bool). comes limits (part place (value_or_version kinds top field annotations (positions.at symbol place) c b))) told
 
 -- a token that is told is no two colons
-told-none : (sexp : Bool) (q : ℕ) (rest more : List ℕ) (next : Next) → IsNext rest next → 0 < next.told → behind_colons sexp (at q (rest ++ more)) ≡ None
+told-none : (sexp : Bool) (q : ℕ) (rest more : List ℕ) (next : Next) → IsNext rest next → 0 < next.told → after_colons sexp (at q (rest ++ more)) ≡ None
 told-none sexp q rest more next is told =
     let passes = is.passes (is.some told) in
     let fewer = passes.fewer in
     let next_place : ℕ = q + (length rest - length next.rest.now) in
-    ap (colons_behind sexp) (passes.blank q next_place more (omega (arith, fewer)))
+    ap (colons_after sexp) (passes.blank q next_place more (omega (arith, fewer)))
     ∙ (ap (λ (f : First). colons_at f (at next_place (next.rest.now ++ more))) (is.tells told sexp more) ∙ no-colons next.told (at next_place (next.rest.now ++ more)))
 
--- a symbol, which is read as `symbol` and seen as `seen`, behind which such a token is told
+-- a symbol, which is read as `symbol` and seen as `seen`, after which such a token is told
 pub head-word : {limits : Limits} {place : ℕ} {first : First} {bytes rest : List ℕ} (quoted : Bool) (symbol seen : Symbol) (next : Next) → IsToken limits.scalar first (tokens.name quoted symbol) place bytes rest
     → IsKnownOrZero seen → ((k : Option Kind) (annotations : List SymbolAt) → tells_version k annotations quoted symbol ≡ false) → IsNext rest next → (next.told ≡ 0 → ⊥)
     → IsHeadAs (value.whole (value.symbol (positions.at symbol place))) limits place bytes (value.whole (value.symbol (positions.at seen place))) rest
-head-word {limits} {place} {first} {bytes} {rest} quoted symbol seen next is known version behind told =
+head-word {limits} {place} {first} {bytes} {rest} quoted symbol seen next is known version after told =
     let some : 0 < next.told = omega (arith, told) in
     head-token (value.symbol (positions.at symbol place)) (value.symbol (positions.at seen place)) known tt is
     (λ kinds top q field annotations more.
-    name-taken limits kinds top place q field annotations quoted symbol (rest ++ more) (told-none (in_sexp (innermost kinds)) q rest more next behind some) (version (innermost kinds) annotations))
+    name-taken limits kinds top place q field annotations quoted symbol (rest ++ more) (told-none (in_sexp (innermost kinds)) q rest more next after some) (version (innermost kinds) annotations))
 
 pub token-word : {limit place n : ℕ} {bytes rest : List ℕ} → rest ≡ drop n bytes → IsSimpleWord limit bytes n → BeginsAs tokens.a_word bytes
     → IsToken limit tokens.a_word (tokens.name false (value.Text (take n bytes))) place bytes rest
-token-word behind word begins = token-front behind word.some word.within word.shown begins
+token-word after word begins = token-front after word.some word.within word.shown begins
 
 pub word-marker : {limit n : ℕ} {bytes : List ℕ} → IsSimpleWord limit bytes n → (k : Option Kind) (annotations : List SymbolAt) → tells_version k annotations false (value.Text (take n bytes)) ≡ false
 word-marker {limit} {n} {bytes} word k annotations = no-marker k annotations (take n bytes) (no-version (take n bytes) (simple-free (take n bytes) word.simple))

@@ -22,7 +22,7 @@ use Rattle.ion_text_in.specs.declared.feed.spot.Start.{Start}
 use Rattle.ion_text_in.specs.declared.scanned.Scanned.TheVariants.{Whole}
 use Rattle.ion_text_in.specs.declared.word.Word.{Word}
 use Rattle.ion_text_in.specs.declared.word.Word.TheVariants as word
-use Rattle.ion_text_in.specs.Feeding.{expected_of, place_in, BeginsAs, IsBehindName, IsFound, IsFoundBy, IsFoundRead, IsFurther, IsHead, IsHeadAs, IsIdOf, IsNamedBy, IsNext, IsStartBy, IsStartRead, IsZeroId, Lane, Turns, TurnsBy}
+use Rattle.ion_text_in.specs.Feeding.{expected_of, place_in, BeginsAs, IsAfterName, IsFound, IsFoundBy, IsFoundRead, IsFurther, IsHead, IsHeadAs, IsIdOf, IsNamedBy, IsNext, IsStartBy, IsStartRead, IsZeroId, Lane, Turns, TurnsBy}
 use Rattle.ion_text_in.specs.Meaning.{at}
 use Rattle.ion_text_in.specs.Places.{run_of}
 use Rattle.ion_text_in.specs.Positions as positions
@@ -113,19 +113,19 @@ id-names limits place id kinds top c = refl
 -- the token
 token-id : {texts : ℕ → Option (List ℕ)} {limit place n : ℕ} {bytes text rest : List ℕ} (is : IsIdOf texts limit bytes text n) → rest ≡ drop n bytes → first_is (λ b. b == 36) bytes ≡ true
     → IsToken limit tokens.a_word (tokens.name false (value.Id is.id)) place bytes rest
-token-id {bytes} is behind dollar = token-front behind is.some is.within is.shown (dollar-begins bytes dollar)
+token-id {bytes} is after dollar = token-front after is.some is.within is.shown (dollar-begins bytes dollar)
 
--- a value begins behind an id that is its name
+-- a value begins after an id that is its name
 pub named-id : (texts : ℕ → Option (List ℕ)) (limits : Limits) (place n : ℕ) (name : TextAt) (bytes rest : List ℕ) (start : Option Start) → name.place ≡ place → IsRightlyQuoted name → IsIdOf texts limits.scalar bytes name.text.now n
-    → rest ≡ drop n bytes → first_is (λ b. b == 36) bytes ≡ true → IfSome start (IsBehindName name rest) → IfSome start (IsNamedBy texts limits place bytes)
-named-id texts limits place n name bytes rest None here says is behind dollar h = tt
-named-id texts limits place n name bytes rest (Some s) here says is behind dollar h =
+    → rest ≡ drop n bytes → first_is (λ b. b == 36) bytes ≡ true → IfSome start (IsAfterName name rest) → IfSome start (IsNamedBy texts limits place bytes)
+named-id texts limits place n name bytes rest None here says is after dollar h = tt
+named-id texts limits place n name bytes rest (Some s) here says is after dollar h =
     let raw = positions.at (value.Id is.id) place in
     record {
       text = name;
       raw = raw;
       seen = id-seen texts is.id place name.text.now is.has ∙ ap (λ (p : ℕ). positions.at (value.Text name.text.now) p) (sym here);
-      name = named-as limits place name raw bytes rest s (name-token (token-id is behind dollar) may-word (id-names limits place is.id)) says (dollar-begins bytes dollar).some h;
+      name = named-as limits place name raw bytes rest s (name-token (token-id is after dollar) may-word (id-names limits place is.id)) says (dollar-begins bytes dollar).some h;
     }
 
 pub start-named : {named : ℕ} (texts : ℕ → Option (List ℕ)) (bounds : Bounds) (spot : Spot) (next : Next) (start : Option Start) → named ≡ place_in bounds next.rest.now → length spot.rest.now ≤ bounds.end → expected_of spot ≡ codes_of.Field → IsNext spot.rest.now next
@@ -149,16 +149,16 @@ id-marker id None [] = refl
 id-marker id None (a ∷ annotations) = refl
 id-marker id (Some k) annotations = refl
 
--- an id behind which a token is told that is no two colons
+-- an id after which a token is told that is no two colons
 pub head-id : {texts : ℕ → Option (List ℕ)} {limits : Limits} {place n : ℕ} {bytes text rest : List ℕ} (next : Next) (is : IsIdOf texts limits.scalar bytes text n) → rest ≡ drop n bytes → IsNext rest next → (next.told ≡ 0 → ⊥)
     → first_is (λ b. b == 36) bytes ≡ true → IsHeadAs (value.whole (value.symbol (positions.at (value.Id is.id) place))) limits place bytes (value.whole (value.symbol (positions.at (value.Text text) place))) rest
-head-id {text} next is behind told_next told dollar = head-word false (value.Id is.id) (value.Text text) next (token-id is behind dollar) tt (id-marker is.id) told_next told
+head-id {text} next is after told_next told dollar = head-word false (value.Id is.id) (value.Text text) next (token-id is after dollar) tt (id-marker is.id) told_next told
 
 -- `$0`, after which such a token is told
 pub head-zero : {limits : Limits} {place : ℕ} {bytes rest : List ℕ} (next : Next) → IsZeroId limits.scalar bytes → rest ≡ drop 2 bytes → IsNext rest next → (next.told ≡ 0 → ⊥)
     → IsHead limits place bytes (value.whole (value.symbol (positions.at (value.Id 0) place))) rest
-head-zero {bytes} next is behind told_next told =
-    head-word false (value.Id 0) (value.Id 0) next (token-front behind (omega arith) is.within is.shown (dollar-begins bytes is.dollar)) refl (id-marker 0) told_next told
+head-zero {bytes} next is after told_next told =
+    head-word false (value.Id 0) (value.Id 0) next (token-front after (omega arith) is.within is.shown (dollar-begins bytes is.dollar)) refl (id-marker 0) told_next told
 
 pub head-id-seen : (texts : ℕ → Option (List ℕ)) (id place : ℕ) (text : List ℕ) → texts id ≡ Some text
     → map_head (named_at texts) (value.whole (value.symbol (positions.at (value.Id id) place))) ≡ value.whole (value.symbol (positions.at (value.Text text) place))

@@ -14,7 +14,7 @@ use Rattle.ion_value.specs.Items.{named_at, named_item, raw_head}
 use Rattle.ion_value.specs.declared.plain_item.TextAt.{TextAt}
 use Rattle.ion_value.specs.Value as value
 use Rattle.ion_value.specs.Value.{SymbolAt, Head, PlacedItem, map_head}
-use Rattle.ion_value.specs.PlainItems.{placed_text, with_second, IsPlainHead, StandsBehind}
+use Rattle.ion_value.specs.PlainItems.{placed_text, with_second, IsPlainHead, StandsAfter}
 use Rattle.ion_value.proofs.Handing.{Stands, Took, item-kept}
 use Rattle.ion_text_in.specs.declared.expected.Expected.{Expected}
 use Rattle.ion_text_in.specs.declared.expected.Expected.TheVariants as codes
@@ -24,13 +24,13 @@ use Rattle.ion_text_in.specs.declared.feed.spot.Next.{Next}
 use Rattle.ion_text_in.specs.declared.feed.spot.Spot.{Spot}
 use Rattle.ion_text_in.specs.declared.feed.spot.Start.{Start}
 use Rattle.ion_text_in.specs.Expecting.{expected_in, is_separated, kind_in, wanted, MayExpect}
-use Rattle.ion_text_in.specs.Feeding.{begun, begun_cost, behind_head, expected_of, lane, notes, passed, place_in, state, with_begun, CanFeed, IsBehind, IsHeadAs, IsNext, IsStartAs, Lane, MovedFor, Onward, Opens, PassesComma, Turns, TurnsFor}
+use Rattle.ion_text_in.specs.Feeding.{begun, begun_cost, after_head, expected_of, lane, notes, passed, place_in, state, with_begun, CanFeed, IsAfter, IsHeadAs, IsNext, IsStartAs, Lane, MovedFor, Onward, Opens, PassesComma, Turns, TurnsFor}
 use Rattle.ion_text_in.specs.Firsts.{numbered}
 use Rattle.ion_text_in.specs.Positions.{innermost}
-use Rattle.ion_text_in.specs.Reading.{at_member, behind_member, is_same, item_of, top_of}
+use Rattle.ion_text_in.specs.Reading.{at_member, after_member, is_same, item_of, top_of}
 use Rattle.ion_text_in.specs.Steps.{later}
 use Rattle.ion_text_in.specs.Token as tokens
-use Rattle.ion_text_in.proofs.FeedReading.{behind-then, some-behind, end-gives, onward-blanks, MayEnd, at_value, at_field, at_separator}
+use Rattle.ion_text_in.proofs.FeedReading.{after-then, some-after, end-gives, onward-blanks, MayEnd, at_value, at_field, at_separator}
 use Rattle.ion_text_in.proofs.FeedLanes.{can-moved, moved-none, moved-onward, turns-item, turns-then}
 
 -- the entry that was taken off gives its cost back
@@ -56,17 +56,17 @@ took-over m z t same = record {
 
 -- ---- what must come
 
--- behind a member
-behind-in : (opened : List Kind)
-    → (wanted (expected_in (is_separated (kind_in opened)) (kind_in opened)) None [] ≡ behind_member (innermost opened)) × MayExpect (expected_in (is_separated (kind_in opened)) (kind_in opened)) opened None []
-behind-in [] = (refl, refl)
-behind-in (a_kind.List ∷ opened) = (refl, (refl, refl))
-behind-in (a_kind.Sexp ∷ opened) = (refl, refl)
-behind-in (a_kind.Struct ∷ opened) = (refl, (refl, refl))
+-- after a member
+after-in : (opened : List Kind)
+    → (wanted (expected_in (is_separated (kind_in opened)) (kind_in opened)) None [] ≡ after_member (innermost opened)) × MayExpect (expected_in (is_separated (kind_in opened)) (kind_in opened)) opened None []
+after-in [] = (refl, refl)
+after-in (a_kind.List ∷ opened) = (refl, (refl, refl))
+after-in (a_kind.Sexp ∷ opened) = (refl, refl)
+after-in (a_kind.Struct ∷ opened) = (refl, (refl, refl))
 
-is-behind : (opened : List Kind) (now : Spot) → kind_in opened ≡ now.kind → now.separator ≡ is_separated now.kind
-    → (wanted (expected_of now) None [] ≡ behind_member (innermost opened)) × MayExpect (expected_of now) opened None []
-is-behind opened now inner separator = rw (separator, sym inner) (behind-in opened)
+is-after : (opened : List Kind) (now : Spot) → kind_in opened ≡ now.kind → now.separator ≡ is_separated now.kind
+    → (wanted (expected_of now) None [] ≡ after_member (innermost opened)) × MayExpect (expected_of now) opened None []
+is-after opened now inner separator = rw (separator, sym inner) (after-in opened)
 
 -- where a member may begin
 member-in : (opened : List Kind) → (wanted (expected_in false (kind_in opened)) None [] ≡ at_member (innermost opened)) × MayExpect (expected_in false (kind_in opened)) opened None []
@@ -110,18 +110,18 @@ item-seen texts top place raw_name field note second raw_value head name_is valu
     ∙ (ap (λ (l : List SymbolAt). item_of top field l place (map_head (named_at texts) raw_value)) (notes-seen texts note second)
     ∙ ap (λ (h : Head SymbolAt). item_of top field (with_second (notes note) second) place h) value_is)
 
--- ---- behind an item
+-- ---- after an item
 
 begun-long : (kinds : List Kind) (begins : Option Kind) → 16 * length (with_begun kinds begins) ≡ 16 * length kinds + begun_cost begins
 begun-long kinds None = omega arith
 begun-long kinds (Some k) = omega (arith, length-append kinds (k ∷ []))
 
--- what is open and what must come behind an item
+-- what is open and what must come after an item
 pub record IsPassed (depth : ℕ) (kinds left : List Kind) (spot new : Spot) (head : Head SymbolAt) : Type 0 where
   pub place : HasPlace depth (reverse kinds) head
   pub opened : reverse left ≡ open_after (reverse kinds) head
   pub inner : kind_in (reverse left) ≡ new.kind
-  pub wants : wanted (expected_of new) None [] ≡ behind_head (reverse kinds) head
+  pub wants : wanted (expected_of new) None [] ≡ after_head (reverse kinds) head
   pub expects : MayExpect (expected_of new) (reverse left) None []
   pub counts : new.values ≡ spot.values + one_if_closed (reverse left)
 
@@ -129,13 +129,13 @@ pub item-passed : (depth : ℕ) (kinds left : List Kind) (spot : Spot) (found : 
     → kind_in (reverse kinds) ≡ spot.kind → left ≡ with_begun kinds (begun head) → length left ≤ depth → IsPassed depth kinds left spot (passed (begun head) (reverse kinds) spot found top) head
 item-passed depth kinds left spot found top (value.whole body) range value member inner is few =
     let now : Spot = passed None (reverse kinds) spot found top in
-    let behind = is-behind (reverse kinds) now inner refl in
+    let after = is-after (reverse kinds) now inner refl in
     record {
       place = range;
       opened = ap (λ (l : List Kind). reverse l) is;
       inner = ap (λ (l : List Kind). kind_in (reverse l)) is ∙ inner;
-      wants = behind.0;
-      expects = subst (λ (l : List Kind). MayExpect (expected_of now) (reverse l) None []) (sym is) behind.1;
+      wants = after.0;
+      expects = subst (λ (l : List Kind). MayExpect (expected_of now) (reverse l) None []) (sym is) after.1;
       counts = ap (λ (l : List Kind). spot.values + one_if_closed (reverse l)) (sym is);
     }
 item-passed depth kinds left spot found top (value.begin k) range value member inner is few =
@@ -172,7 +172,7 @@ some-map None = refl
 some-map (Some t) = refl
 
 -- the first annotation alone says where a value at top level begins
-first-top : (kinds : List Kind) (top place : ℕ) (first : Option TextAt) (second : Option TextAt) → IfSome second (StandsBehind first) → top_of kinds top (with_second (notes first) second) place ≡ top_of kinds top (notes first) place
+first-top : (kinds : List Kind) (top place : ℕ) (first : Option TextAt) (second : Option TextAt) → IfSome second (StandsAfter first) → top_of kinds top (with_second (notes first) second) place ≡ top_of kinds top (notes first) place
 first-top kinds top place first None stands = refl
 first-top kinds top place None (Some s) stands = absurd stands
 first-top [] top place (Some t) (Some s) stands = refl
@@ -218,14 +218,14 @@ module _ {W O A : Type 0} {w : WriterOf W O A} {bounds : Bounds} where
       → CanFeed w bounds (lane kinds spot writer sink m) → TurnsFor w bounds sees more (lane kinds now writer sink m) n → TurnsFor w bounds sees more (lane kinds spot writer sink m) n
   turns-member passes can turns = turns-then can (moved-member passes can) turns
 
-  pub turns-closed : (kinds left : List Kind) (j k : Kind) (spot new : Spot) (next : Next) (place : ℕ) (writer after : W) (sink behind : Outgoing O) (m x y : Counts)
+  pub turns-closed : (kinds left : List Kind) (j k : Kind) (spot new : Spot) (next : Next) (place : ℕ) (writer further : W) (sink after : Outgoing O) (m x y : Counts)
       → CanFeed w bounds (lane kinds spot writer sink m) → IsNext spot.rest.now next → 0 < next.told → numbered next.told ≡ tokens.an_end k
       → reverse kinds ≡ j ∷ reverse left → is_same j k ≡ true → place ≡ place_in bounds next.rest.now
       → new.rest.now ≡ drop 1 next.rest.now → new.top ≡ spot.top → kind_in (reverse left) ≡ new.kind → new.separator ≡ is_separated new.kind
       → new.values ≡ spot.values + one_if_closed (reverse left)
-      → Took w (end_item spot.top place) writer after sink behind m x → Charges m x (w.own writer) (w.own after) (w.most writer) → Shrinks x y 16
-      → Turns w bounds true (lane kinds spot writer sink m) (lane left new after behind y)
-  turns-closed kinds left j k spot new next place writer after sink behind m x y can is told ends opened same here rest top inner separator counts took charges shrinks =
+      → Took w (end_item spot.top place) writer further sink after m x → Charges m x (w.own writer) (w.own further) (w.most writer) → Shrinks x y 16
+      → Turns w bounds true (lane kinds spot writer sink m) (lane left new further after y)
+  turns-closed kinds left j k spot new next place writer further sink after m x y can is told ends opened same here rest top inner separator counts took charges shrinks =
       let some = is.some told in
       let passes = is.passes some in
       let fewer = passes.fewer in
@@ -243,32 +243,32 @@ module _ {W O A : Type 0} {w : WriterOf W O A} {bounds : Bounds} where
       let c_rises = charges.rises in
       let s_held = shrinks.held in
       let s_peak = shrinks.peak in
-      let behind_is = is-behind (reverse left) new inner separator in
+      let after_is = is-after (reverse left) new inner separator in
       let item : PlacedItem = end_item spot.top place in
-      turns-item (lane kinds spot writer sink m) (lane left new after behind y) item item (λ texts _. refl) can (end-stands bounds.limits.depth kinds j (reverse left) spot.top place opened)
+      turns-item (lane kinds spot writer sink m) (lane left new further after y) item item (λ texts _. refl) can (end-stands bounds.limits.depth kinds j (reverse left) spot.top place opened)
       (took-over m y took (shrinks.refused ∙ took.refused))
       (ap (λ (l : List Kind). drop 1 l) (sym opened)) counts
-      (behind-then spot.rest.now bytes new.rest.now passes.part (subst (λ (l : List ℕ). IsBehind bytes l) (sym rest) (some-behind bytes 1 (omega (arith, some))))) (omega (arith, longer, some, fewer)) (omega (arith, lengths, few)) inner behind_is.1 c_share
+      (after-then spot.rest.now bytes new.rest.now passes.part (subst (λ (l : List ℕ). IsAfter bytes l) (sym rest) (some-after bytes 1 (omega (arith, some))))) (omega (arith, longer, some, fewer)) (omega (arith, lengths, few)) inner after_is.1 c_share
       (record { held = omega (arith, c_held, s_held, lengths); share = omega (arith, c_share, lengths, few); peak = omega (arith, c_peak, s_peak, lengths, few, held); rises = omega (arith, c_rises, s_peak) })
       (λ more.
       (onward-blanks bounds.limits (reverse kinds) spot.top (place_in bounds spot.rest.now) (wanted (expected_of spot) None []) spot.rest.now bytes passes).same (place_in bounds bytes) more (omega (arith, fewer, within))
       ∙ (ap (λ (l : List Kind). later bounds.limits (state l spot.top (wanted (expected_of spot) None []) (place_in bounds bytes) (bytes ++ more))) opened
       ∙ (end-gives bounds.limits j k (reverse left) spot.top (place_in bounds bytes) (place_in bounds new.rest.now) (wanted (expected_of spot) None []) bytes more (may-end (expected_of spot)) same (record { bare = passes.bare; some = some; first = λ sexp rest. is.tells told sexp rest ∙ ends })
       (omega (arith, long, longer, some, fewer, within))
-      ∙ rw (here, top, behind_is.0, rest) refl)))
+      ∙ rw (here, top, after_is.0, rest) refl)))
 
   -- its name and its head are seen by the texts that ids have
   pub turns-forward : {sees : (ℕ → Option (List ℕ)) → Type 0} {raw_name : Option SymbolAt} {raw_value : Head SymbolAt} {second : Option TextAt} (kinds left : List Kind) (spot : Spot) (start : Start) (found : Found) (top : ℕ)
-      (writer after : W) (sink behind : Outgoing O) (m x y : Counts)
+      (writer later : W) (sink after : Outgoing O) (m x y : Counts)
       → ((texts : ℕ → Option (List ℕ)) → sees texts → option_map (named_at texts) raw_name ≡ option_map placed_text start.field)
       → ((texts : ℕ → Option (List ℕ)) → sees texts → map_head (named_at texts) raw_value ≡ raw_head found.head)
       → CanFeed w bounds (lane kinds spot writer sink m) → IsStartAs raw_name second bounds spot start
       → IsHeadAs raw_value bounds.limits (place_in bounds start.next.rest.now) start.next.rest.now (raw_head found.head) found.rest.now
       → top ≡ top_of (reverse kinds) spot.top (notes start.note) (place_in bounds start.next.rest.now) → Opens bounds.limits.depth (begun (raw_head found.head)) kinds left m x
-      → Took w (item_of top (option_map placed_text start.field) (with_second (notes start.note) second) (place_in bounds start.next.rest.now) (raw_head found.head)) writer after sink behind x y
-      → Charges x y (w.own writer) (w.own after) (w.most writer)
-      → TurnsFor w bounds sees true (lane kinds spot writer sink m) (lane left (passed (begun (raw_head found.head)) (reverse kinds) spot found top) after behind y)
-  turns-forward {raw_name} {raw_value} {second} kinds left spot start found top writer after sink behind m x y name_is value_is can start_is head_is at_top opens took charges =
+      → Took w (item_of top (option_map placed_text start.field) (with_second (notes start.note) second) (place_in bounds start.next.rest.now) (raw_head found.head)) writer later sink after x y
+      → Charges x y (w.own writer) (w.own later) (w.most writer)
+      → TurnsFor w bounds sees true (lane kinds spot writer sink m) (lane left (passed (begun (raw_head found.head)) (reverse kinds) spot found top) later after y)
+  turns-forward {raw_name} {raw_value} {second} kinds left spot start found top writer later sink after m x y name_is value_is can start_is head_is at_top opens took charges =
       let head = raw_head found.head in
       let new : Spot = passed (begun head) (reverse kinds) spot found top in
       let bytes = start.next.rest.now in
@@ -291,10 +291,10 @@ module _ {W O A : Type 0} {w : WriterOf W O A} {bounds : Bounds} where
       let o_held = opens.held in
       let o_peak = opens.peak in
       let o_rises = opens.rises in
-      turns-item (lane kinds spot writer sink m) (lane left new after behind y) (item_of top raw_name (with_second (notes start.note) second) place raw_value) (item_of top field (with_second (notes start.note) second) place head)
+      turns-item (lane kinds spot writer sink m) (lane left new later after y) (item_of top raw_name (with_second (notes start.note) second) place raw_value) (item_of top field (with_second (notes start.note) second) place head)
       (λ texts sees. item-seen texts top place raw_name field start.note second raw_value head (name_is texts sees) (value_is texts sees)) can
       (head-stands kinds spot start head top place found.rest.now can.expects start_is head_is passes.place) (took-over m y took (took.refused ∙ opens.refused)) passes.opened passes.counts
-      (behind-then spot.rest.now bytes found.rest.now to_start.part head_is.part) (omega (arith, fewer, less)) few passes.inner passes.expects share
+      (after-then spot.rest.now bytes found.rest.now to_start.part head_is.part) (omega (arith, fewer, less)) few passes.inner passes.expects share
       (record {
         held = omega (arith, held, o_held, long);
         share = omega (arith, share, few);
@@ -307,10 +307,10 @@ module _ {W O A : Type 0} {w : WriterOf W O A} {bounds : Bounds} where
       ∙ rw (passes.opened, first, passes.wants) refl))
 
   -- a container was opened, if one begins, and taken off again
-  pub turns-undone : {sees : (ℕ → Option (List ℕ)) → Type 0} {begins : Option Kind} (kinds there left : List Kind) (spot : Spot) (writer after : W) (sink behind : Outgoing O) (m x y z : Counts)
-      → after ≡ writer → behind ≡ sink → left ≡ kinds → Opens bounds.limits.depth begins kinds there m x → y ≡ x → Shrinks y z (begun_cost begins)
-      → CanFeed w bounds (lane kinds spot writer sink m) → TurnsFor w bounds sees false (lane kinds spot writer sink m) (lane left spot after behind z)
-  turns-undone {sees} {begins} kinds there left spot writer after sink behind m x y z writes sinks back opens stays shrinks can =
+  pub turns-undone : {sees : (ℕ → Option (List ℕ)) → Type 0} {begins : Option Kind} (kinds there left : List Kind) (spot : Spot) (writer next : W) (sink after : Outgoing O) (m x y z : Counts)
+      → next ≡ writer → after ≡ sink → left ≡ kinds → Opens bounds.limits.depth begins kinds there m x → y ≡ x → Shrinks y z (begun_cost begins)
+      → CanFeed w bounds (lane kinds spot writer sink m) → TurnsFor w bounds sees false (lane kinds spot writer sink m) (lane left spot next after z)
+  turns-undone {sees} {begins} kinds there left spot writer next sink after m x y z writes sinks back opens stays shrinks can =
       let l = lane kinds spot writer sink m in
       let none : MovedFor w bounds sees l l = moved-none can in
       let held = can.held in

@@ -15,8 +15,8 @@ use Rattle.ion_value.proofs.Handing.{Stands, Took, can-took, feeds-then, hands-s
 use Rattle.ion_text_in.specs.declared.expected.Expected.{Expected}
 use Rattle.ion_text_in.specs.declared.feed.spot.Bounds.{Bounds}
 use Rattle.ion_text_in.specs.Expecting.{kind_in, wanted, MayExpect}
-use Rattle.ion_text_in.specs.Feeding.{joint, lane_held, lane_share, place_in, CanFeed, IsBehind, Lane, Moved, MovedBy, MovedFor, Onward, Turns, TurnsBy, TurnsFor}
-use Rattle.ion_text_in.proofs.FeedReading.{behind-then, none-behind}
+use Rattle.ion_text_in.specs.Feeding.{joint, lane_held, lane_share, place_in, CanFeed, IsAfter, Lane, Moved, MovedBy, MovedFor, Onward, Turns, TurnsBy, TurnsFor}
+use Rattle.ion_text_in.proofs.FeedReading.{after-then, none-after}
 use Rattle.ion_text_in.proofs.Holding.{charges-then}
 
 one-most : (kinds : List Kind) → one_if_closed kinds ≤ 1
@@ -47,7 +47,7 @@ module _ {W O A : Type 0} {w : WriterOf W O A} {bounds : Bounds} where
     feeds = λ texts at more. nothing;
     falls = omega arith;
     opens = omega arith;
-    part = none-behind l.rest;
+    part = none-after l.rest;
     fewer = omega arith;
     few = can.few;
     kind = can.kind;
@@ -116,7 +116,7 @@ module _ {W O A : Type 0} {w : WriterOf W O A} {bounds : Bounds} where
         feeds = λ texts at more. feeds-then w (f.feeds texts at more) (g.feeds texts at more);
         falls = omega (arith, first_falls, then_falls);
         opens = omega (arith, first_opens, then_opens);
-        part = behind-then l.rest n.rest r.rest f.part g.part;
+        part = after-then l.rest n.rest r.rest f.part g.part;
         fewer = omega (arith, first_fewer, then_fewer);
         few = g.few;
         kind = g.kind;
@@ -134,7 +134,7 @@ module _ {W O A : Type 0} {w : WriterOf W O A} {bounds : Bounds} where
   pub turns-by : (texts : ℕ → Option (List ℕ)) {more goes_on : Bool} {l n : Lane W O} → texts 0 ≡ None → more ≡ goes_on → Turns w bounds more l n → TurnsBy w bounds texts goes_on l n
   turns-by texts none is turns = record { moved = moved-by texts none turns.moved; less = λ goes_on. turns.less (is ∙ goes_on) }
 
-  -- a turn behind a move
+  -- a turn after a move
   pub turns-then : {sees : (ℕ → Option (List ℕ)) → Type 0} {more : Bool} {l n r : Lane W O} → CanFeed w bounds l → MovedFor w bounds sees l n → TurnsFor w bounds sees more n r → TurnsFor w bounds sees more l r
   turns-then can moved turns = record {
     moved = moved-then can moved turns.moved;
@@ -168,7 +168,7 @@ module _ {W O A : Type 0} {w : WriterOf W O A} {bounds : Bounds} where
   -- an item is taken, as it is seen
   pub turns-item : {sees : (ℕ → Option (List ℕ)) → Type 0} (l n : Lane W O) (item seen : PlacedItem) → ((texts : ℕ → Option (List ℕ)) → sees texts → named_item texts item ≡ seen)
       → CanFeed w bounds l → Stands bounds.limits.depth (reverse l.kinds) seen → Took w seen l.writer n.writer l.sink n.sink l.meter n.meter
-      → reverse n.kinds ≡ open_after (reverse l.kinds) seen.head → n.values ≡ l.values + one_if_closed (reverse n.kinds) → IsBehind l.rest n.rest → length n.rest < length l.rest
+      → reverse n.kinds ≡ open_after (reverse l.kinds) seen.head → n.values ≡ l.values + one_if_closed (reverse n.kinds) → IsAfter l.rest n.rest → length n.rest < length l.rest
       → length n.kinds ≤ bounds.limits.depth → kind_in (reverse n.kinds) ≡ n.kind → MayExpect n.expected (reverse n.kinds) None []
       → w.own n.writer ≤ w.most l.writer → Charges l.meter n.meter (lane_held w l) (lane_held w n) (lane_share w bounds.limits l)
       → ((more : List ℕ) → (joint bounds more l).coming ≡ More item (joint bounds more n).coming)

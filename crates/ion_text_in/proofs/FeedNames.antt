@@ -15,7 +15,7 @@ use Rattle.ion_value.specs.Parts.{Placed, ◌>>=◌}
 use Rattle.ion_value.specs.PlainItems.{placed_text, IsRightlyQuoted}
 use Rattle.ion_value.specs.Value as value
 use Rattle.ion_value.specs.Value.{SymbolAt}
-use Rattle.ion_text_in.specs.Feeding.{expected_of, place_in, state, Begins, IfName, IsBegun, IsBehind, IsBehindName, IsNamed, IsNamedAs, IsNext, IsSimpleWord, IsStart, IsStartAs, Onward, PassesBlanks, ToColon}
+use Rattle.ion_text_in.specs.Feeding.{expected_of, place_in, state, Begins, IfName, IsBegun, IsAfter, IsAfterName, IsNamed, IsNamedAs, IsNext, IsSimpleWord, IsStart, IsStartAs, Onward, PassesBlanks, ToColon}
 use Rattle.ion_text_in.specs.declared.expected.Expected.{Expected}
 use Rattle.ion_text_in.specs.declared.expected.Expected.TheVariants as codes_of
 use Rattle.ion_text_in.specs.declared.feed.spot.Bounds.{Bounds}
@@ -31,12 +31,12 @@ use Rattle.ion_text_in.specs.Places.{run_of}
 use Rattle.ion_text_in.specs.Positions.{Wants, a_field, a_value}
 use Rattle.ion_text_in.specs.Positions as positions
 use Rattle.ion_text_in.specs.Reading.{take as taken, may_come, colon_from, colon_of, field_step}
-use Rattle.ion_text_in.specs.Runs.{EndBehind}
+use Rattle.ion_text_in.specs.Runs.{EndAfter}
 use Rattle.ion_text_in.specs.Steps.{comes, later}
 use Rattle.ion_text_in.specs.Token as tokens
 use Rattle.ion_text_in.specs.Token.{First, Token, by_keyword, first_at, in_word, word_of, word_token}
 use Rattle.ion_text_in.specs.Views.{AreShown, may_be_keyword, word_token_of}
-use Rattle.ion_text_in.proofs.FeedReading.{behind-then, some-behind, later-token, mark-behind, onward-blanks, onward-then, IsToken}
+use Rattle.ion_text_in.proofs.FeedReading.{after-then, some-after, later-token, mark-after, onward-blanks, onward-then, IsToken}
 use Rattle.ion_text_in.proofs.ShownTokens.{word-shown}
 use Rattle.ion_text_in.proofs.WordTokens.{word-untyped}
 
@@ -67,7 +67,7 @@ run-identifier (b ∷ bytes) = by_first (is_identifier_byte b) refl (run-identif
     by_first false e others = ap (λ (z : List ℕ × List ℕ). all_are is_identifier_byte z.0) (run-over b bytes e)
 
 -- the bytes of a run in a slice
-run-taken : (bytes : List ℕ) (n : ℕ) → EndBehind in_word bytes n → all_are is_identifier_byte (take n bytes) ≡ true
+run-taken : (bytes : List ℕ) (n : ℕ) → EndAfter in_word bytes n → all_are is_identifier_byte (take n bytes) ≡ true
 run-taken bytes n ends = ap (λ (z : List ℕ × List ℕ). all_are is_identifier_byte z.0) (sym (ends [])) ∙ run-identifier (bytes ++ [])
 
 -- a symbol by its text is no keyword
@@ -102,7 +102,7 @@ dollar-version b word e = rw (other b e) refl
 simple-is : (b : ℕ) (word : List ℕ) → is_identifier_start b ≡ true → (b == 36) ≡ false → all_are is_identifier_byte word ≡ true → keyword (b ∷ word) ≡ None → is_simple (b ∷ word) ≡ true
 simple-is b word begins dollar all none = rw (begins, all, none, dollar-id b word dollar, dollar-version b word dollar, dollar) refl
 
-pub word-simple : (limit n : ℕ) (first : ℕ) (others : List ℕ) → n < length others → EndBehind in_word others n → is_identifier_start first ≡ true → (first == 36) ≡ false → 1 + n ≤ limit
+pub word-simple : (limit n : ℕ) (first : ℕ) (others : List ℕ) → n < length others → EndAfter in_word others n → is_identifier_start first ≡ true → (first == 36) ≡ false → 1 + n ≤ limit
     → word_token (take (1 + n) (first ∷ others)) ≡ Ok (tokens.name false (value.Text (take (1 + n) (first ∷ others)))) → IsSimpleWord limit (first ∷ others) (1 + n)
 word-simple limit n first others within ends begins dollar le token =
     let bytes : List ℕ = first ∷ others in
@@ -119,7 +119,7 @@ word-simple limit n first others within ends begins dollar le token =
       shown = shows.1;
     }
 
-pub slice-simple : (limit n : ℕ) (bytes : List ℕ) → 1 ≤ length bytes → n < length (drop 1 bytes) → EndBehind in_word (drop 1 bytes) n → is_identifier_start (get_or bytes 0 0) ≡ true → (get_or bytes 0 0 == 36) ≡ false
+pub slice-simple : (limit n : ℕ) (bytes : List ℕ) → 1 ≤ length bytes → n < length (drop 1 bytes) → EndAfter in_word (drop 1 bytes) n → is_identifier_start (get_or bytes 0 0) ≡ true → (get_or bytes 0 0 == 36) ≡ false
     → 1 + n ≤ limit → word_token (take (1 + n) bytes) ≡ Ok (tokens.name false (value.Text (take (1 + n) bytes))) → IsSimpleWord limit bytes (1 + n)
 slice-simple limit n [] some within ends begins dollar le token = absurd (omega (arith, some))
 slice-simple limit n (b ∷ bytes) some within ends begins dollar le token = word-simple limit n b bytes within ends begins dollar le token
@@ -147,7 +147,7 @@ begun-first limit n (b ∷ bytes) begun =
     let is : n ≡ suc begun.others = omega (arith, count) in
     subst (λ (k : ℕ). may_be_keyword (take k (b ∷ bytes)) ≡ may_be_keyword (b ∷ bytes)) (sym is) refl
 
--- where no type is behind it, it is all of the word
+-- where no type is after it, it is all of the word
 pub begun-shown : (limit n : ℕ) (bytes : List ℕ) → IsBegun limit bytes n → (bytes_eq (codes "null") (take n bytes) && first_is (λ b. b == 46) (drop n bytes)) ≡ false → AreShown word_of bytes n
 begun-shown limit n bytes begun none =
     subst (λ (k : ℕ). AreShown word_of bytes k) (sym begun.count)
@@ -162,9 +162,9 @@ begun-name limit n bytes word.Name begun token = begun-simple limit n bytes begu
 
 -- ---- names of fields
 
--- a name stands at the front of some bytes, and these behind it
+-- a name stands at the front of some bytes, and these after it
 pub record IsName (limits : Limits) (place : ℕ) (bytes : List ℕ) (name : SymbolAt) (rest : List ℕ) : Type 0 where
-  pub behind : IsBehind bytes rest
+  pub after : IsAfter bytes rest
   pub fewer : length rest ≤ length bytes
   pub same : (kinds : List Kind) (top q : ℕ) (more : List ℕ) → place + length bytes ≡ q + length rest
       → later limits (state kinds top a_field place (bytes ++ more)) ≡ comes limits (field_step kinds top name (at q (rest ++ more)))
@@ -180,7 +180,7 @@ pub name-token : {limits : Limits} {place : ℕ} {first : First} {token : Token}
 name-token {limits} {place} {first} {token} {name} {bytes} {rest} is may names =
     let fewer = is.fewer in
     record {
-      behind = is.part;
+      after = is.part;
       fewer = omega (arith, fewer);
       same = λ kinds top q more e. later-token limits kinds top place q a_field bytes rest more first token is.begins may (is.shown q more e) ∙ names kinds top (at q (rest ++ more));
     }
@@ -214,10 +214,10 @@ colon-there : (kinds : List Kind) (top : ℕ) (a : SymbolAt) (c : Cursor) (rest 
 colon-there kinds top a c [] more some first = absurd (omega (arith, some))
 colon-there kinds top a c (b ∷ rest) more some first = ap (colon_of kinds top a c) first
 
--- the name, the colon and the blanks behind it
-onward-name : (limits : Limits) (kinds : List Kind) (top place : ℕ) (name : SymbolAt) (bytes behind colon rest : List ℕ) → IsName limits place bytes name behind → ToColon behind colon → PassesBlanks (drop 1 colon) rest
+-- the name, the colon and the blanks after it
+onward-name : (limits : Limits) (kinds : List Kind) (top place : ℕ) (name : SymbolAt) (bytes after colon rest : List ℕ) → IsName limits place bytes name after → ToColon after colon → PassesBlanks (drop 1 colon) rest
     → Onward limits kinds top place a_field bytes (a_value (Some name) []) rest
-onward-name limits kinds top place name bytes behind colon rest is to_colon passes =
+onward-name limits kinds top place name bytes after colon rest is to_colon passes =
     let first = is.fewer in
     let one = length-drop 1 colon in
     let fewer = to_colon.passes.fewer in
@@ -225,36 +225,36 @@ onward-name limits kinds top place name bytes behind colon rest is to_colon pass
     let last = passes.fewer in
     let wants : Wants = a_value (Some name) [] in
     record {
-      part = behind-then bytes (drop 1 colon) rest
-          (behind-then bytes colon (drop 1 colon) (behind-then bytes behind colon is.behind to_colon.passes.part) (some-behind colon 1 (omega (arith, there)))) passes.part;
+      part = after-then bytes (drop 1 colon) rest
+          (after-then bytes colon (drop 1 colon) (after-then bytes after colon is.after to_colon.passes.part) (some-after colon 1 (omega (arith, there)))) passes.part;
       fewer = omega (arith, first, one, fewer, last);
       same = λ q more e.
-          let behind_place : ℕ = place + (length bytes - length behind) in
-          let colon_place : ℕ = behind_place + (length behind - length colon) in
+          let after_place : ℕ = place + (length bytes - length after) in
+          let colon_place : ℕ = after_place + (length after - length colon) in
           let value_place : ℕ = colon_place + 1 in
-          is.same kinds top behind_place more (omega (arith, first))
-          ∙ (ap (λ (o : Placed Cursor). comes limits (o >>= (λ d. colon_from kinds top name d d.rest))) (to_colon.passes.blank behind_place colon_place more (omega (arith, fewer)))
+          is.same kinds top after_place more (omega (arith, first))
+          ∙ (ap (λ (o : Placed Cursor). comes limits (o >>= (λ d. colon_from kinds top name d d.rest))) (to_colon.passes.blank after_place colon_place more (omega (arith, fewer)))
           ∙ (ap (comes limits) (colon-there kinds top name (at colon_place (colon ++ more)) colon more there (to_colon.first more))
-          ∙ (ap (λ (c : Cursor). later limits (record { kinds = kinds; top = top; wants = wants; cursor = c })) (mark-behind colon more colon_place value_place there (omega (arith, one, there)))
+          ∙ (ap (λ (c : Cursor). later limits (record { kinds = kinds; top = top; wants = wants; cursor = c })) (mark-after colon more colon_place value_place there (omega (arith, one, there)))
           ∙ (onward-blanks limits kinds top value_place wants (drop 1 colon) rest passes).same q more (omega (arith, e, one, there, first, fewer)))));
     }
 
--- a value begins behind the name that was read
-pub named-as : (limits : Limits) (place : ℕ) (name : TextAt) (raw : SymbolAt) (bytes behind : List ℕ) (start : Start) → IsName limits place bytes raw behind → IsRightlyQuoted name → 0 < length bytes
-    → IsBehindName name behind start → IsNamedAs name raw limits place bytes start
-named-as limits place name raw bytes behind start is says some h = record {
+-- a value begins after the name that was read
+pub named-as : (limits : Limits) (place : ℕ) (name : TextAt) (raw : SymbolAt) (bytes after : List ℕ) (start : Start) → IsName limits place bytes raw after → IsRightlyQuoted name → 0 < length bytes
+    → IsAfterName name after start → IsNamedAs name raw limits place bytes start
+named-as limits place name raw bytes after start is says some h = record {
   is = h.is;
   bare = h.bare;
   says = says;
   some = some;
-  onward = λ kinds top. onward-name limits kinds top place raw bytes behind h.colon start.next.rest.now is h.to_colon h.passes;
+  onward = λ kinds top. onward-name limits kinds top place raw bytes after h.colon start.next.rest.now is h.to_colon h.passes;
   begins = h.begins;
 }
 
-pub named-start : {limits : Limits} {place : ℕ} {bytes behind : List ℕ} (name : TextAt) (start : Option Start) → IsName limits place bytes (placed_text name) behind → IsRightlyQuoted name → 0 < length bytes
-    → IfSome start (IsBehindName name behind) → IfSome start (IsNamed limits place bytes)
+pub named-start : {limits : Limits} {place : ℕ} {bytes after : List ℕ} (name : TextAt) (start : Option Start) → IsName limits place bytes (placed_text name) after → IsRightlyQuoted name → 0 < length bytes
+    → IfSome start (IsAfterName name after) → IfSome start (IsNamed limits place bytes)
 named-start name None is says some h = tt
-named-start {limits} {place} {bytes} {behind} name (Some s) is says some h = record { text = name; name = named-as limits place name (placed_text name) bytes behind s is says some h }
+named-start {limits} {place} {bytes} {after} name (Some s) is says some h = record { text = name; name = named-as limits place name (placed_text name) bytes after s is says some h }
 
 -- what is known of the next token, where there is one
 pub next-begins : {bytes : List ℕ} {next : Next} → IsNext bytes next → 0 < length next.rest.now → Begins next
@@ -268,7 +268,7 @@ next-within {bytes} {next} is = by (length next.rest.now) refl
     by zero e = omega (arith, e)
     by (suc n) e = (is.passes (omega (arith, e))).fewer
 
--- a value begins behind it, where a name must come
+-- a value begins after it, where a name must come
 pub start-as : (bounds : Bounds) (spot : Spot) (next : Next) (text : TextAt) (raw : SymbolAt) (start : Start) → length spot.rest.now ≤ bounds.end → expected_of spot ≡ codes_of.Field → IsNext spot.rest.now next
     → IsNamedAs text raw bounds.limits (place_in bounds next.rest.now) next.rest.now start → IsStartAs (Some raw) None bounds spot start
 start-as bounds spot next text raw start within field is h =

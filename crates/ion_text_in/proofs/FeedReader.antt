@@ -17,11 +17,11 @@ use Rattle.ion_text_in.specs.declared.reader.TextReader.{TextReader}
 use Rattle.ion_text_in.specs.declared.feed.spot.Bounds.{Bounds}
 use Rattle.ion_text_in.specs.declared.feed.spot.Spot.{Spot}
 use Rattle.ion_text_in.specs.Expecting.{kind_in, wanted}
-use Rattle.ion_text_in.specs.Feeding.{bounds_of, expected_of, joint, lane, reader_lane, state, window_end, IsBehind, Lane, MovedBy, MovedFor, PassedLent}
-use Rattle.ion_text_in.specs.Steps.{later, opened_in, state_behind, to_come_by, unless_unfinished}
-use Rattle.ion_text_in.proofs.Shown.{behind_lent, lent-left}
+use Rattle.ion_text_in.specs.Feeding.{bounds_of, expected_of, joint, lane, reader_lane, state, window_end, IsAfter, Lane, MovedBy, MovedFor, PassedLent}
+use Rattle.ion_text_in.specs.Steps.{later, opened_in, state_after, to_come_by, unless_unfinished}
+use Rattle.ion_text_in.proofs.Shown.{after_lent, lent-left}
 
--- ---- what a window lends behind bytes that were passed over
+-- ---- what a window lends after bytes that were passed over
 
 lent_by-passed : (most n : ℕ) (bytes : List ℕ) → n ≤ most → take (most - n) (drop n bytes) ≡ drop n (take most bytes)
 lent_by-passed most n bytes le =
@@ -38,8 +38,8 @@ lent-passed s t n well fits passed =
     ∙ (lent_by-passed (s.limit - s.place) n s.buffered can.1
     ∙ ap (λ (f : Option Fault). drop n (lent_by f (s.limit - s.place) s.buffered)) (sym well))))
 
-behind-count : (bytes rest : List ℕ) → IsBehind bytes rest → rest ≡ drop (length bytes - length rest) bytes
-behind-count bytes rest b =
+after-count : (bytes rest : List ℕ) → IsAfter bytes rest → rest ≡ drop (length bytes - length rest) bytes
+after-count bytes rest b =
     let long = length-drop b.count bytes in
     let same = ap (λ (l : List ℕ). length l) b.same in
     let within = b.within in
@@ -55,7 +55,7 @@ module _ {W O A : Type 0} (w : WriterOf W O A) where
       let fewer = moved.fewer in
       let long = ap (λ (x : List ℕ). length x) bytes in
       let rest : n.rest ≡ lent t =
-      behind-count l.rest n.rest moved.part ∙ (ap (λ (x : List ℕ). drop count x) bytes ∙ sym (lent-passed s t count stands.well (omega (arith, fewer, long)) passed)) in
+      after-count l.rest n.rest moved.part ∙ (ap (λ (x : List ℕ). drop count x) bytes ∙ sym (lent-passed s t count stands.well (omega (arith, fewer, long)) passed)) in
       subst (λ (x : List ℕ). MovedFor w bounds sees (record l { rest = lent s }) (record n { rest = x })) rest
       (subst (λ (x : List ℕ). MovedFor w bounds sees (record l { rest = x }) n) bytes moved)
 
@@ -66,32 +66,32 @@ lane-of r spot values writer sink m rest top counts expected kind = rw (rest, to
 
 -- ---- what is to come of the reader
 
--- between two items, with what stands behind the window
+-- between two items, with what stands after the window
 came : {I A : Type 0} (device : InputOf I) (r : TextReader I A) (limits : Limits) (more : List ℕ) (place : ℕ) → r.limits ≡ limits → r.unfinished ≡ None → left device.rest r.source ≡ lent r.source ++ more → r.source.place ≡ place
     → later limits (state (opened_in r) r.top (wanted r.expected None []) place (lent r.source ++ more)) ≡ to_come_by device r
 came device r limits more place same finished all here =
-    sym (ap (λ (u : Option ℕ). unless_unfinished u (later r.limits (state_behind (cursor device r.source) r))) finished
-    ∙ (ap (λ (l : Limits). later l (state_behind (cursor device r.source) r)) same
+    sym (ap (λ (u : Option ℕ). unless_unfinished u (later r.limits (state_after (cursor device r.source) r))) finished
+    ∙ (ap (λ (l : Limits). later l (state_after (cursor device r.source) r)) same
     ∙ (ap (λ (x : List ℕ). later limits (state (opened_in r) r.top (wanted r.expected None []) r.source.place x)) all
     ∙ ap (λ (p : ℕ). later limits (state (opened_in r) r.top (wanted r.expected None []) p (lent r.source ++ more))) here)))
 
 module _ {W O A I B : Type 0} (w : WriterOf W O A) (device : InputOf I) where
-  pub feeds-reader : (r n : TextReader I B) (texts : ℕ → Option (List ℕ)) (reads : Type 0) (values : ℕ) (writer after : W) (sink behind : Outgoing O) (m k : Counts)
+  pub feeds-reader : (r n : TextReader I B) (texts : ℕ → Option (List ℕ)) (reads : Type 0) (values : ℕ) (writer next : W) (sink after : Outgoing O) (m k : Counts)
       → r.unfinished ≡ None → n.unfinished ≡ None → n.limits ≡ r.limits → PassedLent r.source n.source → Stands r.source
-      → MovedBy w (bounds_of r) texts (reader_lane r 0 writer sink m) (reader_lane n values after behind k)
+      → MovedBy w (bounds_of r) texts (reader_lane r 0 writer sink m) (reader_lane n values next after k)
       → Feeds w (named_item texts) reads
       (record { coming = to_come_by device r; opened = opened_in r; writer = writer; pending = sink.pending; values = 0 })
-      (record { coming = to_come_by device n; opened = opened_in n; writer = after; pending = behind.pending; values = values })
-  feeds-reader r n texts reads values writer after sink behind m k finished still same passed stands moved =
+      (record { coming = to_come_by device n; opened = opened_in n; writer = next; pending = after.pending; values = values })
+  feeds-reader r n texts reads values writer next sink after m k finished still same passed stands moved =
       let s = r.source in
       let t = n.source in
-      let more : List ℕ = behind_lent s.fault (s.limit - s.place) s.buffered ++ device.rest s.device in
+      let more : List ℕ = after_lent s.fault (s.limit - s.place) s.buffered ++ device.rest s.device in
       let end : ℕ = window_end s in
       let within = passed.within in
       let can = lent-CanPass s passed.count within in
       let all = lent-left device.rest s in
       let rest : lent t ≡ drop passed.count (lent s) = lent-passed s t passed.count stands.well within passed.passed in
-      let behind_all : left device.rest t ≡ lent t ++ more =
+      let after_all : left device.rest t ≡ lent t ++ more =
       IsPassed-left device.rest s t passed.count can.0 passed.passed
       ∙ (ap (λ (l : List ℕ). drop passed.count l) all ∙ (drop-append-le passed.count (lent s) more within ∙ ap (λ (l : List ℕ). l ++ more) (sym rest))) in
       let long = length-drop passed.count (lent s) in
@@ -99,8 +99,8 @@ module _ {W O A I B : Type 0} (w : WriterOf W O A) (device : InputOf I) where
       let here : s.place ≡ end - length (lent s) = omega arith in
       let there : t.place ≡ end - length (lent t) = omega (arith, passed.passed.place, longer, long, within) in
       let a = came device r r.limits more (end - length (lent s)) refl finished all here in
-      let b = came device n r.limits more (end - length (lent t)) same still behind_all there in
-      let new : Joint W = record { coming = to_come_by device n; opened = opened_in n; writer = after; pending = behind.pending; values = values } in
+      let b = came device n r.limits more (end - length (lent t)) same still after_all there in
+      let new : Joint W = record { coming = to_come_by device n; opened = opened_in n; writer = next; pending = after.pending; values = values } in
       subst (λ (c : Reading). Feeds w (named_item texts) reads (record { coming = c; opened = opened_in r; writer = writer; pending = sink.pending; values = 0 }) new) a
-      (subst (λ (c : Reading). Feeds w (named_item texts) reads (joint (bounds_of r) more (reader_lane r 0 writer sink m)) (record { coming = c; opened = opened_in n; writer = after; pending = behind.pending; values = values })) b
+      (subst (λ (c : Reading). Feeds w (named_item texts) reads (joint (bounds_of r) more (reader_lane r 0 writer sink m)) (record { coming = c; opened = opened_in n; writer = next; pending = after.pending; values = values })) b
       (feeds-under w (λ _. tt) (moved.feeds texts refl more)))

@@ -29,10 +29,10 @@ use Rattle.ion_text_in.specs.Views.{as_number, number_token}
 use Rattle.ion_value.specs.Items.{raw_head}
 use Rattle.ion_value.specs.PlainItems.{IsPlainScalar, IsTextOf}
 use Rattle.ion_value.specs.Standing.{InRange}
-use Rattle.ion_text_in.specs.Feeding.{expected_of, item_in, place_in, state, Begins, BeginsAs, IsBehind, IsFound, IsHead, IsHeadAs, IsNext, IsStart, Onward, PassesBlanks}
+use Rattle.ion_text_in.specs.Feeding.{expected_of, item_in, place_in, state, Begins, BeginsAs, IsAfter, IsFound, IsHead, IsHeadAs, IsNext, IsStart, Onward, PassesBlanks}
 use Rattle.ion_text_in.specs.Meaning.{at}
 use Rattle.ion_text_in.specs.Positions.{Wants, a_value, a_field, a_separator, innermost, in_sexp}
-use Rattle.ion_text_in.specs.Reading.{take as taken, may_come, at_member, behind_member, is_same, item_step, item_of, member_of, top_of}
+use Rattle.ion_text_in.specs.Reading.{take as taken, may_come, at_member, after_member, is_same, item_step, item_of, member_of, top_of}
 use Rattle.ion_text_in.specs.Scanning.{moved_to}
 use Rattle.ion_text_in.specs.Steps.{comes, later}
 use Rattle.ion_text_in.specs.Token as tokens
@@ -41,16 +41,16 @@ use Rattle.ion_text_in.proofs.BlankTurns.{no-slash}
 use Rattle.ion_text_in.proofs.BlankRuns.{white-over}
 use Rattle.ion_text_in.proofs.ReaderSteps.{blanks-going, later-moved, part-token, step-part}
 
--- ---- what stands behind some bytes
+-- ---- what stands after some bytes
 
-pub none-behind : (bytes : List ℕ) → IsBehind bytes bytes
-none-behind bytes = record { count = 0; within = omega arith; same = refl }
+pub none-after : (bytes : List ℕ) → IsAfter bytes bytes
+none-after bytes = record { count = 0; within = omega arith; same = refl }
 
-pub some-behind : (bytes : List ℕ) (n : ℕ) → n ≤ length bytes → IsBehind bytes (drop n bytes)
-some-behind bytes n within = record { count = n; within = within; same = refl }
+pub some-after : (bytes : List ℕ) (n : ℕ) → n ≤ length bytes → IsAfter bytes (drop n bytes)
+some-after bytes n within = record { count = n; within = within; same = refl }
 
-pub behind-then : (a b c : List ℕ) → IsBehind a b → IsBehind b c → IsBehind a c
-behind-then a b c f g =
+pub after-then : (a b c : List ℕ) → IsAfter a b → IsAfter b c → IsAfter a c
+after-then a b c f g =
     let long = length-drop f.count a in
     let same = ap (λ (l : List ℕ). length l) f.same in
     let within = f.within in
@@ -79,7 +79,7 @@ passes-white bytes n there white ends slash =
     let long : length rest ≡ length bytes - n = length-drop n bytes in
     let taken_long : length (take n bytes) ≡ n = length-take-le n bytes (omega (arith, there)) in
     record {
-      part = some-behind bytes n (omega (arith, there));
+      part = some-after bytes n (omega (arith, there));
       fewer = omega (arith, long);
       blank = λ p q more e.
           let q_is : p + length (take n bytes) ≡ q = omega (arith, e, long, there, taken_long) in
@@ -129,9 +129,9 @@ later-token limits kinds top place q wants bytes rest more first token begins ma
     step-part limits s c first (begins.bare place more) (some-longer bytes more begins.some) (begins.first (in_sexp (innermost kinds)) more)
     ∙ part-token limits (moved_to c s) c (at q (rest ++ more)) first token may is
 
--- a token stands at the front of some bytes, which are at a place, and these behind it, whatever follows
+-- a token stands at the front of some bytes, which are at a place, and these after it, whatever follows
 pub record IsToken (limit : ℕ) (first : First) (token : Token) (place : ℕ) (bytes rest : List ℕ) : Type 0 where
-  pub part : IsBehind bytes rest
+  pub part : IsAfter bytes rest
   pub fewer : length rest < length bytes
   pub begins : BeginsAs first bytes
   pub shown : (q : ℕ) (more : List ℕ) → place + length bytes ≡ q + length rest → token_of (Some limit) first (at place (bytes ++ more)) ≡ Ok (token, at q (rest ++ more))
@@ -139,10 +139,10 @@ pub record IsToken (limit : ℕ) (first : First) (token : Token) (place : ℕ) (
 -- one of so many bytes
 pub token-front : {limit place n : ℕ} {first : First} {token : Token} {bytes rest : List ℕ} → rest ≡ drop n bytes → 0 < n → n ≤ length bytes
     → ((place : ℕ) (more : List ℕ) → token_of (Some limit) first (at place (bytes ++ more)) ≡ Ok (token, at (place + n) (drop n bytes ++ more))) → BeginsAs first bytes → IsToken limit first token place bytes rest
-token-front {limit} {place} {n} {first} {token} {bytes} {rest} behind counts within shown begins =
+token-front {limit} {place} {n} {first} {token} {bytes} {rest} after counts within shown begins =
     let long = length-drop n bytes in
-    subst (λ (l : List ℕ). IsToken limit first token place bytes l) (sym behind) (record {
-      part = some-behind bytes n within;
+    subst (λ (l : List ℕ). IsToken limit first token place bytes l) (sym after) (record {
+      part = some-after bytes n within;
       fewer = omega (arith, long, counts, within);
       begins = begins;
       shown = λ q more e.
@@ -152,9 +152,9 @@ token-front {limit} {place} {n} {first} {token} {bytes} {rest} behind counts wit
 
 -- ---- punctuation
 
-pub mark-behind : (bytes more : List ℕ) (p q : ℕ) → 0 < length bytes → p + length bytes ≡ q + length (drop 1 bytes) → skip 1 (at p (bytes ++ more)) ≡ at q (drop 1 bytes ++ more)
-mark-behind [] more p q some e = absurd (omega (arith, some))
-mark-behind (b ∷ bytes) more p q some e = (let same : p + 1 ≡ q = omega (arith, e) in ap (λ (k : ℕ). at k (bytes ++ more)) same)
+pub mark-after : (bytes more : List ℕ) (p q : ℕ) → 0 < length bytes → p + length bytes ≡ q + length (drop 1 bytes) → skip 1 (at p (bytes ++ more)) ≡ at q (drop 1 bytes ++ more)
+mark-after [] more p q some e = absurd (omega (arith, some))
+mark-after (b ∷ bytes) more p q some e = (let same : p + 1 ≡ q = omega (arith, e) in ap (λ (k : ℕ). at k (bytes ++ more)) same)
 
 comma-token : (limit : Option ℕ) (c : Cursor) → token_of limit tokens.a_comma c ≡ Ok (tokens.comma, skip 1 c)
 unfolding token_of
@@ -189,11 +189,11 @@ onward-comma limits kinds top place bytes begins =
     let some = begins.some in
     let long = length-drop 1 bytes in
     record {
-      part = some-behind bytes 1 (omega (arith, some));
+      part = some-after bytes 1 (omega (arith, some));
       fewer = omega (arith, long);
       same = λ q more e.
           later-token limits kinds top place q a_separator bytes (drop 1 bytes) more tokens.a_comma tokens.comma begins (may-comma a_separator)
-          (comma-token (Some limits.scalar) (at place (bytes ++ more)) ∙ ap (λ (c : Cursor). Ok (tokens.comma, c)) (mark-behind bytes more place q some e))
+          (comma-token (Some limits.scalar) (at place (bytes ++ more)) ∙ ap (λ (c : Cursor). Ok (tokens.comma, c)) (mark-after bytes more place q some e))
           ∙ comma-taken limits kinds top place (at q (drop 1 bytes ++ more));
     }
 
@@ -201,7 +201,7 @@ onward-comma limits kinds top place bytes begins =
 pub onward-then : (limits : Limits) (kinds : List Kind) (top p q : ℕ) (a b c : Wants) (x y z : List ℕ) → p + length x ≡ q + length y → Onward limits kinds top p a x b y → Onward limits kinds top q b y c z
     → Onward limits kinds top p a x c z
 onward-then limits kinds top p q a b c x y z e f g = record {
-  part = behind-then x y z f.part g.part;
+  part = after-then x y z f.part g.part;
   fewer = omega (arith, f.fewer, g.fewer);
   same = λ r more h. f.same q more e ∙ g.same r more (omega (arith, e, h));
 }
@@ -217,7 +217,7 @@ begin-taken limits kinds top place field annotations k c few =
 
 pub plain-taken : (limits : Limits) (kinds : List Kind) (top place q : ℕ) (field : Option SymbolAt) (annotations : List SymbolAt) (body : Scalar SymbolAt) (rest : List ℕ)
     → comes limits (taken limits kinds top (a_value field annotations) place (tokens.plain body) (at q rest))
-    ≡ More (item_in kinds top field annotations place (value.whole body)) (later limits (state kinds (top_of kinds top annotations place) (behind_member (innermost kinds)) q rest))
+    ≡ More (item_in kinds top field annotations place (value.whole body)) (later limits (state kinds (top_of kinds top annotations place) (after_member (innermost kinds)) q rest))
 unfolding taken
 plain-taken limits kinds top place q field annotations body rest = refl
 
@@ -232,7 +232,7 @@ not_as_many n m h = grind (arith, h)
 pub head-token : {limits : Limits} {place : ℕ} {first : First} {token : Token} {bytes rest : List ℕ} (raw head : Scalar SymbolAt) → IsPlainScalar head → InRange head → IsToken limits.scalar first token place bytes rest
     → ((kinds : List Kind) (top q : ℕ) (field : Option SymbolAt) (annotations : List SymbolAt) (more : List ℕ)
     → comes limits (taken limits kinds top (a_value field annotations) place token (at q (rest ++ more)))
-    ≡ More (item_in kinds top field annotations place (value.whole raw)) (later limits (state kinds (top_of kinds top annotations place) (behind_member (innermost kinds)) q (rest ++ more))))
+    ≡ More (item_in kinds top field annotations place (value.whole raw)) (later limits (state kinds (top_of kinds top annotations place) (after_member (innermost kinds)) q (rest ++ more))))
     → IsHeadAs (value.whole raw) limits place bytes (value.whole head) rest
 head-token {limits} {place} {first} {token} {bytes} {rest} raw head known range is takes = record {
   part = is.part;
@@ -248,7 +248,7 @@ head-token {limits} {place} {first} {token} {bytes} {rest} raw head known range 
 
 -- ---- a container's end
 
--- what must come is no value behind a name or annotations
+-- what must come is no value after a name or annotations
 pub data MayEnd : Wants → Type 0 where
   at_value : MayEnd (a_value None [])
   at_field : MayEnd a_field
@@ -256,32 +256,32 @@ pub data MayEnd : Wants → Type 0 where
 
 end-taken : (limits : Limits) (j k : Kind) (kinds : List Kind) (top place : ℕ) (wants : Wants) (c : Cursor) → MayEnd wants → is_same j k ≡ true
     → comes limits (taken limits (j ∷ kinds) top wants place (tokens.end k) c)
-    ≡ More (item_of top None [] place value.end) (later limits (record { kinds = kinds; top = top; wants = behind_member (innermost kinds); cursor = c }))
+    ≡ More (item_of top None [] place value.end) (later limits (record { kinds = kinds; top = top; wants = after_member (innermost kinds); cursor = c }))
 unfolding taken
 end-taken limits j k kinds top place _ c at_value same =
-    ap (λ (b : Bool). comes limits (part place (refuse (not b) BadToken >> Ok (Gives (item_of top None [] place value.end) (record { kinds = kinds; top = top; wants = behind_member (innermost kinds); cursor = c }))))) same
+    ap (λ (b : Bool). comes limits (part place (refuse (not b) BadToken >> Ok (Gives (item_of top None [] place value.end) (record { kinds = kinds; top = top; wants = after_member (innermost kinds); cursor = c }))))) same
 end-taken limits j k kinds top place _ c at_field same =
-    ap (λ (b : Bool). comes limits (part place (refuse (not b) BadToken >> Ok (Gives (item_of top None [] place value.end) (record { kinds = kinds; top = top; wants = behind_member (innermost kinds); cursor = c }))))) same
+    ap (λ (b : Bool). comes limits (part place (refuse (not b) BadToken >> Ok (Gives (item_of top None [] place value.end) (record { kinds = kinds; top = top; wants = after_member (innermost kinds); cursor = c }))))) same
 end-taken limits j k kinds top place _ c at_separator same =
-    ap (λ (b : Bool). comes limits (part place (refuse (not b) BadToken >> Ok (Gives (item_of top None [] place value.end) (record { kinds = kinds; top = top; wants = behind_member (innermost kinds); cursor = c }))))) same
+    ap (λ (b : Bool). comes limits (part place (refuse (not b) BadToken >> Ok (Gives (item_of top None [] place value.end) (record { kinds = kinds; top = top; wants = after_member (innermost kinds); cursor = c }))))) same
 
 pub end-gives : (limits : Limits) (j k : Kind) (kinds : List Kind) (top place q : ℕ) (wants : Wants) (bytes more : List ℕ) → MayEnd wants → is_same j k ≡ true → BeginsAs (tokens.an_end k) bytes → place + length bytes ≡ q + length (drop 1 bytes)
     → later limits (state (j ∷ kinds) top wants place (bytes ++ more))
-    ≡ More (item_of top None [] place value.end) (later limits (state kinds top (behind_member (innermost kinds)) q (drop 1 bytes ++ more)))
+    ≡ More (item_of top None [] place value.end) (later limits (state kinds top (after_member (innermost kinds)) q (drop 1 bytes ++ more)))
 end-gives limits j k kinds top place q wants bytes more may same begins e =
     let some = begins.some in
     later-token limits (j ∷ kinds) top place q wants bytes (drop 1 bytes) more (tokens.an_end k) (tokens.end k) begins (may-end k wants)
-    (end-token (Some limits.scalar) k (at place (bytes ++ more)) ∙ ap (λ (c : Cursor). Ok (tokens.end k, c)) (mark-behind bytes more place q some e))
+    (end-token (Some limits.scalar) k (at place (bytes ++ more)) ∙ ap (λ (c : Cursor). Ok (tokens.end k, c)) (mark-after bytes more place q some e))
     ∙ end-taken limits j k kinds top place wants (at q (drop 1 bytes ++ more)) may same
 
 -- ---- what is found
 
 pub head-begin : (limits : Limits) (place : ℕ) (k : Kind) (bytes rest : List ℕ) → rest ≡ drop 1 bytes → BeginsAs (tokens.a_begin k) bytes → IsHead limits place bytes (value.begin k) rest
-head-begin limits place k bytes rest behind begins =
+head-begin limits place k bytes rest after begins =
     let some = begins.some in
     let long = length-drop 1 bytes in
-    subst (λ (l : List ℕ). IsHead limits place bytes (value.begin k) l) (sym behind) (record {
-      part = some-behind bytes 1 (omega (arith, some));
+    subst (λ (l : List ℕ). IsHead limits place bytes (value.begin k) l) (sym after) (record {
+      part = some-after bytes 1 (omega (arith, some));
       fewer = omega (arith, long, some);
       known = tt;
       range = tt;
@@ -289,7 +289,7 @@ head-begin limits place k bytes rest behind begins =
       value = refl;
       gives = λ kinds top q field annotations more few e.
           later-token limits kinds top place q (a_value field annotations) bytes (drop 1 bytes) more (tokens.a_begin k) (tokens.begin k) begins (may-value field annotations (tokens.a_begin k))
-          (begin-token (Some limits.scalar) k (at place (bytes ++ more)) ∙ ap (λ (c : Cursor). Ok (tokens.begin k, c)) (mark-behind bytes more place q some e))
+          (begin-token (Some limits.scalar) k (at place (bytes ++ more)) ∙ ap (λ (c : Cursor). Ok (tokens.begin k, c)) (mark-after bytes more place q some e))
           ∙ begin-taken limits kinds top place field annotations k (at q (drop 1 bytes ++ more)) (not_as_many limits.depth (length kinds) few);
     })
 
@@ -300,15 +300,15 @@ number-simple (numbers.Timestamp t) = tt
 
 pub head-number : {limits : Limits} {place n : ℕ} {bytes rest : List ℕ} (x : Number) → rest ≡ drop n bytes → 0 < n → Shows number_token bytes (Whole x n) (token_of (Some limits.scalar) tokens.a_run)
     → InRange (as_number x) → BeginsAs tokens.a_run bytes → IsHead limits place bytes (value.whole (as_number x)) rest
-head-number {limits} {place} {n} {bytes} {rest} x behind counts shows range begins =
-    head-token (as_number x) (as_number x) (number-simple x) range (token-front behind counts shows.0 shows.1 begins) (λ kinds top q field annotations more. plain-taken limits kinds top place q field annotations (as_number x) (rest ++ more))
+head-number {limits} {place} {n} {bytes} {rest} x after counts shows range begins =
+    head-token (as_number x) (as_number x) (number-simple x) range (token-front after counts shows.0 shows.1 begins) (λ kinds top q field annotations more. plain-taken limits kinds top place q field annotations (as_number x) (rest ++ more))
 
 -- the code found a number that it read in one pass
 pub found-number : {limits : Limits} {place : ℕ} {bytes : List ℕ} {found : Found} (x : Quick) → raw_head found.head ≡ value.whole (as_number (as_quick x)) → found.rest.now ≡ drop x.count bytes → 0 < x.count
     → IfSome found.spelled (λ text. IsTextOf text.now (value.whole (as_number (as_quick x)))) → Shows number_token bytes (Whole (as_quick x) x.count) (token_of (Some limits.scalar) tokens.a_run) → InRange (as_number (as_quick x))
     → BeginsAs tokens.a_run bytes → IsFound limits place bytes found
-found-number {limits} {place} {bytes} {found} x is behind counts spelled shows range begins = record {
-  head = subst (λ (h : Head SymbolAt). IsHead limits place bytes h found.rest.now) (sym is) (head-number (as_quick x) behind counts shows range begins);
+found-number {limits} {place} {bytes} {found} x is after counts spelled shows range begins = record {
+  head = subst (λ (h : Head SymbolAt). IsHead limits place bytes h found.rest.now) (sym is) (head-number (as_quick x) after counts shows range begins);
   spelled = subst (λ (h : Head SymbolAt). IfSome found.spelled (λ text. IsTextOf text.now h)) (sym is) spelled;
 }
 
@@ -318,10 +318,10 @@ found-as {limits} {place} {bytes} is none head = subst (λ (f : Found). IsFound 
 
 -- ---- where a value begins
 
-pub onward-separator : (limits : Limits) (opened : List Kind) (top place : ℕ) (expected after : Expected) (bytes rest behind : List ℕ) → expected ≡ codes.Separator → PassesBlanks bytes rest → 0 < length rest
-    → ((in_sexp : Bool) (more : List ℕ) → first_at in_sexp (rest ++ more) ≡ tokens.a_comma) → behind ≡ drop 1 rest → wanted after None [] ≡ at_member (innermost opened)
-    → Onward limits opened top place (wanted expected None []) bytes (wanted after None []) behind
-onward-separator limits opened top place expected after bytes rest behind separator passes some comma is wants =
+pub onward-separator : (limits : Limits) (opened : List Kind) (top place : ℕ) (expected next : Expected) (bytes rest after : List ℕ) → expected ≡ codes.Separator → PassesBlanks bytes rest → 0 < length rest
+    → ((in_sexp : Bool) (more : List ℕ) → first_at in_sexp (rest ++ more) ≡ tokens.a_comma) → after ≡ drop 1 rest → wanted next None [] ≡ at_member (innermost opened)
+    → Onward limits opened top place (wanted expected None []) bytes (wanted next None []) after
+onward-separator limits opened top place expected next bytes rest after separator passes some comma is wants =
     let fewer = passes.fewer in
     rw (separator, wants, is)
     (onward-then limits opened top place (place + (length bytes - length rest)) a_separator a_separator (at_member (innermost opened)) bytes rest (drop 1 rest) (omega (arith, fewer))

@@ -9,7 +9,7 @@ use Rattle.ion_value.specs.Name.{begins_with}
 use Rattle.ion_value.specs.Parts.{refuse, ◌>>=◌, ◌>>◌}
 use Rattle.ion_text_in.specs.Limit.{passes}
 use Rattle.ion_text_in.specs.Quoted as quoted
-use Rattle.ion_text_in.specs.Quoted.{Quote, Piece, char, close, illegal, cut, Hex, number, no_digit, cut_digits, hex_behind, piece_at, pieces_for, segment_at, segments_for}
+use Rattle.ion_text_in.specs.Quoted.{Quote, Piece, char, close, illegal, cut, Hex, number, no_digit, cut_digits, hex_after, piece_at, pieces_for, segment_at, segments_for}
 use Rattle.ion_text_in.specs.Lob as lob
 use Rattle.ion_text_in.specs.Lob.{group_of, groups_for}
 use Rattle.ion_text_in.specs.Scanning.{Spelled, IsQuote, Takes, PieceTakes, EachPieceTakes, pieces, segments, groups, with_groups, PiecesInTurn, SegmentsInTurn, GroupsInTurn}
@@ -125,7 +125,7 @@ groups-by : (later more : ℕ → Bool → Cursor → Spelled) (limit : Option �
     → with_groups later limit count padded c ≡ with_groups more limit count padded c
 groups-by later more limit count padded c equal =
     let g : List ℕ × List ℕ = group_of 4 c.rest in
-    let d : Cursor = lob.behind_to c g.1 in
+    let d : Cursor = lob.after_to c g.1 in
     few-same (nat_lt (length g.0) 4) _ _ _ _ refl
     (λ many. let four : 4 ≤ length g.0 = ltb-false (length g.0) 4 many in let all = group-counts 4 c.rest in
     let less : length d.rest < length c.rest = omega (arith, four, all) in

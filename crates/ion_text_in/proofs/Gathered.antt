@@ -22,15 +22,15 @@ use Rattle.ion_text_in.proofs.RunEnds.{goes-least}
 -- ---- faults
 
 -- a fault on the way is that the limit is passed, or none that reading tells of
-pub answers-over : {T A : Type 0} (view : T → A) (f : Fault) (behind : Cursor) (limit place before count : ℕ) (all : Result (A × Cursor) Reason)
+pub answers-over : {T A : Type 0} (view : T → A) (f : Fault) (after : Cursor) (limit place before count : ℕ) (all : Result (A × Cursor) Reason)
     → ((reason : Reason) (at : ℕ) → f ≡ fault.Refused reason at → IsOver limit place before count reason at) → (limit < before + count → all ≡ Err ScalarLimit)
-    → Answers view (Err f) behind place all
-answers-over view (fault.Refused reason at) behind limit place before count all over refused =
+    → Answers view (Err f) after place all
+answers-over view (fault.Refused reason at) after limit place before count all over refused =
     let is = over reason at refl in (refused is.more ∙ ap Err (sym is.is_limit), is.is_place)
-answers-over view fault.Memory behind limit place before count all over refused = tt
-answers-over view fault.ReadFault behind limit place before count all over refused = tt
-answers-over view fault.WriteFault behind limit place before count all over refused = tt
-answers-over view fault.InputLimit behind limit place before count all over refused = tt
+answers-over view fault.Memory after limit place before count all over refused = tt
+answers-over view fault.ReadFault after limit place before count all over refused = tt
+answers-over view fault.WriteFault after limit place before count all over refused = tt
+answers-over view fault.InputLimit after limit place before count all over refused = tt
 
 -- ---- a limit
 
@@ -58,7 +58,7 @@ skip-both front others c =
     ∙ ap (λ (p : ℕ). at p (drop (m + n) c.rest)) place
     ∙ ap (λ (l : List ℕ). at (c.place + m + n) l) (sym (drop-drop n m c.rest))
 
--- what is gathered of some bytes and others is gathered behind the first
+-- what is gathered of some bytes and others is gathered after the first
 pub joined-on : (limit : Option ℕ) (before front others : List ℕ) (c : Cursor) → joined limit before (front ++ others) c ≡ joined limit (before ++ front) others (skip (length front) c)
 joined-on limit before front others c =
     let all = length-append front others in
@@ -73,7 +73,7 @@ counted-on limit front others c =
     ap (λ (k : ℕ). refuse (passes limit k) ScalarLimit >> Ok (front ++ others, skip (length (front ++ others)) c)) (length-append front others)
     ∙ ap (λ (d : Cursor). refuse (passes limit (length front + length others)) ScalarLimit >> Ok (front ++ others, d)) (skip-both front others c)
 
--- so many bytes of a run, and then what goes on behind them
+-- so many bytes of a run, and then what goes on after them
 pub run-on : (run : Run) (limit : Option ℕ) (before : List ℕ) (n : ℕ) (c : Cursor) → n ≤ length c.rest → GoesOver (goes_on run) c.rest n
     → with_run run limit before c ≡ with_run run limit (before ++ take n c.rest) (skip n c)
 run-on run limit before n c within goes =
@@ -101,24 +101,24 @@ first-then run limit c some = from c.place c.rest some
     from place [] some = absurd (omega (arith, some))
     from place (b ∷ bytes) some = sym (counted-on limit (b ∷ []) (run_of (goes_on run) bytes).0 (at place (b ∷ bytes)))
 
-pub answers-same : {T A : Type 0} (view : T → A) (result : Result T Fault) (behind : Cursor) (place there : ℕ) (given same : Result (A × Cursor) Reason)
-    → Answers view result behind place given → place ≡ there → given ≡ same → Answers view result behind there same
-answers-same {A = A} view result behind place there given same answers p e =
-    subst (λ (p : ℕ). Answers view result behind p same) p (subst (λ (g : Result (A × Cursor) Reason). Answers view result behind place g) e answers)
+pub answers-same : {T A : Type 0} (view : T → A) (result : Result T Fault) (after : Cursor) (place there : ℕ) (given same : Result (A × Cursor) Reason)
+    → Answers view result after place given → place ≡ there → given ≡ same → Answers view result after there same
+answers-same {A = A} view result after place there given same answers p e =
+    subst (λ (p : ℕ). Answers view result after p same) p (subst (λ (g : Result (A × Cursor) Reason). Answers view result after place g) e answers)
 
 -- ---- what follows of other readings
 
-pub answers-then : {T A B : Type 0} (view : T → A) (shown : T → B) (result : Result T Fault) (behind : Cursor) (place : ℕ) (one : Result (A × Cursor) Reason) (all : Result (B × Cursor) Reason)
-    → ((x : T) → one ≡ Ok (view x, behind) → all ≡ Ok (shown x, behind)) → ((e : Reason) → one ≡ Err e → all ≡ Err e) → Answers view result behind place one → Answers shown result behind place all
-answers-then view shown (Ok x) behind place one all whole refused answers = whole x answers
-answers-then view shown (Err f) behind place one all whole refused answers = answers-refused view shown f behind behind place one all answers refused
+pub answers-then : {T A B : Type 0} (view : T → A) (shown : T → B) (result : Result T Fault) (after : Cursor) (place : ℕ) (one : Result (A × Cursor) Reason) (all : Result (B × Cursor) Reason)
+    → ((x : T) → one ≡ Ok (view x, after) → all ≡ Ok (shown x, after)) → ((e : Reason) → one ≡ Err e → all ≡ Err e) → Answers view result after place one → Answers shown result after place all
+answers-then view shown (Ok x) after place one all whole refused answers = whole x answers
+answers-then view shown (Err f) after place one all whole refused answers = answers-refused view shown f after after place one all answers refused
 
 -- bytes were copied, or there was no memory for them
-pub answers-copied : {A : Type 0} (x : A) (copied : Type 0) (result : Result (Unit {0}) Fault) (behind : Cursor) (place : ℕ) (given : Result (A × Cursor) Reason)
-    → OnOk result copied → IfErr result (λ f. f ≡ fault.Memory) → (copied → given ≡ Ok (x, behind)) → Answers (λ (u : Unit {0}). x) result behind place given
-answers-copied x copied (Ok u) behind place given done memory e = e done
-answers-copied x copied (Err fault.Memory) behind place given done memory e = tt
-answers-copied x copied (Err (fault.Refused reason at)) behind place given done memory e = absurd (cc memory)
-answers-copied x copied (Err fault.ReadFault) behind place given done memory e = tt
-answers-copied x copied (Err fault.WriteFault) behind place given done memory e = tt
-answers-copied x copied (Err fault.InputLimit) behind place given done memory e = tt
+pub answers-copied : {A : Type 0} (x : A) (copied : Type 0) (result : Result (Unit {0}) Fault) (after : Cursor) (place : ℕ) (given : Result (A × Cursor) Reason)
+    → OnOk result copied → IfErr result (λ f. f ≡ fault.Memory) → (copied → given ≡ Ok (x, after)) → Answers (λ (u : Unit {0}). x) result after place given
+answers-copied x copied (Ok u) after place given done memory e = e done
+answers-copied x copied (Err fault.Memory) after place given done memory e = tt
+answers-copied x copied (Err (fault.Refused reason at)) after place given done memory e = absurd (cc memory)
+answers-copied x copied (Err fault.ReadFault) after place given done memory e = tt
+answers-copied x copied (Err fault.WriteFault) after place given done memory e = tt
+answers-copied x copied (Err fault.InputLimit) after place given done memory e = tt

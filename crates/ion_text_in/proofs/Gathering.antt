@@ -1,4 +1,4 @@
--- A text that is gathered: the pieces behind what was read, and the calls that read them.
+-- A text that is gathered: the pieces after what was read, and the calls that read them.
 use Rattle.std.proofs.Common.{◌≡◌, ℕ, ◌+◌, ◌≤◌, Bool, true, false, List, ◌++◌, length, take, drop, Some, Result, Ok, Err, refl, sym, ap, subst, ◌∙◌, inl, inr, append_assoc, append-nil, arith}
 use Rattle.std.proofs.lemmas.List.{length-append, length-take-le, take-append-drop}
 use Rattle.std.proofs.lemmas.Bool.{cases_Bool, le-ltb}
@@ -24,7 +24,7 @@ use Rattle.ion_text_in.specs.Quotes.{quote_of}
 use Rattle.ion_text_in.proofs.Quotes.{quote_of-is}
 use Rattle.ion_text_in.specs.declared.piece.Meant.{Meant}
 use Rattle.ion_text_in.specs.declared.piece.Meant.TheVariants as meant
-use Rattle.ion_text_in.specs.Pieces.{piece_of, bytes_of, behind_piece, taken_of}
+use Rattle.ion_text_in.specs.Pieces.{piece_of, bytes_of, after_piece, taken_of}
 use Rattle.ion_text_in.specs.Gathered.{Continues, PutsOn, onward}
 use Rattle.ion_text_in.proofs.Fuel.{pieces-first}
 use Rattle.ion_text_in.proofs.Plain.{plain-spelled}
@@ -33,7 +33,7 @@ pub front-front : (text xs : List ℕ) (o : Spelled) → with_front text (with_f
 front-front text xs (Ok x) = ap (λ (l : List ℕ). Ok (l, x.1)) (sym (append_assoc text xs x.0))
 front-front text xs (Err reason) = refl
 
--- more was read, and the rest is spelled behind it
+-- more was read, and the rest is spelled after it
 pub onward-more : (q : Quote) (limit : ℕ) (text xs : List ℕ) (c : Cursor)
     → with_front text (with_front xs (pieces q (Some limit) (length text + length xs) c)) ≡ onward q limit (text ++ xs) c
 onward-more q limit text xs c =
@@ -74,7 +74,7 @@ plain-lent rest q limit text s bytes n within is there plain =
 
 -- what is read from a piece on, by the piece
 pub onward-piece : (q : Quote) (limit : ℕ) (text : List ℕ) (c : Cursor) (piece : CodePiece) → IsQuote q → piece_of piece ≡ piece_at q c.rest
-    → onward q limit text c ≡ behind_piece q limit text (skip (taken_of piece) c) piece
+    → onward q limit text c ≡ after_piece q limit text (skip (taken_of piece) c) piece
 onward-piece q limit text c piece is e =
     ap (λ (o : Spelled). with_front text o)
     (pieces-first q (Some limit) (length text) c is
@@ -85,7 +85,7 @@ onward-piece q limit text c piece is e =
     over true xs d = refl
     over false xs d = onward-more q limit text xs d
 
-    by : (piece : CodePiece) → with_front text (with_piece (λ n d. pieces q (Some limit) n d) q (Some limit) (length text) c (piece_of piece)) ≡ behind_piece q limit text (skip (taken_of piece) c) piece
+    by : (piece : CodePiece) → with_front text (with_piece (λ n d. pieces q (Some limit) n d) q (Some limit) (length text) c (piece_of piece)) ≡ after_piece q limit text (skip (taken_of piece) c) piece
     by (code.Text m taken) = over (passes (Some limit) (length text + length (bytes_of m))) (bytes_of m) (skip taken c)
     by (code.Close taken) = ap (λ (l : List ℕ). Ok (l, skip taken c)) (append-nil text)
     by code.Illegal = refl
@@ -99,15 +99,15 @@ meant-few meant.Nothing = omega arith
 -- ---- what is answered
 
 -- the fault of a part is the whole's
-pub continues-err : {T U A B : Type 0} {one : Result A Reason} {all : Result B Reason} (after : T → Result A Reason) (behind : U → Result B Reason) (f : Fault) (place : ℕ) → ((e : Reason) → one ≡ Err e → all ≡ Err e)
-    → Continues (Err f) place one after → Continues (Err f) place all behind
-continues-err after behind (Refused reason p) place refused h = (refused reason h.0, h.1)
-continues-err after behind Memory place refused h = tt
-continues-err after behind ReadFault place refused h = tt
-continues-err after behind WriteFault place refused h = tt
-continues-err after behind InputLimit place refused h = tt
+pub continues-err : {T U A B : Type 0} {one : Result A Reason} {all : Result B Reason} (next : T → Result A Reason) (after : U → Result B Reason) (f : Fault) (place : ℕ) → ((e : Reason) → one ≡ Err e → all ≡ Err e)
+    → Continues (Err f) place one next → Continues (Err f) place all after
+continues-err next after (Refused reason p) place refused h = (refused reason h.0, h.1)
+continues-err next after Memory place refused h = tt
+continues-err next after ReadFault place refused h = tt
+continues-err next after WriteFault place refused h = tt
+continues-err next after InputLimit place refused h = tt
 
--- bytes are put behind a text, or the limit is passed
+-- bytes are put after a text, or the limit is passed
 pub continues-puts : {T A : Type 0} (r : Result T Fault) (old new bytes : List ℕ) (limit place : ℕ) (on : List ℕ → Result A Reason) → PutsOn old new bytes limit place r
     → Continues r place (refuse (passes (Some limit) (length old + length bytes)) ScalarLimit >> on (old ++ bytes)) (λ _. on new)
 continues-puts (Ok x) old new bytes limit place on h = rw (h.1, h.0) refl

@@ -21,7 +21,7 @@ mod RawTokens
 mod ValuesWithin
 mod Narrow
 mod Refused
-pub mod Behind
+pub mod After
 pub mod NumberEnds
 pub mod TokenBegins
 pub mod Fuel

@@ -17,7 +17,7 @@ use Rattle.ion_value.specs.Value.{SymbolAt, Scalar}
 use Rattle.ion_value.specs.Writable.{AreBytes}
 use Rattle.ion_text_in.specs.Lob.{group_bytes, lob_at}
 use Rattle.ion_text_in.specs.Meaning.{IsRawScalar}
-use Rattle.ion_text_in.specs.Quoted.{Quote, short_quote, long_quote, Piece, Hex, number, no_digit, cut_digits, hex_behind, byte_code, letter, coded, by_letter, escape, is_raw, raw, piece_at}
+use Rattle.ion_text_in.specs.Quoted.{Quote, short_quote, long_quote, Piece, Hex, number, no_digit, cut_digits, hex_after, byte_code, letter, coded, by_letter, escape, is_raw, raw, piece_at}
 use Rattle.ion_text_in.proofs.DecodedBytes.{decoded-bytes}
 use Rattle.ion_text_in.proofs.Shrinking.{Joins, PieceHas, LobOf, lob-is}
 use Rattle.ion_text_in.proofs.WentWell.{if-either, if-more}
@@ -39,11 +39,11 @@ digit-small : (b : ℕ) → is_hex_digit b ≡ true → digit_value b < 16
 digit-small b e = grind (arith, nat_tests)
 
 abbrev HexBytes : ℕ → Hex → Type 0
-HexBytes most (number n behind) = n < most
+HexBytes most (number n after) = n < most
 HexBytes most _ = ⊤
 
-hex-one : (n : ℕ) (bytes : List ℕ) → n < 16 → HexBytes 256 (hex_behind 1 n bytes)
-unfolding hex_behind
+hex-one : (n : ℕ) (bytes : List ℕ) → n < 16 → HexBytes 256 (hex_after 1 n bytes)
+unfolding hex_after
 hex-one n [] small = tt
 hex-one n (b ∷ bytes) small = by (is_hex_digit b) refl
   where
@@ -51,22 +51,22 @@ hex-one n (b ∷ bytes) small = by (is_hex_digit b) refl
     by true e = let d = digit-small b e in omega (arith, small, d)
     by false e = tt
 
-hex-two : (bytes : List ℕ) → HexBytes 256 (hex_behind 2 0 bytes)
-unfolding hex_behind
+hex-two : (bytes : List ℕ) → HexBytes 256 (hex_after 2 0 bytes)
+unfolding hex_after
 hex-two [] = tt
 hex-two (b ∷ bytes) = by (is_hex_digit b) refl
   where
-    by : (t : Bool) → is_hex_digit b ≡ t → HexBytes 256 (elim t as (λ _. Hex) [ true ↦ hex_behind 1 (16 * 0 + digit_value b) bytes | false ↦ no_digit ])
+    by : (t : Bool) → is_hex_digit b ≡ t → HexBytes 256 (elim t as (λ _. Hex) [ true ↦ hex_after 1 (16 * 0 + digit_value b) bytes | false ↦ no_digit ])
     by true e = hex-one (16 * 0 + digit_value b) bytes (let d = digit-small b e in omega (arith, d))
     by false e = tt
 
 code-bytes : (h : Hex) → HexBytes 256 h → PieceBytes (byte_code true h)
-code-bytes (number n behind) small = (small, tt)
+code-bytes (number n after) small = (small, tt)
 code-bytes no_digit small = tt
 code-bytes cut_digits small = tt
 
 coded-bytes : (e : ℕ) (bytes : List ℕ) → PieceBytes (coded true e bytes)
-coded-bytes e bytes = piece-if (e == 120) _ _ (λ _. code-bytes (hex_behind 2 0 bytes) (hex-two bytes)) (λ _. tt)
+coded-bytes e bytes = piece-if (e == 120) _ _ (λ _. code-bytes (hex_after 2 0 bytes) (hex-two bytes)) (λ _. tt)
 
 abbrev LetterByte : Option ℕ → Type 0
 LetterByte None = ⊤

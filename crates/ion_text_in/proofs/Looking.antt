@@ -8,7 +8,7 @@ use Rattle.ion_text_in.specs.declared.piece.Piece.{Piece as CodePiece}
 use Rattle.ion_text_in.specs.declared.piece.Piece.TheVariants as code
 use Rattle.ion_text_in.specs.Quoted.{Quote, piece_at}
 use Rattle.ion_text_in.specs.Pieces.{piece_of, ShowsPiece}
-use Rattle.ion_text_in.proofs.Shown.{behind_lent, lent-left}
+use Rattle.ion_text_in.proofs.Shown.{after_lent, lent-left}
 
 shows-piece : (q : Quote) (bytes : List ℕ) (piece : CodePiece) → (piece ≡ code.Cut → ⊥) → ShowsPiece q bytes piece → (more : List ℕ) → piece_at q (bytes ++ more) ≡ piece_of piece
 shows-piece q bytes (code.Text m n) whole shows more = shows more
@@ -19,7 +19,7 @@ shows-piece q bytes code.Cut whole shows more = absurd (whole refl)
 -- a piece that the window shows
 pub piece-left : {I : Type 0} (rest : I → List ℕ) (s : Incoming I) (q : Quote) (piece : CodePiece) → (piece ≡ code.Cut → ⊥) → ShowsPiece q (lent s) piece → piece_of piece ≡ piece_at q (left rest s)
 piece-left rest s q piece whole shows =
-    let more : List ℕ = behind_lent s.fault (s.limit - s.place) s.buffered ++ rest s.device in
+    let more : List ℕ = after_lent s.fault (s.limit - s.place) s.buffered ++ rest s.device in
     sym (ap (λ (l : List ℕ). piece_at q l) (lent-left rest s) ∙ shows-piece q (lent s) piece whole shows more)
 
 lent_by-length : (f : Option Fault) (most : ℕ) (bytes : List ℕ) → f ≡ None → length (lent_by f most bytes) ≡ min most (length bytes)
@@ -41,8 +41,8 @@ no-byte xs n e = elim (slice_get_cases xs n).1 [
   | inr past ↦ past.0
 ]
 
-none-behind : (xs ys all : List ℕ) → all ≡ xs ++ ys → length all ≤ length xs → xs ≡ all
-none-behind xs ys all e le =
+none-after : (xs ys all : List ℕ) → all ≡ xs ++ ys → length all ≤ length xs → xs ≡ all
+none-after xs ys all e le =
     let long = ap (λ (l : List ℕ). length l) e ∙ length-append xs ys in
     let none : ys ≡ [] = nil_from_length ys (omega (arith, long, le)) in
     sym (e ∙ ap (λ (l : List ℕ). xs ++ l) none ∙ append-nil xs)
@@ -55,4 +55,4 @@ lent-all rest observable s t kept ws wt h none =
     let grows = lent-grows rest observable s t kept ws wt in
     let same = kept.same_left h in
     let long : length (left rest t) ≤ length (lent t) = rw same (omega (arith, short, grows)) in
-    none-behind (lent t) (behind_lent t.fault (t.limit - t.place) t.buffered ++ rest t.device) (left rest t) (lent-left rest t) long ∙ same
+    none-after (lent t) (after_lent t.fault (t.limit - t.place) t.buffered ++ rest t.device) (left rest t) (lent-left rest t) long ∙ same

@@ -118,11 +118,11 @@ run-first sexp text rest run =
     subst (λ (xs : List ℕ). first_at sexp (xs ++ rest) ≡ a_run) (sym run.text_is)
     (first-run sexp run.first (run.others ++ rest) (begins-more run.first run.others rest run.begins))
 
-abbrev token_behind : Token → Cursor → Result (Token × Cursor) Reason
-token_behind t c = Ok (t, c)
+abbrev token_after : Token → Cursor → Result (Token × Cursor) Reason
+token_after t c = Ok (t, c)
 
 counted-means : (limit : Limit) (place : ℕ) (text bytes rest : List ℕ) (means : List ℕ → Result Token Reason) (t : Token) → bytes ≡ text → passes limit (length text) ≡ false → means text ≡ Ok t
-    → (counted limit bytes (at place (text ++ rest)) >>= (λ r. means r.0 >>= (λ t. token_behind t r.1))) ≡ Ok (t, at (place + length text) rest)
+    → (counted limit bytes (at place (text ++ rest)) >>= (λ r. means r.0 >>= (λ t. token_after t r.1))) ≡ Ok (t, at (place + length text) rest)
 counted-means limit place text bytes rest means t is fits e = rw (is, fits, e, skip-prefix place text rest) refl
 
 pub run-means : (text : List ℕ) (v : Scalar SymbolAt) → IsRun text → scalar_of_run text ≡ Ok v → Means (length text) EndsNumber text (plain v)
@@ -149,16 +149,16 @@ digits-run_bytes (d ∷ ds) e =
     let parts = and_parts (is_digit d) (all_are is_digit ds) e in
     and_from (is_run_byte d) (all_are is_run_byte ds) (digit-run_byte d parts.0) (digits-run_bytes ds parts.1)
 
--- digits, and bytes of a run behind them
+-- digits, and bytes of a run after them
 record Runs (text : List ℕ) : Type 0 where
   first : first_is is_digit text ≡ true
   all : all_are is_run_byte text ≡ true
 
-digits-behind : (ds text : List ℕ) → 0 < length ds → all_are is_digit ds ≡ true → all_are is_run_byte text ≡ true → Runs (ds ++ text)
-digits-behind [] text some digits behind = absurd (omega arith)
-digits-behind (d ∷ ds) text some digits behind = record {
+digits-after : (ds text : List ℕ) → 0 < length ds → all_are is_digit ds ≡ true → all_are is_run_byte text ≡ true → Runs (ds ++ text)
+digits-after [] text some digits after = absurd (omega arith)
+digits-after (d ∷ ds) text some digits after = record {
   first = (and_parts (is_digit d) (all_are is_digit ds) digits).0;
-  all = all-append is_run_byte (d ∷ ds) text (digits-run_bytes (d ∷ ds) digits) behind;
+  all = all-append is_run_byte (d ∷ ds) text (digits-run_bytes (d ∷ ds) digits) after;
 }
 
 run-of_digits : (text : List ℕ) → Runs text → IsRun text
@@ -182,7 +182,7 @@ unfolding scalar_of_run
 scalar-int run i e = ap (λ o. scalar_of_readings {S = SymbolAt} o (decimal_of_text run) (timestamp_of_text run)) e
 
 decimal-runs : (n : ℕ) (text : List ℕ) → n < 10 ^ 64 → all_are is_run_byte text ≡ true → Runs (decimal n ++ text)
-decimal-runs n text small behind = let w = spells n small in digits-behind (decimal n) text w.some w.digits behind
+decimal-runs n text small after = let w = spells n small in digits-after (decimal n) text w.some w.digits after
 
 pub int-means : IntTextIsRead
 int-means i valid =
@@ -236,11 +236,11 @@ fixed count n = digits-run_bytes (fixed_digits count n) (fixed_digits-are count 
 
 -- a mark, and so many digits
 marked : (b : ℕ) (count n : ℕ) (text : List ℕ) → is_run_byte b ≡ true → all_are is_run_byte text ≡ true → all_are is_run_byte (b ∷ (fixed_digits count n ++ text)) ≡ true
-marked b count n text mark behind =
-    and_from (is_run_byte b) (all_are is_run_byte (fixed_digits count n ++ text)) mark (all-append is_run_byte (fixed_digits count n) text (fixed count n) behind)
+marked b count n text mark after =
+    and_from (is_run_byte b) (all_are is_run_byte (fixed_digits count n ++ text)) mark (all-append is_run_byte (fixed_digits count n) text (fixed count n) after)
 
 year-runs : (t : Timestamp) (text : List ℕ) → all_are is_run_byte text ≡ true → Runs (fixed_digits 4 t.year ++ text)
-year-runs t text behind = digits-behind (fixed_digits 4 t.year) text (omega (arith, length-fixed_digits 4 t.year)) (fixed_digits-are 4 t.year) behind
+year-runs t text after = digits-after (fixed_digits 4 t.year) text (omega (arith, length-fixed_digits 4 t.year)) (fixed_digits-are 4 t.year) after
 
 runs-more : (xs ys : List ℕ) → Runs xs → all_are is_run_byte ys ≡ true → Runs (xs ++ ys)
 runs-more [] ys runs more = absurd (false≢true runs.first)
@@ -302,7 +302,7 @@ word-means Ends text t word first means limit sexp place rest allows ends =
 word-all : (text rest : List ℕ) → all_are is_identifier_byte text ≡ true → in_word rest ≡ false → run_of in_word (text ++ rest) ≡ (text, rest)
 word-all text rest all ends = run-all is_identifier_byte in_word (λ b bytes e. e) text rest all ends
 
--- a word that is not `null`, or has no point behind it
+-- a word that is not `null`, or has no point after it
 whole-word : (b : ℕ) (text rest : List ℕ) → all_are is_identifier_byte text ≡ true → in_word rest ≡ false
     → (bytes_eq (codes "null") (b ∷ text) && first_is (λ b. b == 46) rest) ≡ false → word_of (b ∷ (text ++ rest)) ≡ b ∷ text
 whole-word b text rest all ends alone =

@@ -2,11 +2,11 @@
 use Rattle.std.proofs.Common.{◌≡◌, ℕ, ◌⊎◌, inl, inr, List, sym, ap, subst, subst₂, ◌∙◌, arith}
 use Rattle.ion_meter.specs.declared.fault.Reason.{Reason}
 use Rattle.ion_meter.specs.declared.limits.Limits.{Limits}
-use Rattle.ion_value.specs.Reading.{Reading, Finished, Stopped, Step, Ends, Stops, Gives, GoesOn, next_reading, reading_by, behind}
+use Rattle.ion_value.specs.Reading.{Reading, Finished, Stopped, Step, Ends, Stops, Gives, GoesOn, next_reading, reading_by, items_then}
 use Rattle.ion_value.specs.ReadingLaws.{ending_of, AreWithin}
 use Rattle.ion_value.specs.Path.{path_items}
 use Rattle.ion_value.proofs.Faults.{Free}
-use Rattle.ion_value.proofs.ReadingLaws.{ending_of-behind}
+use Rattle.ion_value.proofs.ReadingLaws.{ending_of-items_then}
 use Rattle.ion_text_in.specs.Positions.{State}
 use Rattle.ion_text_in.specs.Reading as reading
 use Rattle.ion_text_in.specs.Reading.{step, size}
@@ -22,18 +22,18 @@ module _ (limits wide : Limits) (within : AreWithin limits wide) (bytes : List �
 
   same-or-cut : Same ⊎ IsCut limits wide bytes
   same-or-cut =
-      by (step limits w.state) (step wide w.state) (step-Cut limits wide within w.state) w.last (w.short ∙ ap (behind (path_items w.path)) (last-read limits w.state))
-      (w.long ∙ ap (behind (path_items w.path)) (last-read wide w.state))
+      by (step limits w.state) (step wide w.state) (step-Cut limits wide within w.state) w.last (w.short ∙ ap (items_then (path_items w.path)) (last-read limits w.state))
+      (w.long ∙ ap (items_then (path_items w.path)) (last-read wide w.state))
     where
       w : Walked limits wide bytes
       w = walk limits wide within bytes
 
-      unlimited : (o : Reading) → ((why : Reason) (place : ℕ) → ending_of o ≡ Stopped why place → Free why) → reading.reading limits bytes ≡ behind (path_items w.path) o
+      unlimited : (o : Reading) → ((why : Reason) (place : ℕ) → ending_of o ≡ Stopped why place → Free why) → reading.reading limits bytes ≡ items_then (path_items w.path) o
           → (why : Reason) (place : ℕ) → ending_of (reading.reading limits bytes) ≡ Stopped why place → Free why
-      unlimited o h r why place e = h why place (sym (ending_of-behind (path_items w.path) o) ∙ sym (ap ending_of r) ∙ e)
+      unlimited o h r why place e = h why place (sym (ending_of-items_then (path_items w.path) o) ∙ sym (ap ending_of r) ∙ e)
 
-      by : (x y : Step State) → StepCut limits w.state x y → IsLast x → reading.reading limits bytes ≡ behind (path_items w.path) (next_reading (reading_by (step limits) size) x)
-          → reading.reading wide bytes ≡ behind (path_items w.path) (next_reading (reading_by (step wide) size) y) → Same ⊎ IsCut limits wide bytes
+      by : (x y : Step State) → StepCut limits w.state x y → IsLast x → reading.reading limits bytes ≡ items_then (path_items w.path) (next_reading (reading_by (step limits) size) x)
+          → reading.reading wide bytes ≡ items_then (path_items w.path) (next_reading (reading_by (step wide) size) y) → Same ⊎ IsCut limits wide bytes
       by _ _ (same_step Ends less) last r l = inl (record { equal = r ∙ sym l; free = unlimited Finished (λ why place e. absurd (cc e)) r })
       by _ _ (same_step (Stops why place) less) last r l =
           inl (record { equal = r ∙ sym l; free = unlimited (Stopped why place) (λ other found e. let is : why ≡ other = cc e in subst Free is less) r })
@@ -49,7 +49,7 @@ pub exact_limits : ExactLimits
 exact_limits limits bytes cause place e limited = elim (same-or-cut limits limits (record { depth = omega arith; scalar = omega arith }) bytes) [
   | inl all ↦ absurd (all.free cause place e limited)
   | inr cut ↦
-      let ends : Stopped cut.reason cut.place ≡ Stopped cause place = sym (ending_of-behind (path_items cut.path) (Stopped cut.reason cut.place)) ∙ sym (ap ending_of cut.short) ∙ e in
+      let ends : Stopped cut.reason cut.place ≡ Stopped cause place = sym (ending_of-items_then (path_items cut.path) (Stopped cut.reason cut.place)) ∙ sym (ap ending_of cut.short) ∙ e in
       let same : cut.reason ≡ cause = cc ends in
       let there : cut.place ≡ place = cc ends in
       record {
@@ -57,6 +57,6 @@ exact_limits limits bytes cause place e limited = elim (same-or-cut limits limit
         state = cut.state;
         stands = cut.stands;
         passes = subst₂ (λ p why. Passes limits cut.state p why) there same cut.passes;
-        read = cut.short ∙ ap (behind (path_items cut.path)) ends;
+        read = cut.short ∙ ap (items_then (path_items cut.path)) ends;
       }
 ]

@@ -4,7 +4,7 @@ use Rattle.ion_meter.specs.declared.limits.Limits.{Limits}
 use Rattle.ion_value.specs.Value.{top_items}
 use Rattle.ion_value.specs.Path.{closed, path_items}
 use Rattle.ion_value.specs.Reading.{Finished, items_of}
-use Rattle.ion_value.proofs.Readings.{items_of-behind}
+use Rattle.ion_value.proofs.Readings.{items_of-items_then}
 use Rattle.ion_value.proofs.Paths.{same_path}
 use Rattle.ion_value.specs.ReadingLaws.{Allows}
 use Rattle.ion_value.proofs.ReadingLaws.{prefixes}
@@ -23,13 +23,13 @@ one_path bytes q r a b is_a is_b =
     let first = complete (roomy bytes) bytes q a (allowed bytes) is_a in
     let second = complete (roomy bytes) bytes r b (allowed bytes) is_b in
     prefixes (path_items a) (path_items b) (items_of first.0) (items_of second.0)
-    (sym (items_of-behind (path_items a) first.0) ∙ ap items_of (sym first.1 ∙ second.1) ∙ items_of-behind (path_items b) second.0)
+    (sym (items_of-items_then (path_items a) first.0) ∙ ap items_of (sym first.1 ∙ second.1) ∙ items_of-items_then (path_items b) second.0)
 
 pub one_stream : OneStream
 one_stream bytes a b is_a is_b =
     let first = streams_are_read (roomy bytes) bytes a (allowed bytes) is_a in
     let second = streams_are_read (roomy bytes) bytes b (allowed bytes) is_b in
     let items : top_items a ++ [] ≡ top_items b ++ [] =
-    sym (items_of-behind (top_items a) Finished) ∙ ap items_of (sym first ∙ second) ∙ items_of-behind (top_items b) Finished in
+    sym (items_of-items_then (top_items a) Finished) ∙ ap items_of (sym first ∙ second) ∙ items_of-items_then (top_items b) Finished in
     let path : closed a ≡ closed b = same_path (closed a) (closed b) (sym (append-nil (top_items a)) ∙ items ∙ append-nil (top_items b)) in
     cc path

@@ -10,17 +10,17 @@ use Rattle.ion_value.specs.declared.decimal.Decimal.{Decimal}
 use Rattle.ion_value.specs.Int.{IsInt, int_of_text}
 use Rattle.ion_value.specs.Decimal.{IsDecimal, decimal_in_range, decimal_of_parts, decimal_of_text, parts_of}
 use Rattle.ion_value.specs.Digits.{is_digit, digit_value, all_are, first_is, has_minus}
-use Rattle.ion_value.specs.DigitReading.{Read, decimal_behind, read_digits, read_whole, read_int, read_fraction}
+use Rattle.ion_value.specs.DigitReading.{Read, decimal_after, read_digits, read_whole, read_int, read_fraction}
 use Rattle.ion_value.specs.Number.{signed}
 use Rattle.ion_value.proofs.LeadingDigits.{all_are-append}
 use Rattle.ion_value.proofs.TextDigits.{ten, zero_first, int-text, int-whole}
-use Rattle.ion_value.proofs.TextDecimals.{sign-read, decimal-text, exponent_digits, exponent-read, mantissa-plain, mantissa-pointed, behind-nothing, decimal-in_range, one-shape}
+use Rattle.ion_value.proofs.TextDecimals.{sign-read, decimal-text, exponent_digits, exponent-read, mantissa-plain, mantissa-pointed, after-nothing, decimal-in_range, one-shape}
 use Rattle.ion_text_in.specs.declared.number.Number.TheVariants as numbers
 use Rattle.ion_text_in.specs.declared.run.Run.TheVariants as run
 use Rattle.ion_text_in.specs.Blanks.{begins_comment}
 use Rattle.ion_text_in.specs.declared.quick.Quick.{Quick}
 use Rattle.ion_text_in.specs.Quick.{number_after, scaled, signed_int, signed_text, stops, AreSpelled, AreWhole, IsMantissa, IsQuick}
-use Rattle.ion_text_in.specs.Runs.{EndBehind, stays}
+use Rattle.ion_text_in.specs.Runs.{EndAfter, stays}
 use Rattle.ion_text_in.specs.Token.{bytes_of, in_run, run_token}
 use Rattle.ion_text_in.specs.Views.{number_token, AreShown}
 use Rattle.ion_text_in.proofs.RunEnds.{go-end, token-shown}
@@ -35,19 +35,19 @@ taken-some bytes k some less = let long = length-take-le k bytes less in omega (
 value-digit : (b : ℕ) → is_digit b ≡ true → digit_value b ≡ b - 48
 value-digit b e = grind (arith, nat_tests)
 
-read-one : (n k : ℕ) (behind : Bool) (b : ℕ) (tail : List ℕ) → is_digit b ≡ true
-    → read_digits 10 n behind k (b ∷ tail) ≡ read_digits 10 (n * 10 + (b - 48)) true (k + 1) tail
+read-one : (n k : ℕ) (after : Bool) (b : ℕ) (tail : List ℕ) → is_digit b ≡ true
+    → read_digits 10 n after k (b ∷ tail) ≡ read_digits 10 (n * 10 + (b - 48)) true (k + 1) tail
 unfolding read_digits
-read-one n k behind b tail e = rw (ten b, e, value-digit b e) refl
+read-one n k after b tail e = rw (ten b, e, value-digit b e) refl
 
--- so many bytes in front are digits, and behind a number they spell another, whatever follows them
+-- so many bytes in front are digits, and after a number they spell another, whatever follows them
 pub record AreDigits (start : ℕ) (bytes : List ℕ) (number count : ℕ) : Type 0 where
   pub within : count ≤ length bytes
   pub digits : all_are is_digit (take count bytes) ≡ true
   pub some : 0 < count
   pub read : (tail : List ℕ) → read_digits 10 start false 0 (take count bytes ++ tail) ≡ read_digits 10 number true count tail
 
--- they are digits of which a first zero stands alone, and another byte stands behind them
+-- they are digits of which a first zero stands alone, and another byte stands after them
 pub record IsWhole (bytes : List ℕ) (number count : ℕ) : Type 0 where
   pub read : AreDigits 0 bytes number count
   pub some : 0 < count
@@ -72,7 +72,7 @@ read-all n (d ∷ ds) tail some e =
     ∙ read-on (n * 10 + (d - 48)) (0 + 1) ds tail parts.1
     ∙ ap (λ (k : ℕ). read_digits 10 (number_after n (d ∷ ds)) true k tail) count
 
--- digits spell a number behind another
+-- digits spell a number after another
 pub digits-spell : (start : ℕ) (bytes : List ℕ) (k : ℕ) → k ≤ length bytes → 0 < k → all_are is_digit (take k bytes) ≡ true → AreDigits start bytes (number_after start (take k bytes)) k
 digits-spell start bytes k within some e =
     let n : ℕ = number_after start (take k bytes) in
@@ -95,7 +95,7 @@ stop-ends : (bytes : List ℕ) (k : ℕ) → k < length bytes → stops (get_or 
 stop-ends bytes k less e more =
     ap (λ (l : List ℕ). in_run (l ++ more)) (drop_more bytes k 0 less) ∙ in_run-stop (get_or bytes k 0) (drop (k + 1) bytes ++ more) e
 
-ends-at : (xs : List ℕ) (n : ℕ) → n < length xs → all_are (stays run.Number) (take n xs) ≡ true → ((more : List ℕ) → in_run (drop n xs ++ more) ≡ false) → EndBehind in_run xs n
+ends-at : (xs : List ℕ) (n : ℕ) → n < length xs → all_are (stays run.Number) (take n xs) ≡ true → ((more : List ℕ) → in_run (drop n xs ++ more) ≡ false) → EndAfter in_run xs n
 ends-at xs n less goes ends = go-end in_run xs n (all-go run.Number xs n (omega (arith, less)) goes) ends
 
 one-less : (bytes : List ℕ) (n : ℕ) → AreShown (bytes_of in_run) bytes (1 + n) → AreShown (bytes_of in_run) bytes (n + 1)
@@ -242,7 +242,7 @@ decimal-read negative ds fs n k m j d some digits whole fraction within =
     let sign = sign-read negative (ds ++ (46 ∷ fs)) (sign-front ds (46 ∷ fs) some digits) in
     sym (decimal-text (signed_text negative (ds ++ (46 ∷ fs))) (ds ++ (46 ∷ fs)) negative (sym sign.0) (sym sign.1))
     ∙ mantissa-pointed (ds ++ (46 ∷ fs)) n k (46 ∷ fs) m j [] whole refl fraction negative
-    ∙ behind-nothing negative m j true refl
+    ∙ after-nothing negative m j true refl
     ∙ within
 
 decimal-alone : (text : List ℕ) (d : Decimal) → decimal_of_text text ≡ Ok d → run_token text ≡ Ok (number_token (numbers.Decimal d))
@@ -257,19 +257,19 @@ scaled-valid negative false n j small few = record { coefficient = small; expone
 
 decimal-gives : (negative : Bool) (bytes : List ℕ) (n k m j : ℕ) → IsWhole bytes n k → AreDigits n (drop (k + 1) bytes) m j → 0 < j → m < 2 ^ 128 → j ≤ 128
     → run_token (signed_text negative (take k bytes ++ (46 ∷ take j (drop (k + 1) bytes)))) ≡ Ok (number_token (numbers.Decimal (scaled negative m (signed true j))))
-decimal-gives negative bytes n k m j whole behind some small few =
+decimal-gives negative bytes n k m j whole after some small few =
     let d : Decimal = scaled negative m (signed true j) in
     let within = ap (decimal_in_range negative m) (minus-is j) ∙ decimal-in_range d (scaled-valid negative true m j small few) in
     let read = decimal-read negative (take k bytes) (take j (drop (k + 1) bytes)) n k m j d (taken-some bytes k whole.some whole.read.within) whole.read.digits
     (read-front bytes (46 ∷ take j (drop (k + 1) bytes)) n k whole refl ∙ read-point n k (take j (drop (k + 1) bytes)))
-    (fraction-is n (drop (k + 1) bytes) m j behind some) within in
+    (fraction-is n (drop (k + 1) bytes) m j after some) within in
     decimal-alone (signed_text negative (take k bytes ++ (46 ∷ take j (drop (k + 1) bytes)))) d read
 
 pub quick-decimal : (negative : Bool) (bytes : List ℕ) (n k m j : ℕ) → IsWhole bytes n k → get_or bytes k 0 ≡ 46 → AreDigits n (drop (k + 1) bytes) m j → 0 < j
     → k + 1 + j < length bytes → stops (get_or bytes (k + 1 + j) 0) ≡ true → m < 2 ^ 128 → j ≤ 128
     → AreSpelled (signed_text negative (take (k + 1 + j) bytes)) (record { negative = negative; number = m; exponent = Some (signed true j); count = k + 1 + j; canonical = true })
     → IsQuick negative bytes (record { negative = negative; number = m; exponent = Some (signed true j); count = k + 1 + j; canonical = true })
-quick-decimal negative bytes n k m j whole point behind some within stop small few spelled =
+quick-decimal negative bytes n k m j whole point after some within stop small few spelled =
     let text = split-text bytes 46 k j whole.within point in
     record {
       sign = refl;
@@ -277,9 +277,9 @@ quick-decimal negative bytes n k m j whole point behind some within stop small f
       within = within;
       goes = ap (all_are (stays run.Number)) text
           ∙ all_are-append (stays run.Number) (take k bytes) (46 ∷ take j (drop (k + 1) bytes))
-          ∙ rw (all-stay (take k bytes) whole.read.digits) (all-stay (take j (drop (k + 1) bytes)) behind.digits);
+          ∙ rw (all-stay (take k bytes) whole.read.digits) (all-stay (take j (drop (k + 1) bytes)) after.digits);
       ends = stop-ends bytes (k + 1 + j) within stop;
-      gives = ap (λ (l : List ℕ). run_token (signed_text negative l)) text ∙ decimal-gives negative bytes n k m j whole behind some small few;
+      gives = ap (λ (l : List ℕ). run_token (signed_text negative l)) text ∙ decimal-gives negative bytes n k m j whole after some small few;
       range = scaled-valid negative true m j small few;
       spelled = spelled;
     }
@@ -343,7 +343,7 @@ fraction-marked start bytes power m j so some =
 -- digits with a point among them
 pub pointed-mantissa : (bytes : List ℕ) (n k m j : ℕ) → IsWhole bytes n k → get_or bytes k 0 ≡ 46 → AreDigits n (drop (k + 1) bytes) m j → 0 < j → j ≤ 19 → k + 1 + j < length bytes
     → IsMantissa bytes m j (k + 1 + j)
-pointed-mantissa bytes n k m j whole point behind some few within =
+pointed-mantissa bytes n k m j whole point after some few within =
     let fs : List ℕ = take j (drop (k + 1) bytes) in
     let text = split-text bytes 46 k j whole.within point in
     let front : (tail : List ℕ) → take (k + 1 + j) bytes ++ tail ≡ take k bytes ++ (46 ∷ (fs ++ tail))
@@ -354,13 +354,13 @@ pointed-mantissa bytes n k m j whole point behind some few within =
       few = few;
       goes = ap (all_are (stays run.Number)) text
           ∙ all_are-append (stays run.Number) (take k bytes) (46 ∷ fs)
-          ∙ rw (all-stay (take k bytes) whole.read.digits) (all-stay fs behind.digits);
+          ∙ rw (all-stay (take k bytes) whole.read.digits) (all-stay fs after.digits);
       plain = λ power. ap has_minus (front power) ∙ sign-front (take k bytes) (46 ∷ (fs ++ power)) (taken-some bytes k whole.some whole.read.within) whole.read.digits;
       read = λ power negative.
           ap (λ (l : List ℕ). decimal_of_parts negative (parts_of l)) (front (100 ∷ power))
           ∙ mantissa-pointed (take k bytes ++ (46 ∷ (fs ++ (100 ∷ power)))) n k (46 ∷ (fs ++ (100 ∷ power))) m j (100 ∷ power)
-          (read-front bytes (46 ∷ (fs ++ (100 ∷ power))) n k whole refl ∙ read-point n k (fs ++ (100 ∷ power))) refl (fraction-marked n (drop (k + 1) bytes) power m j behind some) negative
-          ∙ ap (λ (v : Bool). decimal_behind negative m j v (100 ∷ power)) (sym (lt-ltb 0 j some));
+          (read-front bytes (46 ∷ (fs ++ (100 ∷ power))) n k whole refl ∙ read-point n k (fs ++ (100 ∷ power))) refl (fraction-marked n (drop (k + 1) bytes) power m j after some) negative
+          ∙ ap (λ (v : Bool). decimal_after negative m j v (100 ∷ power)) (sym (lt-ltb 0 j some));
     }
 
 -- how many bytes there are of a sign
@@ -378,10 +378,10 @@ signed-stay false ds e = e
 pub quick-power : (negative below : Bool) (bytes ys : List ℕ) (n places k m j : ℕ) → IsMantissa bytes n places k → get_or bytes k 0 ≡ 100 → signed_text below ys ≡ drop (k + 1) bytes → AreDigits 0 ys m j
     → 0 < j → k + 1 + (sign_length below + j) < length bytes → stops (get_or bytes (k + 1 + (sign_length below + j)) 0) ≡ true → n < 2 ^ 128 → m ≤ 128
     → IsQuick negative bytes (record { negative = negative; number = n; exponent = Some (signed below m -ℤ pos places); count = k + 1 + (sign_length below + j); canonical = false })
-quick-power negative below bytes ys n places k m j mantissa mark behind power some within stop small few =
+quick-power negative below bytes ys n places k m j mantissa mark after power some within stop small few =
     let p : List ℕ = signed_text below (take j ys) in
     let split = split-text bytes 100 k (sign_length below + j) mantissa.within mark in
-    let front : take (sign_length below + j) (drop (k + 1) bytes) ≡ p = ap (take (sign_length below + j)) (sym behind) ∙ take-signed below ys j in
+    let front : take (sign_length below + j) (drop (k + 1) bytes) ≡ p = ap (take (sign_length below + j)) (sym after) ∙ take-signed below ys j in
     let text : take (k + 1 + (sign_length below + j)) bytes ≡ take k bytes ++ (100 ∷ p) = split ∙ ap (λ (l : List ℕ). take k bytes ++ (100 ∷ l)) front in
     let d : Decimal = scaled negative n (signed below m -ℤ pos places) in
     let valid = powered-valid negative below n m places small few mantissa.few in
@@ -399,12 +399,12 @@ quick-power negative below bytes ys n places k m j mantissa mark behind power so
       spelled = record { int = λ none. absurd (cc none); text = λ e. absurd (cc e) };
     }
 
--- ---- behind a sign
+-- ---- after a sign
 
 signed-front : (digits : List ℕ) (n : ℕ) → take (n + 1) (45 ∷ digits) ≡ 45 ∷ take n digits
 signed-front digits n = let same : n + 1 ≡ suc n = omega arith in ap (λ (k : ℕ). take k (45 ∷ digits)) same
 
--- so many bytes of a text are a sign and the digits behind it
+-- so many bytes of a text are a sign and the digits after it
 pub signed-parts : (negative : Bool) (digits bytes : List ℕ) (x : Quick) (n : ℕ) → signed_text negative digits ≡ bytes → IsQuick negative digits x → n ≡ x.count + bool_byte negative
     → AreShown (bytes_of in_run) bytes n × (take n bytes ≡ signed_text negative (take x.count digits))
 signed-parts true digits bytes x n same quick is = (

@@ -8,7 +8,7 @@ unfinished_lobs : AreRead (
     ∷ row "cut padding and brace" "{{=}" "Truncated at 0"
     ∷ row "cut group" "{{!" "Truncated at 0"
     ∷ row "cut group of three" "{{ab!" "Truncated at 0"
-    ∷ row "cut behind padding" "{{bG8=a" "Truncated at 0"
+    ∷ row "cut after padding" "{{bG8=a" "Truncated at 0"
     ∷ row "cut quote in clob" "{{'''a''' '" "Truncated at 0"
     ∷ row "cut quotes in clob" "{{'''a''' ''" "Truncated at 0"
     ∷ row "cut seven quotes" "{{'''''''" "Truncated at 0"
@@ -18,8 +18,8 @@ unfinished_lobs : AreRead (
     ∷ row "brace and letter" "{{AA}a" "BadLob at 0"
     ∷ row "no base64" "{{!!!!" "BadLob at 0"
     ∷ row "quote in blob" "{{'abc" "BadLob at 0"
-    ∷ row "group behind padding" "{{YQ==YQ==}}" "BadLob at 0"
-    ∷ row "letters behind padding" "{{bG8=aGVs}}" "BadLob at 0"
+    ∷ row "group after padding" "{{YQ==YQ==}}" "BadLob at 0"
+    ∷ row "letters after padding" "{{bG8=aGVs}}" "BadLob at 0"
     ∷ row_within 64 1 "bad lob before limit" "{{bG9=}}" "BadLob at 0"
     ∷ [])
 unfolding read_within
@@ -27,8 +27,8 @@ unfinished_lobs = refl
 
 -- surrogates and UTF-8
 surrogates : AreRead (
-    row "cut behind high" "\"\\uD83D" "Truncated at 0"
-    ∷ row "cut behind backslash" "\"\\uD83D\\" "Truncated at 0"
+    row "cut after high" "\"\\uD83D" "Truncated at 0"
+    ∷ row "cut after backslash" "\"\\uD83D\\" "Truncated at 0"
     ∷ row "cut in low" "\"\\uD83D\\u00" "Truncated at 0"
     ∷ row "high and letter" "\"\\uD83Dx" "BadText at 0"
     ∷ row "high and quote" "\"\\uD83D\"" "BadText at 0"
@@ -65,8 +65,8 @@ quotes : AreRead (
     ∷ row "raw nul" "\"\0\"" "BadText at 0"
     ∷ row "no space between" "'''a''''''b'''" "0 \"ab\"; done"
     ∷ row "line comment between" "'''a'''//c\n'''b'''" "0 \"ab\"; done"
-    ∷ row "symbol behind string" "'''a''' 'b'" "0 \"a\"; 8 'b'@8; done"
-    ∷ row "empty symbol behind string" "'''a'''''" "0 \"a\"; 7 ''@7; done"
+    ∷ row "symbol after string" "'''a''' 'b'" "0 \"a\"; 8 'b'@8; done"
+    ∷ row "empty symbol after string" "'''a'''''" "0 \"a\"; 7 ''@7; done"
     ∷ row "quote first" "''''a'''" "0 \"\\27a\"; done"
     ∷ row "quote last" "'''a''''" "0 \"a\"; Truncated at 7"
     ∷ row "empty symbol" "'' ''::''x" "0 ''@0; 7/3 ''@3::''@7; 9 'x'@9; done"

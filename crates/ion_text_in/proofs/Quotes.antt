@@ -31,6 +31,6 @@ all-joined : (test : ℕ → Bool) (xs ys : List ℕ) → all_are test (xs ++ ys
 all-joined test [] ys = refl
 all-joined test (x ∷ xs) ys = elim (cases_Bool (test x)) [ inl e ↦ rw e (all-joined test xs ys) | inr e ↦ rw e refl ]
 
--- so many bytes, and so many behind them
-pub all-behind : (test : ℕ → Bool) (bytes : List ℕ) (n m : ℕ) → all_are test (take n bytes) ≡ true → all_are test (take m (drop n bytes)) ≡ true → all_are test (take (n + m) bytes) ≡ true
-all-behind test bytes n m first second = rw (take-add n m bytes, all-joined test (take n bytes) (take m (drop n bytes)), first, second) refl
+-- so many bytes, and so many after them
+pub all-after : (test : ℕ → Bool) (bytes : List ℕ) (n m : ℕ) → all_are test (take n bytes) ≡ true → all_are test (take m (drop n bytes)) ≡ true → all_are test (take (n + m) bytes) ≡ true
+all-after test bytes n m first second = rw (take-add n m bytes, all-joined test (take n bytes) (take m (drop n bytes)), first, second) refl

@@ -138,11 +138,11 @@ word-first sexp _ (TokenBegins.word is) = identifier-small is
 operator-first : (sexp : Bool) (rest : List ℕ) → TokenBegins sexp rest an_operator → FirstSmall rest
 operator-first sexp _ (TokenBegins.operator {b = b} here is number infinity) = character-small b (one_of-from is)
 
-typed-ascii : (word behind : List ℕ) → Ascii word → Ascii (with_type word behind)
-typed-ascii word behind h = by (bytes_eq (codes "null") word && first_is (λ b. b == 46) behind)
+typed-ascii : (word after : List ℕ) → Ascii word → Ascii (with_type word after)
+typed-ascii word after h = by (bytes_eq (codes "null") word && first_is (λ b. b == 46) after)
   where
-    by : (b : Bool) → Ascii (if b then word ++ 46 ∷ (run_of in_word (drop 1 behind)).0 else word)
-    by true = all-append (λ b. b < 128) word (46 ∷ (run_of in_word (drop 1 behind)).0) h (omega arith, run-ascii in_word word-small (drop 1 behind))
+    by : (b : Bool) → Ascii (if b then word ++ 46 ∷ (run_of in_word (drop 1 after)).0 else word)
+    by true = all-append (λ b. b < 128) word (46 ∷ (run_of in_word (drop 1 after)).0) h (omega arith, run-ascii in_word word-small (drop 1 after))
     by false = h
 
 word-ascii : (rest : List ℕ) → FirstSmall rest → Ascii (word_of rest)

@@ -9,12 +9,12 @@ use Rattle.ion_value.specs.declared.ion_type.Kind.{Kind}
 use Rattle.ion_value.specs.Name.{version_word}
 use Rattle.ion_value.specs.Parts.{part, refuse, ◌>>◌}
 use Rattle.ion_value.specs.Path.{closed, path_items}
-use Rattle.ion_value.specs.Reading.{Finished, Stopped, behind, Step, Gives, GoesOn, Stops, next_reading, reading_by}
+use Rattle.ion_value.specs.Reading.{Finished, Stopped, items_then, Step, Gives, GoesOn, Stops, next_reading, reading_by}
 use Rattle.ion_value.specs.ReadingLaws.{ending_of}
 use Rattle.ion_value.specs.Value as value
 use Rattle.ion_value.specs.Value.{Symbol, SymbolAt, Value, Members, Top, PlacedItem, top_items}
-use Rattle.ion_value.proofs.ReadingLaws.{ending_of-behind}
-use Rattle.ion_value.proofs.Readings.{behind-append, reading_by-step}
+use Rattle.ion_value.proofs.ReadingLaws.{ending_of-items_then}
+use Rattle.ion_value.proofs.Readings.{items_then-append, reading_by-step}
 use Rattle.ion_text_in.specs.Grammar.{Tok, Annotations, Field, Txt, Inside, Tops, start_of}
 use Rattle.ion_text_in.specs.Meaning.{counts}
 use Rattle.ion_text_in.specs.Positions.{Wants, a_value, a_field, State, innermost, in_sexp, at}
@@ -34,7 +34,7 @@ record Halts (limits : Limits) (s : State) : Type 0 where
   items : List PlacedItem
   reason : Reason
   place : ℕ
-  stops : read_from limits s ≡ behind items (Stopped reason place)
+  stops : read_from limits s ≡ items_then items (Stopped reason place)
 
 halts-here : (limits : Limits) (s : State) (reason : Reason) (place : ℕ) → step limits s ≡ Stops reason place → Halts limits s
 unfolding read_from
@@ -50,7 +50,7 @@ halts-later limits s t items read h = record {
   items = items ++ h.items;
   reason = h.reason;
   place = h.place;
-  stops = read ∙ (ap (behind items) h.stops ∙ sym (behind-append items h.items (Stopped h.reason h.place)));
+  stops = read ∙ (ap (items_then items) h.stops ∙ sym (items_then-append items h.items (Stopped h.reason h.place)));
 }
 
 -- something is so, or else the reading stops; and with one thing so, another is
@@ -166,9 +166,9 @@ module _ (limits : Limits) where
         let here : State = state (j ∷ kinds) top (at_member (Some j)) d in
         let read : Reads limits from (value.member_items top members) here = members-read limits kinds top j c d members false ins before in
         or-then (or-later limits from here (value.member_items top members) read (field-or limits (j ∷ kinds) top (Some j) field d e refl own)) (λ named.
-        let behind_name : State = state (j ∷ kinds) top (a_value field []) e in
-        let name_read : Reads limits here [] behind_name = field-read limits (j ∷ kinds) top (Some j) field d e refl own named in
-        or-then (or-later limits from here (value.member_items top members) read (or-later limits here behind_name [] name_read (value-or (j ∷ kinds) top field (Some j) e f annotations p v refl txt)))
+        let after_name : State = state (j ∷ kinds) top (a_value field []) e in
+        let name_read : Reads limits here [] after_name = field-read limits (j ∷ kinds) top (Some j) field d e refl own named in
+        or-then (or-later limits from here (value.member_items top members) read (or-later limits here after_name [] name_read (value-or (j ∷ kinds) top field (Some j) e f annotations p v refl txt)))
         (λ fits. inl (before, (named, fits)))))
     members-or kinds top j c e _ _ (Inside.with_comma {d = d} {members = members} ins tok) = members-or kinds top j c d members true ins
 
@@ -193,9 +193,9 @@ what_is_read_is_within limits bytes tops is read =
     elim (tops-or limits bytes is.last tops is.spells) [
       | inl within ↦ within
       | inr h ↦
-          let same : behind (path_items (closed tops)) Finished ≡ behind h.items (Stopped h.reason h.place) = sym read ∙ (reading-read_from limits bytes ∙ h.stops) in
+          let same : items_then (path_items (closed tops)) Finished ≡ items_then h.items (Stopped h.reason h.place) = sym read ∙ (reading-read_from limits bytes ∙ h.stops) in
           let ends : Finished ≡ Stopped h.reason h.place =
-          sym (ending_of-behind (path_items (closed tops)) Finished) ∙ (ap ending_of same ∙ ending_of-behind h.items (Stopped h.reason h.place))
+          sym (ending_of-items_then (path_items (closed tops)) Finished) ∙ (ap ending_of same ∙ ending_of-items_then h.items (Stopped h.reason h.place))
           in
           absurd (cc ends)
     ]

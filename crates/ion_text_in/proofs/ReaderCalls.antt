@@ -45,7 +45,7 @@ module _ {I A : Type 0} (device : InputOf I) where
   stepped-as took other fault p q a b to from s =
       record { opens = λ e. s.opens (from e); stays = λ e. s.stays (λ t. e (to t)); fits = λ e. s.fits (from e); limits = s.limits; done = s.done; failed = s.failed; sized = s.sized; moves = s.moves; causes = s.causes; charges = s.charges }
 
-  -- a call behind what was read
+  -- a call after what was read
   pub stepped-then : (took : Type 0) (fault : Option Fault) (p q r : TextReader I A) (a b c : Counts) → held_by p ≤ a.held → Reached p q a b → Stepped device took fault q r b c → Stepped device took fault p r a c
   stepped-then took fault p q r a b c there x y =
       let share : share_of q ≡ share_of p = ap (λ (l : Limits). 4096 + 16 * l.depth + 3 * l.scalar) x.limits in
@@ -89,36 +89,36 @@ module _ {I A : Type 0} (device : InputOf I) where
   gives-same : (before after : Reading) (new : TextReader I A) (result : Result StepResult Fault) → before ≡ after → StepGives device after new result → StepGives device before new result
   gives-same before after new result e h = subst (λ r. StepGives device r new result) (sym e) h
 
-  -- a step behind what was read
-  pub steps-behind : (result : Result StepResult Fault) (p q r : TextReader I A) (a b c : Counts) (start next : Option ℕ) (before behind : Cursor → Reading) (most more : ℕ) → held_by p ≤ a.held → Reached p q a b
-      → (device.observable p.source.device → (d : Cursor) → blanks d ≡ going start (cursor device p.source) → (e : Cursor) × ((blanks e ≡ going next (cursor device q.source)) × (before d ≡ behind e)))
-      → GrowsWithin a b (held_by p) (held_by q + more) (most + 16 * (left_to p - left_to q)) → StepsTo device next behind more q r b c result → StepsTo device start before most p r a c result
-  steps-behind result p q r a b c start next before behind most more there reached same grows s =
+  -- a step after what was read
+  pub steps-after : (result : Result StepResult Fault) (p q r : TextReader I A) (a b c : Counts) (start next : Option ℕ) (before after : Cursor → Reading) (most more : ℕ) → held_by p ≤ a.held → Reached p q a b
+      → (device.observable p.source.device → (d : Cursor) → blanks d ≡ going start (cursor device p.source) → (e : Cursor) × ((blanks e ≡ going next (cursor device q.source)) × (before d ≡ after e)))
+      → GrowsWithin a b (held_by p) (held_by q + more) (most + 16 * (left_to p - left_to q)) → StepsTo device next after more q r b c result → StepsTo device start before most p r a c result
+  steps-after result p q r a b c start next before after most more there reached same grows s =
       let lx = reached.moves.limit in let fx = reached.moves.further in let ly = s.stepped.moves.limit in let fy = s.stepped.moves.further in
       let held = reached.charges.held in let own = grows.own in let peak = grows.peak in let own_then = s.goes.own in let peak_then = s.goes.peak in
       record {
-        gives = λ h d blank. let x = same h d blank in gives-same (before d) (behind x.0) r result x.1.1 (s.gives (reached.moves.still_observable.1 h) x.0 x.1.0);
+        gives = λ h d blank. let x = same h d blank in gives-same (before d) (after x.0) r result x.1.1 (s.gives (reached.moves.still_observable.1 h) x.0 x.1.0);
         ready = s.ready;
         stepped = stepped-then _ _ p q r a b c there reached s.stepped;
         goes = record { own = omega (arith, lx, fx, ly, fy, own, own_then); peak = omega (arith, lx, fx, ly, fy, held, own, peak, peak_then) };
       }
 
-  -- behind a source that was read on
-  pub steps-ahead : {T : Type 0} (result : Result StepResult Fault) (p r : TextReader I A) (s : Incoming I) (m c : Counts) (x : T) (next : Option ℕ) (before behind : Cursor → Reading) (more : ℕ) → CanStep p m
+  -- after a source that was read on
+  pub steps-ahead : {T : Type 0} (result : Result StepResult Fault) (p r : TextReader I A) (s : Incoming I) (m c : Counts) (x : T) (next : Option ℕ) (before after : Cursor → Reading) (more : ℕ) → CanStep p m
       → Reads device p.source s (Ok x)
-      → (device.observable p.source.device → (d : Cursor) → blanks d ≡ blanks (cursor device p.source) → (e : Cursor) × ((blanks e ≡ going next (cursor device s)) × (before d ≡ behind e)))
-      → (CanStep (record p { source = s }) m → StepsTo device next behind more (record p { source = s }) r m c result) → StepsTo device None before more p r m c result
-  steps-ahead result p r s m c x next before behind more can reads same steps =
+      → (device.observable p.source.device → (d : Cursor) → blanks d ≡ blanks (cursor device p.source) → (e : Cursor) × ((blanks e ≡ going next (cursor device s)) × (before d ≡ after e)))
+      → (CanStep (record p { source = s }) m → StepsTo device next after more (record p { source = s }) r m c result) → StepsTo device None before more p r m c result
+  steps-ahead result p r s m c x next before after more can reads same steps =
       let reached = reached-source p s m x can.sized can.held reads in
       let inside : IsInside (record p { source = s }) = record { stands = reads.stands; expects = can.inside.expects; kept = can.inside.kept; finished = can.inside.finished } in
-      steps-behind result p (record p { source = s }) r m m c None next before behind more more can.held reached same (record { own = omega arith; peak = omega arith })
+      steps-after result p (record p { source = s }) r m m c None next before after more more can.held reached same (record { own = omega arith; peak = omega arith })
       (steps (record { room = can.room; held = can.held; countable = can.countable; sized = reached.sized; inside = inside }))
 
   -- what was to come, told in another way
-  pub steps-same : (result : Result StepResult Fault) (p q : TextReader I A) (a b : Counts) (start : Option ℕ) (before behind : Cursor → Reading) (more : ℕ) → ((d : Cursor) → before d ≡ behind d)
-      → StepsTo device start behind more p q a b result → StepsTo device start before more p q a b result
-  steps-same result p q a b start before behind more same s =
-      record { gives = λ h d blank. gives-same (before d) (behind d) q result (same d) (s.gives h d blank); ready = s.ready; stepped = s.stepped; goes = s.goes }
+  pub steps-same : (result : Result StepResult Fault) (p q : TextReader I A) (a b : Counts) (start : Option ℕ) (before after : Cursor → Reading) (more : ℕ) → ((d : Cursor) → before d ≡ after d)
+      → StepsTo device start after more p q a b result → StepsTo device start before more p q a b result
+  steps-same result p q a b start before after more same s =
+      record { gives = λ h d blank. gives-same (before d) (after d) q result (same d) (s.gives h d blank); ready = s.ready; stepped = s.stepped; goes = s.goes }
 
   -- so much more may be taken
   pub steps-more : (result : Result StepResult Fault) (p q : TextReader I A) (a b : Counts) (start : Option ℕ) (before : Cursor → Reading) (less more : ℕ) → less ≤ more
@@ -152,7 +152,7 @@ module _ {I A : Type 0} (device : InputOf I) where
   pub so-far-then : (result : Result StepResult Fault) (p q r : TextReader I A) (a b c : Counts) → CanAdvance p a → SoFar p q a b → StepsTo device None (λ _. to_come_in device q) 0 q r b c result
       → StepsTo device None (λ _. to_come_by device p) 0 p r a c result
   so-far-then result p q r a b c can s =
-      steps-behind result p q r a b c None None (λ _. to_come_by device p) (λ _. to_come_in device q) 0 0 can.held
+      steps-after result p q r a b c None None (λ _. to_come_by device p) (λ _. to_come_in device q) 0 0 can.held
       (stepped-as (Ok step_result.Passed ≡ Ok step_result.Item) ⊥ None p q a b (λ e. cc e) (λ e. absurd e) s.stepped) (λ h d blank. (cursor device q.source, (refl, s.gives h d blank)))
       (record { own = omega (arith, s.goes.own); peak = omega (arith, s.goes.peak) })
 

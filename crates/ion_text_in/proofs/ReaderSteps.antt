@@ -39,15 +39,15 @@ use Rattle.ion_text_in.specs.declared.first.First as code_first
 use Rattle.ion_text_in.specs.declared.first.First.TheVariants as firsts
 use Rattle.ion_text_in.specs.Firsts.{first_of, width, IsAhead}
 use Rattle.ion_text_in.specs.Overrun.{overrun}
-use Rattle.ion_text_in.specs.Reading.{step, step_of, part_at, part_behind, part_from, at_member, bare_end_step, behind_colons, colons_at, colons_behind, symbol_step, value_or_version, next_part, may_come, final_step, take, size, item_step, is_same, item_of, member_of, behind_member, is_marker, tells_version, top_of}
+use Rattle.ion_text_in.specs.Reading.{step, step_of, part_at, part_after, part_from, at_member, bare_end_step, after_colons, colons_at, colons_after, symbol_step, value_or_version, next_part, may_come, final_step, take, size, item_step, is_same, item_of, member_of, after_member, is_marker, tells_version, top_of}
 use Rattle.ion_text_in.specs.Token as tokens
 use Rattle.ion_text_in.specs.Token.{First, Token, no_token, first_at, token_of}
 use Rattle.ion_text_in.specs.Scanning.{moved_to}
 use Rattle.ion_text_in.specs.Tokens.{as_scalar, as_symbol, going, BodyInRange}
 use Rattle.ion_text_in.specs.Symbols.{as_annotations, as_field, is_annotated}
 use Rattle.ion_text_in.specs.Expecting.{wanted, MayExpect}
-use Rattle.ion_text_in.specs.Steps.{annotations_in, as_head, comes, ending, field_in, giving, held_by, later, lent_by, opened_in, part_by, share_of, state_at, state_behind, to_come_in, taking, unless_unfinished, with_colons, without_colons, CanStep, IsInside, MayGive, StepsTo}
-use Rattle.ion_text_in.proofs.Behind.{blanks-again}
+use Rattle.ion_text_in.specs.Steps.{annotations_in, as_head, comes, ending, field_in, giving, held_by, later, lent_by, opened_in, part_by, share_of, state_at, state_after, to_come_in, taking, unless_unfinished, with_colons, without_colons, CanStep, IsInside, MayGive, StepsTo}
+use Rattle.ion_text_in.proofs.After.{blanks-again}
 use Rattle.ion_text_in.proofs.Falling.{each_step_falls}
 use Rattle.ion_text_in.proofs.Holding.{causes-none, charges-none}
 use Rattle.ion_text_in.proofs.ReaderCalls.{held-share, stepped-by, steps-refused}
@@ -107,17 +107,17 @@ module _ {I A : Type 0} where
 
 module _ {I A : Type 0} (device : InputOf I) where
   pub steps-given : (r : TextReader I A) (what : ItemKind) (place top : ℕ) (start : Option ℕ) (e : Expected) (m : Counts) → top ≡ top_of (opened_in r) r.top (annotations_in r) place
-      → wanted e None [] ≡ behind_member (innermost (opened_in r)) → MayExpect e (opened_in r) None [] → CanStep r m → r.expected ≡ expected.Value → MayGive r what
+      → wanted e None [] ≡ after_member (innermost (opened_in r)) → MayExpect e (opened_in r) None [] → CanStep r m → r.expected ≡ expected.Value → MayGive r what
       → StepsTo device start (giving r what place) 0 r (record r { what = what; place = place; top = top; unfinished = start; expected = e }) m m (Ok step_result.Item)
-  steps-given r what place top start e m is behind expects can value may =
+  steps-given r what place top start e m is after expects can value may =
       let new = record r { what = what; place = place; top = top; unfinished = start; expected = e } in
       let sized = can.sized in
       let field = field-some r.name r.field ∙ value-expects r.expected (opened_in r) r.field r.annotations value can.inside.expects in
       record {
         gives = λ h d blank.
-            ap (λ (n : ℕ). More (item_of n (field_in r) (annotations_in r) place (as_head r.text place what)) (later r.limits (record { kinds = opened_in r; top = n; wants = behind_member (innermost (opened_in r)); cursor = d }))) (sym is)
-            ∙ ap (More (lent_by new)) (ap (λ (w : Wants). later r.limits (record { kinds = opened_in r; top = top; wants = w; cursor = d })) (sym behind)
-            ∙ later-moved r.limits (state_behind d new) d (cursor device r.source) start blank);
+            ap (λ (n : ℕ). More (item_of n (field_in r) (annotations_in r) place (as_head r.text place what)) (later r.limits (record { kinds = opened_in r; top = n; wants = after_member (innermost (opened_in r)); cursor = d }))) (sym is)
+            ∙ ap (More (lent_by new)) (ap (λ (w : Wants). later r.limits (record { kinds = opened_in r; top = top; wants = w; cursor = d })) (sym after)
+            ∙ later-moved r.limits (state_after d new) d (cursor device r.source) start blank);
         ready = record { stands = can.inside.stands; expects = expects };
         stepped = record {
           opens = λ _. given-opens r what place may;
@@ -166,10 +166,10 @@ module _ {I A : Type 0} where
 
   symbol-version : (r : TextReader I A) (s : CodeSymbol) (quoted : Bool) (place : ℕ) (d : Cursor) (word : Bool) → tells_version (innermost (opened_in r)) (annotations_in r) quoted (as_symbol r.text s) ≡ true
       → bytes_eq version_word r.text ≡ word → without_colons r s quoted place d
-      ≡ comes r.limits (part place (refuse (not word) BadVersion >> Ok (item_step (opened_in r) r.top (field_in r) (annotations_in r) place value.marker (opened_in r) (behind_member (innermost (opened_in r))) d)))
+      ≡ comes r.limits (part place (refuse (not word) BadVersion >> Ok (item_step (opened_in r) r.top (field_in r) (annotations_in r) place value.marker (opened_in r) (after_member (innermost (opened_in r))) d)))
   symbol-version r s quoted place d word e is =
       symbol-told r s quoted place d true e
-      ∙ ap (λ (b : Bool). comes r.limits (part place (refuse (not b) BadVersion >> Ok (item_step (opened_in r) r.top (field_in r) (annotations_in r) place value.marker (opened_in r) (behind_member (innermost (opened_in r))) d))))
+      ∙ ap (λ (b : Bool). comes r.limits (part place (refuse (not b) BadVersion >> Ok (item_step (opened_in r) r.top (field_in r) (annotations_in r) place value.marker (opened_in r) (after_member (innermost (opened_in r))) d))))
       ((told-version (innermost (opened_in r)) (annotations_in r) quoted r.text s e).2 ∙ is)
 
   pub symbol-marker : (r : TextReader I A) (s : CodeSymbol) (quoted : Bool) (place : ℕ) (d : Cursor) → tells_version (innermost (opened_in r)) (annotations_in r) quoted (as_symbol r.text s) ≡ true
@@ -185,15 +185,15 @@ module _ {I A : Type 0} where
 
 -- ---- a token, and what comes where there is none
 
-behind-some : (limits : Limits) (s : State) (c : Cursor) (rest : List ℕ) (first : First) → 0 < length rest → first_at (in_sexp (innermost s.kinds)) rest ≡ first
-    → part_behind limits s c rest ≡ part_from limits s c first
-behind-some limits s c [] first some e = absurd (omega (arith, some))
-behind-some limits s c (b ∷ rest) first some e = ap (part_from limits s c) e
+after-some : (limits : Limits) (s : State) (c : Cursor) (rest : List ℕ) (first : First) → 0 < length rest → first_at (in_sexp (innermost s.kinds)) rest ≡ first
+    → part_after limits s c rest ≡ part_from limits s c first
+after-some limits s c [] first some e = absurd (omega (arith, some))
+after-some limits s c (b ∷ rest) first some e = ap (part_from limits s c) e
 
 step-some : (limits : Limits) (s : State) (c : Cursor) (first : First) → blanks s.cursor ≡ Ok c → 0 < length c.rest → first_at (in_sexp (innermost s.kinds)) c.rest ≡ first
     → step limits s ≡ step_of (part_from limits s c first)
 unfolding step part_at
-step-some limits s c first blank some e = rw blank (ap step_of (behind-some limits s c c.rest first some e))
+step-some limits s c first blank some e = rw blank (ap step_of (after-some limits s c c.rest first some e))
 
 pub step-part : (limits : Limits) (s : State) (c : Cursor) (first : First) → blanks s.cursor ≡ Ok c → 0 < length c.rest → first_at (in_sexp (innermost s.kinds)) c.rest ≡ first
     → later limits s ≡ comes limits (part_from limits (moved_to c s) c first)
@@ -270,9 +270,9 @@ module _ {I A : Type 0} (device : InputOf I) where
   -- a container was closed
   pub steps-closed : (r : TextReader I A) (j k : Kind) (left : List Kind) (popped : Option Kind) (e : Expected) (place : ℕ) (a b : Counts) → innermost (opened_in r) ≡ Some j
       → MatchOption popped ((r.kinds ≡ []) × (left ≡ [])) (λ k. r.kinds ≡ left ++ k ∷ []) → MatchOption popped (b ≡ a) (λ _. Shrinks a b 16)
-      → is_same j k ≡ true → is_some r.field ≡ false → is_annotated (annotations_in r) ≡ false → wanted e None [] ≡ behind_member (innermost (reverse left)) → MayExpect e (reverse left) None [] → CanStep r a
+      → is_same j k ≡ true → is_some r.field ≡ false → is_annotated (annotations_in r) ≡ false → wanted e None [] ≡ after_member (innermost (reverse left)) → MayExpect e (reverse left) None [] → CanStep r a
       → StepsTo device None (taking r place (tokens.end k)) 0 r (record r { kinds = left; what = kind.End; place = place; expected = e }) a b (Ok step_result.Item)
-  steps-closed r j k left popped e place a b inner items popped_cost same no_field no_annotation behind expects can =
+  steps-closed r j k left popped e place a b inner items popped_cost same no_field no_annotation after expects can =
       let new = record r { kinds = left; what = kind.End; place = place; expected = e } in
       let opened = closed-opened r.kinds left j popped inner items in
       let cost = closed-cost r.kinds left popped a b j opened items popped_cost in
@@ -286,8 +286,8 @@ module _ {I A : Type 0} (device : InputOf I) where
             end-taken r k place d can.inside
             ∙ ap (λ (l : List Kind). comes r.limits (part place (bare_end_step (field_in r) (annotations_in r) l r.top k place d))) opened
             ∙ (rw (field, none, same, can.inside.finished) (ap (More (item_of r.top None [] place value.end))
-            (ap (λ (w : Wants). later r.limits (record { kinds = reverse left; top = r.top; wants = w; cursor = d })) (sym behind)
-            ∙ later-moved r.limits (state_behind d new) d (cursor device r.source) None blank)));
+            (ap (λ (w : Wants). later r.limits (record { kinds = reverse left; top = r.top; wants = w; cursor = d })) (sym after)
+            ∙ later-moved r.limits (state_after d new) d (cursor device r.source) None blank)));
         ready = record { stands = can.inside.stands; expects = expects };
         stepped = record {
           opens = λ _. ap (λ (l : List Kind). drop 1 l) (sym opened);
@@ -317,7 +317,7 @@ module _ {I A : Type 0} (device : InputOf I) where
       → length r.kinds < r.limits.depth → wanted e None [] ≡ member_of k → MayExpect e (k ∷ opened_in r) None [] → CanStep r a → r.expected ≡ expected.Value → Grows a b 16
       → StepsTo device None (taking r place (tokens.begin k)) 16 r (record r { kinds = kinds; top = top; what = kind.Begin k; place = place; expected = e }) a b (Ok step_result.Item)
   unfolding take
-  steps-opened r k kinds e place top a b is at_top few behind expects can is_value cost =
+  steps-opened r k kinds e place top a b is at_top few after expects can is_value cost =
       let new = record r { kinds = kinds; top = top; what = kind.Begin k; place = place; expected = e } in
       let opened : reverse kinds ≡ k ∷ opened_in r = ap (λ (l : List Kind). reverse l) is ∙ reverse-append r.kinds (k ∷ []) in
       let long : length kinds ≡ length r.kinds + 1 = ap (λ (l : List Kind). length l) is ∙ length-append r.kinds (k ∷ []) in
@@ -327,7 +327,7 @@ module _ {I A : Type 0} (device : InputOf I) where
       let share : held_by new ≤ share_of r = omega (arith, long, few, sized.annotated, sized.name, sized.text) in
       record {
         gives = λ h d blank. rw (is_value, room, at_top, opened, can.inside.finished) (ap (More (item_of (top_of (opened_in r) r.top (annotations_in r) place) (field_in r) (annotations_in r) place (value.begin k)))
-            (ap (λ (w : Wants). later r.limits (record { kinds = k ∷ opened_in r; top = top_of (opened_in r) r.top (annotations_in r) place; wants = w; cursor = d })) (sym behind)
+            (ap (λ (w : Wants). later r.limits (record { kinds = k ∷ opened_in r; top = top_of (opened_in r) r.top (annotations_in r) place; wants = w; cursor = d })) (sym after)
             ∙ later-moved r.limits (record { kinds = k ∷ opened_in r; top = top_of (opened_in r) r.top (annotations_in r) place; wants = wanted e None []; cursor = d }) d (cursor device r.source) None blank));
         ready = record { stands = can.inside.stands; expects = rw opened expects };
         stepped = record {
@@ -381,8 +381,8 @@ module _ {I A : Type 0} (device : InputOf I) where
       record {
         gives = λ h d blank. (
           ended-is r.limits (opened_in r) r.expected (field_in r) (annotations_in r) c.place kinds value field bare,
-          ap (λ (u : Option ℕ). unless_unfinished u (later r.limits (state_behind c r))) inside.finished
-              ∙ (step-ended r.limits (state_behind c r) c (no-blanks c (over h)) (over h) ∙ ended-is r.limits (opened_in r) r.expected None [] c.place kinds value refl refl),
+          ap (λ (u : Option ℕ). unless_unfinished u (later r.limits (state_after c r))) inside.finished
+              ∙ (step-ended r.limits (state_after c r) c (no-blanks c (over h)) (over h) ∙ ended-is r.limits (opened_in r) r.expected None [] c.place kinds value refl refl),
           over h,
         );
         ready = record { stands = inside.stands; expects = rw (value, kinds) refl };
@@ -391,7 +391,7 @@ module _ {I A : Type 0} (device : InputOf I) where
         goes = record { own = omega arith; peak = omega arith };
       }
 
--- ---- what comes behind blanks
+-- ---- what comes after blanks
 
 pub width-some : (f : code_first.First) → 1 ≤ width (first_of f)
 width-some f = grind arith
@@ -443,10 +443,10 @@ unfolding first_at
 nothing-first sexp rest e = rw e refl
 
 colons-none : (sexp : Bool) (d c : Cursor) (start : Option ℕ) (found : Option code_first.First) → blanks d ≡ overrun start c
-    → MatchOption found (c.rest ≡ []) (λ f. first_at sexp c.rest ≡ first_of f) → (found ≡ Some firsts.Colons → ⊥) → behind_colons sexp d ≡ None
-colons-none sexp d c (Some p) found blank is other = ap (colons_behind sexp) blank
-colons-none sexp d c None None blank is other = ap (colons_behind sexp) blank ∙ ap (λ (f : First). colons_at f c) (nothing-first sexp c.rest is)
-colons-none sexp d c None (Some f) blank is other = ap (colons_behind sexp) blank ∙ (ap (λ (f : First). colons_at f c) is ∙ colons-found f c (λ e. other (ap Some e)))
+    → MatchOption found (c.rest ≡ []) (λ f. first_at sexp c.rest ≡ first_of f) → (found ≡ Some firsts.Colons → ⊥) → after_colons sexp d ≡ None
+colons-none sexp d c (Some p) found blank is other = ap (colons_after sexp) blank
+colons-none sexp d c None None blank is other = ap (colons_after sexp) blank ∙ ap (λ (f : First). colons_at f c) (nothing-first sexp c.rest is)
+colons-none sexp d c None (Some f) blank is other = ap (colons_after sexp) blank ∙ (ap (λ (f : First). colons_at f c) is ∙ colons-found f c (λ e. other (ap Some e)))
 
 -- blanks that were passed over, whatever they end with
 pub overrun-going : (start : Option ℕ) (d c : Cursor) → blanks d ≡ overrun start c → blanks d ≡ going start c
@@ -454,20 +454,20 @@ overrun-going None d c e = blanks-going d c e
 overrun-going (Some start) d c e = e
 
 module _ {I A : Type 0} (device : InputOf I) where
-  symbol-taken : (r : TextReader I A) (s : CodeSymbol) (quoted : Bool) (place : ℕ) (d : Cursor) (behind : Option Cursor) → r.expected ≡ expected.Value → behind_colons (in_sexp (innermost (opened_in r))) d ≡ behind
+  symbol-taken : (r : TextReader I A) (s : CodeSymbol) (quoted : Bool) (place : ℕ) (d : Cursor) (after : Option Cursor) → r.expected ≡ expected.Value → after_colons (in_sexp (innermost (opened_in r))) d ≡ after
       → taking r place (tokens.name quoted (as_symbol r.text s)) d
-      ≡ comes r.limits (part place (symbol_step r.limits (opened_in r) r.top (field_in r) (annotations_in r) quoted (at (as_symbol r.text s) place) d behind))
+      ≡ comes r.limits (part place (symbol_step r.limits (opened_in r) r.top (field_in r) (annotations_in r) quoted (at (as_symbol r.text s) place) d after))
   unfolding take
-  symbol-taken r s quoted place d behind is_value is = rw (is_value, is) refl
+  symbol-taken r s quoted place d after is_value is = rw (is_value, is) refl
 
-  -- a symbol with two colons behind it
+  -- a symbol with two colons after it
   pub symbol-noted : (r : TextReader I A) (s : CodeSymbol) (quoted : Bool) (place : ℕ) (t : Incoming I) (sexp : Bool) (a : Ahead) (d : Cursor) → r.expected ≡ expected.Value → sexp ≡ in_sexp (innermost (opened_in r))
       → IsAhead sexp (cursor device r.source) (cursor device t) a → IfSome a.first (λ g. width (first_of g) ≤ length (lent t)) → a.first ≡ Some firsts.Colons → blanks d ≡ blanks (cursor device r.source)
       → taking r place (tokens.name quoted (as_symbol r.text s)) d ≡ with_colons (record r { source = t }) s place (skip 2 (cursor device t))
   symbol-noted r s quoted place t sexp a d is_value same ahead wide is blank =
       let token = token-ahead device r.source t sexp a firsts.Colons ahead wide is in
       symbol-taken r s quoted place d (Some (skip 2 (cursor device t))) is_value
-      (ap (λ (b : Bool). behind_colons b d) (sym same) ∙ ap (colons_behind sexp) (blank ∙ token.0) ∙ ap (λ (f : First). colons_at f (cursor device t)) token.1.0)
+      (ap (λ (b : Bool). after_colons b d) (sym same) ∙ ap (colons_after sexp) (blank ∙ token.0) ∙ ap (λ (f : First). colons_at f (cursor device t)) token.1.0)
 
   -- and one without
   pub symbol-alone : (r : TextReader I A) (s : CodeSymbol) (quoted : Bool) (place : ℕ) (t : Incoming I) (sexp : Bool) (a : Ahead) (d : Cursor) → r.expected ≡ expected.Value → sexp ≡ in_sexp (innermost (opened_in r))
@@ -476,5 +476,5 @@ module _ {I A : Type 0} (device : InputOf I) where
   symbol-alone r s quoted place t sexp a d is_value same ahead other blank = (
     overrun-going a.unfinished d (cursor device t) (blank ∙ ahead.blank),
     symbol-taken r s quoted place d None is_value
-        (ap (λ (b : Bool). behind_colons b d) (sym same) ∙ colons-none sexp d (cursor device t) a.unfinished a.first (blank ∙ ahead.blank) ahead.first other),
+        (ap (λ (b : Bool). after_colons b d) (sym same) ∙ colons-none sexp d (cursor device t) a.unfinished a.first (blank ∙ ahead.blank) ahead.first other),
   )

@@ -1,6 +1,6 @@
--- A reading as text, in which worked rows show it: the items, and how they end. An item has its place, behind a slash that of
--- its top-level value where this is another one, its field, its annotations and its head. A symbol has its place behind an `@`.
--- A byte that is no printable character, a quote or a backslash is two hex digits behind a backslash.
+-- A reading as text, in which worked rows show it: the items, and how they end. An item has its place, after a slash that of
+-- its top-level value where this is another one, its field, its annotations and its head. A symbol has its place after an `@`.
+-- A byte that is no printable character, a quote or a backslash is two hex digits after a backslash.
 use Rattle.std.specs.Prelude.{◌≡◌, map, codes, decimal, ℕ, ◌+◌, ◌/◌, ◌%◌, not, ◌&&◌, ◌==◌, nat_lt, if◌then◌else◌, List, [], ◌∷◌, ◌++◌, Option, Some, None}
 use Rattle.std.specs.List.{flat_map}
 use Rattle.std.specs.Str.{is_utf8, chars}
@@ -26,7 +26,7 @@ use Rattle.ion_value.specs.Value.{Symbol, SymbolAt, Scalar, Head, PlacedItem}
 use Rattle.ion_value.specs.Reading.{Reading, Finished, Stopped, More}
 use Rattle.ion_text_in.specs.Places.{run_of}
 use Rattle.ion_text_in.specs.Blanks.{blanks_at, in_line, opening, in_block, closing}
-use Rattle.ion_text_in.specs.Quoted.{hex_behind, piece_at, pieces_for, segment_at, segments_for}
+use Rattle.ion_text_in.specs.Quoted.{hex_after, piece_at, pieces_for, segment_at, segments_for}
 use Rattle.ion_text_in.specs.Lob.{group_of, groups_for, lob_at}
 use Rattle.ion_text_in.specs.Token.{first_at, word_token, token_of}
 use Rattle.ion_text_in.specs.Reading.{may_come, tells_version, take, part_at, step, reading}
@@ -96,7 +96,7 @@ limits_of depth scalar =
 
 -- what is read with so many containers open at most, and scalars of so many bytes
 unfoldable pub read_within : ℕ → ℕ → String → List ℕ
-unfolding encode_symbols groups_error scan_steps groups_bytes is_utf8 chars digits encode decoded_of cut_at fixed_digits digits_within int_of_text decimal_of_text parts_of timestamp_of_text timestamp_text minute_number utc_of local_of scalar_of_run run_of blanks_at in_line opening in_block closing hex_behind piece_at pieces_for segment_at segments_for group_of groups_for lob_at first_at word_token token_of may_come tells_version take part_at step reading
+unfolding encode_symbols groups_error scan_steps groups_bytes is_utf8 chars digits encode decoded_of cut_at fixed_digits digits_within int_of_text decimal_of_text parts_of timestamp_of_text timestamp_text minute_number utc_of local_of scalar_of_run run_of blanks_at in_line opening in_block closing hex_after piece_at pieces_for segment_at segments_for group_of groups_for lob_at first_at word_token token_of may_come tells_version take part_at step reading
 read_within depth scalar text =
     reading_shown (reading (limits_of depth scalar) (codes text))
 

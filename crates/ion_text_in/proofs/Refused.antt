@@ -7,7 +7,7 @@ use Rattle.ion_value.specs.Reading.{Finished, Stopped}
 use Rattle.ion_value.specs.Path.{path_items}
 use Rattle.ion_text_in.specs.Positions.{State}
 use Rattle.ion_value.specs.ReadingLaws.{ending_of, IsLimit}
-use Rattle.ion_value.proofs.ReadingLaws.{ending_of-behind}
+use Rattle.ion_value.proofs.ReadingLaws.{ending_of-items_then}
 use Rattle.ion_text_in.specs.Laws.{Passes, RightlyRefused, WithinLimitsAreRead}
 use Rattle.ion_text_in.proofs.Narrow.{narrow}
 use Rattle.ion_text_in.proofs.Complete.{streams_are_read}
@@ -28,10 +28,10 @@ rightly_refused limits bytes reason place tops stops no_limit stream =
     let read = streams_are_read wide bytes tops (omega arith, omega arith) stream in
     elim (narrow limits wide bytes (record { depth = omega arith; scalar = omega arith })) [
       | inl same ↦
-          let ends : Stopped reason place ≡ Finished = sym stops ∙ ap ending_of (same ∙ read) ∙ ending_of-behind (top_items tops) Finished in
+          let ends : Stopped reason place ≡ Finished = sym stops ∙ ap ending_of (same ∙ read) ∙ ending_of-items_then (top_items tops) Finished in
           absurd (cc ends)
       | inr cut ↦
-          let ends : Stopped cut.reason cut.place ≡ Stopped reason place = sym (ending_of-behind (path_items cut.path) (Stopped cut.reason cut.place)) ∙ sym (ap ending_of cut.short) ∙ stops in
+          let ends : Stopped cut.reason cut.place ≡ Stopped reason place = sym (ending_of-items_then (path_items cut.path) (Stopped cut.reason cut.place)) ∙ sym (ap ending_of cut.short) ∙ stops in
           let same : cut.reason ≡ reason = cc ends in
           no_limit (subst IsLimit same (passes-limit limits cut.state cut.place cut.reason cut.passes))
     ]

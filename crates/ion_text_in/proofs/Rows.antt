@@ -12,7 +12,7 @@ whole_streams : AreRead (
     ∷ row "moment" "2011-02-20T11:30:59.100-08:00" "0 2011-02-20T11:30:59.100-08:00; done"
     ∷ row "minus zero" "-0." "0 -0.; done"
     ∷ row "declaration" "$ion_symbol_table::{imports:[{name:\"x\",version:1,max_id:2}],symbols:[\"a\"]} $12 $10" "19/0 '$ion_symbol_table'@0::{; 28/0 'imports'@20:[; 29/0 {; 35/0 'name'@30:\"x\"; 47/0 'version'@39:1; 56/0 'max_id'@49:2; 57/0 end; 58/0 end; 68/0 'symbols'@60:[; 69/0 \"a\"; 72/0 end; 73/0 end; 75 $12@75; 79 $10@79; done"
-    ∷ row "joined behind comment" "'''a''' /*x*/ '''b'''" "0 \"ab\"; done"
+    ∷ row "joined after comment" "'''a''' /*x*/ '''b'''" "0 \"ab\"; done"
     ∷ row "greatest int" "340282366920938463463374607431768211455" "0 340282366920938463463374607431768211455; done"
     ∷ row "too great an int" "340282366920938463463374607431768211456" "Range at 0"
     ∷ row "float" "1e0" "Float at 0"
@@ -28,7 +28,7 @@ whole_streams : AreRead (
     ∷ row "lone surrogate" "\"\\uD83D\"" "BadText at 0"
     ∷ row "cut string" "\"ab " "Truncated at 0"
     ∷ row "field by id" "{$99:1}" "0 {; 5/0 $99@1:1; 6/0 end; done"
-    ∷ row "own fault behind id" "{$99:1_}" "0 {; BadToken at 5"
+    ∷ row "own fault after id" "{$99:1_}" "0 {; BadToken at 5"
     ∷ row "operators" "(--1 a.b -2 /*c*/ +)" "0 (; 1/0 '--'@1; 3/0 1; 5/0 'a'@5; 6/0 '.'@6; 7/0 'b'@7; 9/0 -2; 18/0 '+'@18; 19/0 end; done"
     ∷ row "other version" "$ion_1_1 5" "BadVersion at 0"
     ∷ row "version in quotes" "'$ion_1_0'" "0 '$ion_1_0'@0; done"
@@ -39,7 +39,7 @@ whole_streams : AreRead (
     ∷ row "no comma" "[1 2]" "0 [; 1/0 1; BadToken at 3"
     ∷ row "trailing comma" "[1,]" "0 [; 1/0 1; 3/0 end; done"
     ∷ row "comma alone" "[,]" "0 [; BadToken at 1"
-    ∷ row "two colons behind field" "{a::1}" "0 {; BadToken at 2"
+    ∷ row "two colons after field" "{a::1}" "0 {; BadToken at 2"
     ∷ row_within 1 1048576 "too deep" "[[]]" "0 [; DepthLimit at 1"
     ∷ row "shared table" "$ion_shared_symbol_table::{name:\"x\",version:1,symbols:[\"p\",\"q\"]}" "26/0 '$ion_shared_symbol_table'@0::{; 32/0 'name'@27:\"x\"; 44/0 'version'@36:1; 54/0 'symbols'@46:[; 55/0 \"p\"; 59/0 \"q\"; 62/0 end; 63/0 end; done"
     ∷ [])
@@ -57,7 +57,7 @@ between_tokens : AreRead (
     ∷ row "separator before string" "[1 \"a" "0 [; 1/0 1; BadToken at 3"
     ∷ row "keyword as field" "{nan:1}" "0 {; BadToken at 1"
     ∷ row "no such day" "2000-02-30T" "BadTimestamp at 0"
-    ∷ row "cut comment behind symbol" "a /*" "0 'a'@0; Truncated at 2"
+    ∷ row "cut comment after symbol" "a /*" "0 'a'@0; Truncated at 2"
     ∷ row "cut second segment" "'''a''' '''b" "Truncated at 0"
     ∷ [])
 unfolding read_within
@@ -66,7 +66,7 @@ between_tokens = refl
 -- limits before the end, and words
 limits_before_the_end : AreRead (
     row_within 64 1 "quotes count" "'''a''" "ScalarLimit at 0"
-    ∷ row "comment behind string" "'''a''' /*" "0 \"a\"; Truncated at 8"
+    ∷ row "comment after string" "'''a''' /*" "0 \"a\"; Truncated at 8"
     ∷ row_within 64 6 "long keyword" "null.5555" "ScalarLimit at 0"
     ∷ row "null and point" "null." "BadToken at 0"
     ∷ row "annotated operator" "(a::+)" "0 (; 4/0 'a'@1::'+'@4; 5/0 end; done"
@@ -88,7 +88,7 @@ limits_before_the_end : AreRead (
     ∷ row "digit and colons" "1::a" "BadToken at 0"
     ∷ row "exponent less digits" "1.0d2147483648" "0 10d2147483647; done"
     ∷ row "exponent out of range" "1d2147483648" "Range at 0"
-    ∷ row_within 0 1048576 "too deep behind annotation" "$99::[" "DepthLimit at 5"
+    ∷ row_within 0 1048576 "too deep after annotation" "$99::[" "DepthLimit at 5"
     ∷ [])
 unfolding read_within
 limits_before_the_end = refl
@@ -100,7 +100,7 @@ tokens_that_touch : AreRead (
     ∷ row "minus in run" "(-1-2)" "0 (; BadToken at 1"
     ∷ row "semicolon in run" "(5;6)" "0 (; BadToken at 1"
     ∷ row "null and operator" "(null .int)" "0 (; 1/0 null; 6/0 '.'@6; 7/0 'int'@7; 10/0 end; done"
-    ∷ row "point behind symbol" "(nulls.a)" "0 (; 1/0 'nulls'@1; 6/0 '.'@6; 7/0 'a'@7; 8/0 end; done"
+    ∷ row "point after symbol" "(nulls.a)" "0 (; 1/0 'nulls'@1; 6/0 '.'@6; 7/0 'a'@7; 8/0 end; done"
     ∷ row "keyword and more" "truely nulls nano" "0 'truely'@0; 7 'nulls'@7; 13 'nano'@13; done"
     ∷ row "infinity" "[-inf]" "0 [; Float at 1"
     ∷ row "no infinity" "(+infx)" "0 (; 1/0 '+'@1; 2/0 'infx'@2; 6/0 end; done"
@@ -112,8 +112,8 @@ tokens_that_touch = refl
 -- comments
 comments : AreRead (
     row "comment before operator" "(/*c*/+)" "0 (; 6/0 '+'@6; 7/0 end; done"
-    ∷ row "comment behind operator" "(+/*c*/-)" "0 (; 1/0 '+'@1; 7/0 '-'@7; 8/0 end; done"
-    ∷ row "line behind operator" "(+//c\n-)" "0 (; 1/0 '+'@1; 6/0 '-'@6; 7/0 end; done"
+    ∷ row "comment after operator" "(+/*c*/-)" "0 (; 1/0 '+'@1; 7/0 '-'@7; 8/0 end; done"
+    ∷ row "line after operator" "(+//c\n-)" "0 (; 1/0 '+'@1; 6/0 '-'@6; 7/0 end; done"
     ∷ row "slashes" "(/ */)" "0 (; 1/0 '/'@1; 3/0 '*/'@3; 5/0 end; done"
     ∷ row "line to the end" "(//)" "0 (; Truncated at 4"
     ∷ row "cut block" "(/*)" "0 (; Truncated at 1"
@@ -138,9 +138,9 @@ structs_and_annotations : AreRead (
     ∷ row "other bracket" "[1)" "0 [; 1/0 1; BadToken at 2"
     ∷ row "bracket alone" "]" "BadToken at 0"
     ∷ row "comma in sexp" "(1,2)" "0 (; 1/0 1; BadToken at 2"
-    ∷ row "end behind annotation" "[a::]" "0 [; BadToken at 4"
+    ∷ row "end after annotation" "[a::]" "0 [; BadToken at 4"
     ∷ row "each annotation" "a::'b' :: $4::[]" "14/0 'a'@0::'b'@3::$4@10::[; 15/0 end; done"
-    ∷ row "cut comment behind colons" "a:: /*" "Truncated at 4"
+    ∷ row "cut comment after colons" "a:: /*" "Truncated at 4"
     ∷ row "colons apart" "a: :b" "0 'a'@0; BadToken at 1"
     ∷ row_within 64 18 "annotation within limit" "ab::1" "4/0 'ab'@0::1; done"
     ∷ row_within 64 17 "annotation limit" "ab::1" "AnnotationLimit at 0"

@@ -10,17 +10,17 @@ use Rattle.ion_text_in.proofs.TokenBegins.{identifiers-end, operators-end}
 
 module _ (test : List ℕ → Bool) (Ends : List ℕ → Type 0) (ends-by : (bytes : List ℕ) → (test bytes ≡ false) ↔ Ends bytes) (end : Ends []) where
   abbrev GoesOn : List ℕ → List ℕ → Type 0
-  GoesOn run behind = (xs ys : List ℕ) → run ≡ xs ++ ys → ys ≢ [] → Ends (ys ++ behind) → ⊥
+  GoesOn run after = (xs ys : List ℕ) → run ≡ xs ++ ys → ys ≢ [] → Ends (ys ++ after) → ⊥
 
-  nothing-goes : (behind : List ℕ) → GoesOn [] behind
-  nothing-goes behind [] [] e some _ = some refl
-  nothing-goes behind [] (y ∷ ys) e some _ = absurd (cc e)
-  nothing-goes behind (x ∷ xs) ys e some _ = absurd (cc e)
+  nothing-goes : (after : List ℕ) → GoesOn [] after
+  nothing-goes after [] [] e some _ = some refl
+  nothing-goes after [] (y ∷ ys) e some _ = absurd (cc e)
+  nothing-goes after (x ∷ xs) ys e some _ = absurd (cc e)
 
-  more-goes : (b : ℕ) (run behind : List ℕ) → test (b ∷ (run ++ behind)) ≡ true → GoesOn run behind → GoesOn (b ∷ run) behind
-  more-goes b run behind on goes [] ys e some ends =
-      false≢true (sym ((ends-by (b ∷ (run ++ behind))).1 (subst (λ (ys : List ℕ). Ends (ys ++ behind)) (sym e) ends)) ∙ on)
-  more-goes b run behind on goes (x ∷ xs) ys e some ends = let others : run ≡ xs ++ ys = cc e in goes xs ys others some ends
+  more-goes : (b : ℕ) (run after : List ℕ) → test (b ∷ (run ++ after)) ≡ true → GoesOn run after → GoesOn (b ∷ run) after
+  more-goes b run after on goes [] ys e some ends =
+      false≢true (sym ((ends-by (b ∷ (run ++ after))).1 (subst (λ (ys : List ℕ). Ends (ys ++ after)) (sym e) ends)) ∙ on)
+  more-goes b run after on goes (x ∷ xs) ys e some ends = let others : run ≡ xs ++ ys = cc e in goes xs ys others some ends
 
   run-by : (b : ℕ) (bytes : List ℕ) (t : Bool) → test (b ∷ bytes) ≡ t → IsRun Ends bytes (run_of test bytes).0 (run_of test bytes).1
       → IsRun Ends (b ∷ bytes) (run_of test (b ∷ bytes)).0 (run_of test (b ∷ bytes)).1
@@ -41,27 +41,27 @@ module _ (test : List ℕ → Bool) (Ends : List ℕ → Type 0) (ends-by : (byt
   run-is [] = record { whole = refl; ended = end; goes_on = nothing-goes [] }
   run-is (b ∷ bytes) = run-by b bytes (test (b ∷ bytes)) refl (run-is bytes)
 
-  run-cut : (run behind : List ℕ) → Ends behind → GoesOn run behind → run_of test (run ++ behind) ≡ (run, behind)
-  run-cut [] behind ends goes = run-none test behind ((ends-by behind).1 ends)
-  run-cut (b ∷ run) behind ends goes =
-      run-more test b (run ++ behind) (on (cases_Bool (test (b ∷ (run ++ behind)))))
-      ∙ ap (λ (z : List ℕ × List ℕ). (b ∷ z.0, z.1)) (run-cut run behind ends (λ xs ys e some ends. goes (b ∷ xs) ys (ap (λ (run : List ℕ). b ∷ run) e) some ends))
+  run-cut : (run after : List ℕ) → Ends after → GoesOn run after → run_of test (run ++ after) ≡ (run, after)
+  run-cut [] after ends goes = run-none test after ((ends-by after).1 ends)
+  run-cut (b ∷ run) after ends goes =
+      run-more test b (run ++ after) (on (cases_Bool (test (b ∷ (run ++ after)))))
+      ∙ ap (λ (z : List ℕ × List ℕ). (b ∷ z.0, z.1)) (run-cut run after ends (λ xs ys e some ends. goes (b ∷ xs) ys (ap (λ (run : List ℕ). b ∷ run) e) some ends))
     where
-      on : (test (b ∷ (run ++ behind)) ≡ true) ⊎ (test (b ∷ (run ++ behind)) ≡ false) → test (b ∷ (run ++ behind)) ≡ true
+      on : (test (b ∷ (run ++ after)) ≡ true) ⊎ (test (b ∷ (run ++ after)) ≡ false) → test (b ∷ (run ++ after)) ≡ true
       on (inl goes_on) = goes_on
-      on (inr off) = absurd (goes [] (b ∷ run) refl (λ e. absurd (cc e)) ((ends-by (b ∷ (run ++ behind))).0 off))
+      on (inr off) = absurd (goes [] (b ∷ run) refl (λ e. absurd (cc e)) ((ends-by (b ∷ (run ++ after))).0 off))
 
-  runs-are-cut : (bytes run behind : List ℕ) → (run_of test bytes ≡ (run, behind)) ↔ IsRun Ends bytes run behind
-  runs-are-cut bytes run behind = (
+  runs-are-cut : (bytes run after : List ℕ) → (run_of test bytes ≡ (run, after)) ↔ IsRun Ends bytes run after
+  runs-are-cut bytes run after = (
     λ e. subst (λ (z : List ℕ × List ℕ). IsRun Ends bytes z.0 z.1) e (run-is bytes),
-    λ is. ap (λ (bytes : List ℕ). run_of test bytes) is.whole ∙ run-cut run behind is.ended is.goes_on,
+    λ is. ap (λ (bytes : List ℕ). run_of test bytes) is.whole ∙ run-cut run after is.ended is.goes_on,
   )
 
 pub numbers-are-cut : NumbersAreCut
-numbers-are-cut bytes run behind = runs-are-cut in_run EndsNumber numbers-end EndsNumber.end bytes run behind
+numbers-are-cut bytes run after = runs-are-cut in_run EndsNumber numbers-end EndsNumber.end bytes run after
 
 pub identifiers-are-cut : IdentifiersAreCut
-identifiers-are-cut bytes run behind = runs-are-cut in_word EndsIdentifier identifiers-end EndsIdentifier.end bytes run behind
+identifiers-are-cut bytes run after = runs-are-cut in_word EndsIdentifier identifiers-end EndsIdentifier.end bytes run after
 
 pub operators-are-cut : OperatorsAreCut
-operators-are-cut bytes run behind = runs-are-cut in_operator EndsOperator operators-end EndsOperator.end bytes run behind
+operators-are-cut bytes run after = runs-are-cut in_operator EndsOperator operators-end EndsOperator.end bytes run after

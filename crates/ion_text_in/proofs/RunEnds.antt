@@ -10,7 +10,7 @@ use Rattle.ion_text_in.specs.Blanks as blanks
 use Rattle.ion_text_in.specs.Blanks.{is_white, begins_comment, is_comment}
 use Rattle.ion_text_in.specs.declared.run.Run.{Run}
 use Rattle.ion_text_in.specs.declared.run.Run.TheVariants as run
-use Rattle.ion_text_in.specs.Runs.{GoOn, EndBehind, GoesOver, IsOpen, goes_on, stays, has_slashes, opens_comment}
+use Rattle.ion_text_in.specs.Runs.{GoOn, EndAfter, GoesOver, IsOpen, goes_on, stays, has_slashes, opens_comment}
 use Rattle.ion_text_in.proofs.Meaning.{run-more, run-none}
 
 -- bytes in front of a run
@@ -34,7 +34,7 @@ go-more test bytes i within goes on = λ more.
     ∙ one-more test (take i bytes) (take (i + 1) bytes) (drop (i + 1) bytes ++ more) (get_or bytes i 0) on (take_more bytes i 0 within)
 
 -- and then none
-pub go-end : (test : List ℕ → Bool) (bytes : List ℕ) (i : ℕ) → GoOn test bytes i → ((more : List ℕ) → test (drop i bytes ++ more) ≡ false) → EndBehind test bytes i
+pub go-end : (test : List ℕ → Bool) (bytes : List ℕ) (i : ℕ) → GoOn test bytes i → ((more : List ℕ) → test (drop i bytes ++ more) ≡ false) → EndAfter test bytes i
 go-end test bytes i goes off = λ more.
     goes more ∙ ap (fronted (take i bytes)) (run-none test (drop i bytes ++ more) (off more)) ∙ ap (λ (l : List ℕ). (l, drop i bytes ++ more)) (append-nil (take i bytes))
 
@@ -58,9 +58,9 @@ stays-on run.Operator b rest e =
     let parts = and_parts (is_operator_byte b) (not (b == 47)) e in
     ap (λ (comment : Bool). is_operator_byte b && not comment) (no-comment b rest (not-true (b == 47) parts.1)) ∙ rw parts.0 refl
 
--- ---- tokens behind their first byte
+-- ---- tokens after their first byte
 
-pub token-shown : (test : List ℕ → Bool) (bytes : List ℕ) (n : ℕ) → 1 ≤ length bytes → n < length (drop 1 bytes) → EndBehind test (drop 1 bytes) n → AreShown (bytes_of test) bytes (1 + n)
+pub token-shown : (test : List ℕ → Bool) (bytes : List ℕ) (n : ℕ) → 1 ≤ length bytes → n < length (drop 1 bytes) → EndAfter test (drop 1 bytes) n → AreShown (bytes_of test) bytes (1 + n)
 token-shown test [] n some within ends = absurd (omega (arith, some))
 token-shown test (b ∷ others) n some within ends =
     let one : 1 + n ≡ suc n = omega arith in
@@ -78,9 +78,9 @@ go-left test slice more rest n within e goes =
     ∙ ap (λ (l : List ℕ). fronted l (run_of test (drop n (slice ++ more)))) (sym (take-append-le n slice more within)))
 
 -- nothing of it goes on
-pub end-left : (test : List ℕ → Bool) (slice more rest : List ℕ) (n : ℕ) → n ≡ 0 → rest ≡ slice ++ more → EndBehind test slice n → run_of test rest ≡ ([], rest)
+pub end-left : (test : List ℕ → Bool) (slice more rest : List ℕ) (n : ℕ) → n ≡ 0 → rest ≡ slice ++ more → EndAfter test slice n → run_of test rest ≡ ([], rest)
 end-left test slice more rest n none e ends =
-    let first = subst (λ (k : ℕ). EndBehind test slice k) none ends in
+    let first = subst (λ (k : ℕ). EndAfter test slice k) none ends in
     subst (λ (l : List ℕ). run_of test l ≡ ([], l)) (sym e) (first more)
 
 pub run-empty : (test : List ℕ → Bool) (rest : List ℕ) → None ≡ slice_get rest 0 → run_of test rest ≡ ([], rest)

@@ -1,4 +1,4 @@
--- Runs of bytes at the front of a slice, and runs behind them.
+-- Runs of bytes at the front of a slice, and runs after them.
 use Rattle.std.proofs.Common.{◌≡◌, ℕ, zero, suc, ◌<◌, eqb, eq-eqb, arith, sym, subst, length, ◌+◌, Bool, true, false, ◌&&◌, List, [], ◌∷◌, ◌++◌, take, drop, Option, Some, None, slice_get, get_or, refl, ap, ◌∙◌, inl, inr}
 use Rattle.std.proofs.lemmas.Bool.{cases_Bool, true≢false}
 use Rattle.std.specs.Option.{option_eq}
@@ -9,9 +9,9 @@ all-joined : (test : ℕ → Bool) (xs ys : List ℕ) → all_are test (xs ++ ys
 all-joined test [] ys = refl
 all-joined test (x ∷ xs) ys = elim (cases_Bool (test x)) [ inl e ↦ rw e (all-joined test xs ys) | inr e ↦ rw e refl ]
 
--- so many bytes, and so many behind them
-pub all-behind : (test : ℕ → Bool) (bytes : List ℕ) (n m : ℕ) → all_are test (take n bytes) ≡ true → all_are test (take m (drop n bytes)) ≡ true → all_are test (take (n + m) bytes) ≡ true
-all-behind test bytes n m first second = rw (take-add n m bytes, all-joined test (take n bytes) (take m (drop n bytes)), first, second) refl
+-- so many bytes, and so many after them
+pub all-after : (test : ℕ → Bool) (bytes : List ℕ) (n m : ℕ) → all_are test (take n bytes) ≡ true → all_are test (take m (drop n bytes)) ≡ true → all_are test (take (n + m) bytes) ≡ true
+all-after test bytes n m first second = rw (take-add n m bytes, all-joined test (take n bytes) (take m (drop n bytes)), first, second) refl
 
 -- the first byte, and the second
 pub first-byte : (bytes : List ℕ) (b : ℕ) → slice_get bytes 0 ≡ Some b → bytes ≡ b ∷ drop 1 bytes
@@ -30,7 +30,7 @@ pub no-byte : (bytes : List ℕ) → slice_get bytes 0 ≡ None → bytes ≡ []
 no-byte [] e = refl
 no-byte (b ∷ bytes) e = absurd (cc e)
 
--- what stands behind a run that ends within a slice, whatever follows the slice
+-- what stands after a run that ends within a slice, whatever follows the slice
 pub ends-shown : (test : ℕ → Bool) (bytes more : List ℕ) (n : ℕ) → n < length bytes → first_is test (drop n bytes) ≡ false → first_is test (drop n bytes ++ more) ≡ false
 ends-shown test [] more n less ends = absurd (omega (arith, less))
 ends-shown test (b ∷ bytes) more zero less ends = ends

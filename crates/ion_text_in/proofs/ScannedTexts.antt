@@ -37,8 +37,8 @@ closes-there q bytes more n short there mark =
     ∙ ap (λ (l : List ℕ). piece_at (quote_of q) (l ++ more)) (sym cons)
     ∙ ap (λ (l : List ℕ). piece_at (quote_of q) l) (sym first)
 
-behind-both : (place n : ℕ) (bytes more : List ℕ) → n < length bytes → skip 1 (skip n (at place (bytes ++ more))) ≡ at (place + (n + 1)) (drop (n + 1) bytes ++ more)
-behind-both place n bytes more there =
+after-two : (place n : ℕ) (bytes more : List ℕ) → n < length bytes → skip 1 (skip n (at place (bytes ++ more))) ≡ at (place + (n + 1)) (drop (n + 1) bytes ++ more)
+after-two place n bytes more there =
     let where_it : (place + n) + 1 ≡ place + (n + 1) = omega arith in
     let le : n + 1 ≤ length bytes = omega (arith, there) in
     ap (λ (p : ℕ). at p (drop 1 (drop n (bytes ++ more)))) where_it
@@ -58,7 +58,7 @@ pieces-shown q limit place n bytes more short plain there mark within =
     ∙ ap (λ (over : Bool). refuse over ScalarLimit >> onward (quote_of q) limit (take n (bytes ++ more)) (skip n c)) (le-ltb limit (0 + length (take n (bytes ++ more))) (omega (arith, within, count)))
     ∙ onward-piece (quote_of q) limit (take n (bytes ++ more)) (skip n c) (code_piece.Close 1) (quote_of-is q) (closes-there q bytes more n short there mark)
     ∙ ap (λ (l : List ℕ). Ok (l, skip 1 (skip n c))) (sym same)
-    ∙ ap (λ (d : Cursor). Ok (take n bytes, d)) (behind-both place n bytes more there)
+    ∙ ap (λ (d : Cursor). Ok (take n bytes, d)) (after-two place n bytes more there)
 
 pub text-shown : (q : CodeQuote) (limit place n : ℕ) (bytes more : List ℕ) → (quote_of q).is_long ≡ false → all_are (is_plain_byte (quote_of q)) (take n bytes) ≡ true → n < length bytes
     → slice_index bytes n ≡ mark_of q → n ≤ limit → ((quote_of q).in_clob || is_utf8 (take n bytes)) ≡ true
@@ -105,7 +105,7 @@ text-over q limit place n bytes more short plain le over =
     (onward-plain (quote_of q) limit [] c n (quote_of-is q) (omega (arith, le, long)) (ap (λ (l : List ℕ). all_are (is_plain_byte (quote_of q)) l) (sym same) ∙ plain) (omega arith)
     ∙ ap (λ (over : Bool). refuse over ScalarLimit >> onward (quote_of q) limit (take n (bytes ++ more)) (skip n c)) (lt-ltb limit (0 + length (take n (bytes ++ more))) (omega (arith, over, count))))
 
--- ---- no mark stands behind plain bytes
+-- ---- no mark stands after plain bytes
 
 no-mark : (mark : ℕ) (bytes : List ℕ) (n : ℕ) → length bytes ≤ n → first_is (λ b. b == mark) (drop n bytes) ≡ false
 no-mark mark [] zero le = refl

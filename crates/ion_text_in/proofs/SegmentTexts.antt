@@ -41,42 +41,42 @@ short-text q limit text c e none =
 
 -- ---- segments
 
--- bytes that were read, and the segments behind them
-abbrev pub behind_text : Quote → ℕ → List ℕ → Cursor → Spelled
-behind_text q limit text c = with_front text (segments q (Some limit) (length text) c)
+-- bytes that were read, and the segments after them
+abbrev pub after_text : Quote → ℕ → List ℕ → Cursor → Spelled
+after_text q limit text c = with_front text (segments q (Some limit) (length text) c)
 
 abbrev segment-then : Quote → ℕ → List ℕ → Spelled → Spelled
 segment-then q limit text o =
     with_front text (o >>= (λ s. with_segments (λ d. segments q (Some limit) (length text + length s.0) d) s (quoted.next_segment q s.1)))
 
-segments-by : (q : Quote) (limit : ℕ) (text : List ℕ) (c : Cursor) → IsQuote q → behind_text q limit text c ≡ segment-then q limit text (segment_at q (Some limit) (length text) c)
+segments-by : (q : Quote) (limit : ℕ) (text : List ℕ) (c : Cursor) → IsQuote q → after_text q limit text c ≡ segment-then q limit text (segment_at q (Some limit) (length text) c)
 segments-by q limit text c is = ap (λ (o : Spelled). with_front text o) (segments-first q (Some limit) (length text) c is)
 
-pub long-err : (q : Quote) (limit : ℕ) (text : List ℕ) (c : Cursor) (e : Reason) → IsQuote q → with_segment q limit text c ≡ Err e → behind_text q limit text c ≡ Err e
+pub long-err : (q : Quote) (limit : ℕ) (text : List ℕ) (c : Cursor) (e : Reason) → IsQuote q → with_segment q limit text c ≡ Err e → after_text q limit text c ≡ Err e
 long-err q limit text c e is h =
     segments-by q limit text c is ∙ ap (λ (o : Spelled). segment-then q limit text o) (front-err text (segment_at q (Some limit) (length text) c) e h)
 
 -- what follows a segment, by where the next one begins
 segment-next : (q : Quote) (limit : ℕ) (text s : List ℕ) (c d : Cursor) (next : Option Cursor) → IsQuote q → segment_at q (Some limit) (length text) c ≡ Ok (s, d) → quoted.next_segment q d ≡ next
-    → behind_text q limit text c ≡ with_front text (with_segments (λ k. segments q (Some limit) (length text + length s) k) (s, d) next)
+    → after_text q limit text c ≡ with_front text (with_segments (λ k. segments q (Some limit) (length text + length s) k) (s, d) next)
 segment-next q limit text s c d next is h e =
     segments-by q limit text c is ∙ ap (λ (o : Spelled). segment-then q limit text o) h
     ∙ ap (λ (o : Option Cursor). with_front text (with_segments (λ k. segments q (Some limit) (length text + length s) k) (s, d) o)) e
 
 pub long-ends : (q : Quote) (limit : ℕ) (text all : List ℕ) (c d : Cursor) → IsQuote q → with_segment q limit text c ≡ Ok (all, d) → quoted.next_segment q d ≡ None
-    → behind_text q limit text c ≡ Ok (all, d)
+    → after_text q limit text c ≡ Ok (all, d)
 long-ends q limit text all c d is h e =
     let got = front-ok text all d (segment_at q (Some limit) (length text) c) h in
     segment-next q limit text got.0 c d None is got.1 e ∙ ap (λ (l : List ℕ). Ok (l, d)) got.2
 
 pub long-goes : (q : Quote) (limit : ℕ) (text all : List ℕ) (c d k : Cursor) → IsQuote q → with_segment q limit text c ≡ Ok (all, d) → quoted.next_segment q d ≡ Some k
-    → behind_text q limit text c ≡ behind_text q limit all k
+    → after_text q limit text c ≡ after_text q limit all k
 long-goes q limit text all c d k is h e =
     let got = front-ok text all d (segment_at q (Some limit) (length text) c) h in
     segment-next q limit text got.0 c d (Some k) is got.1 e
     ∙ front-front text got.0 (segments q (Some limit) (length text + length got.0) k)
     ∙ ap (λ (n : ℕ). with_front (text ++ got.0) (segments q (Some limit) n k)) (sym (length-append text got.0))
-    ∙ ap (λ (l : List ℕ). behind_text q limit l k) got.2
+    ∙ ap (λ (l : List ℕ). after_text q limit l k) got.2
 
 -- ---- the next segment
 

@@ -44,7 +44,7 @@ segment-err q limit text c e h =
     ap (λ (o : Spelled). with_front text o)
     (by-pieces q (Some limit) (length text) c ∙ ap (λ (o : Spelled). tested q o) (front-err text (pieces q (Some limit) (length text) c) e h))
 
--- what stands behind the bytes that were there
+-- what stands after the bytes that were there
 segment-as : (q : Quote) (limit : ℕ) (text all : List ℕ) (c d : Cursor) (test : Bool) → onward q limit text c ≡ Ok (all, d) → (q.in_clob || is_utf8 (drop (length text) all)) ≡ test
     → with_segment q limit text c ≡ with_front text (refuse (not test) BadText >> Ok (drop (length text) all, d))
 segment-as q limit text all c d test h e =

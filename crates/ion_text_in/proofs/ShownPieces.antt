@@ -3,7 +3,7 @@ use Rattle.std.proofs.Common.{◌≡◌, ℕ, zero, suc, ◌+◌, ◌*◌, ◌�
 use Rattle.ion_value.specs.Digits.{is_between, is_hex_digit, digit_value}
 use Rattle.ion_value.specs.Name.{begins_with}
 use Rattle.ion_text_in.specs.Quoted as quoted
-use Rattle.ion_text_in.specs.Quoted.{Quote, Piece, char, close, illegal, cut, Hex, number, no_digit, cut_digits, hex_behind, piece_at}
+use Rattle.ion_text_in.specs.Quoted.{Quote, Piece, char, close, illegal, cut, Hex, number, no_digit, cut_digits, hex_after, piece_at}
 use Rattle.ion_text_in.specs.Scanning.{IsQuote}
 
 -- ---- what more bytes may change
@@ -31,7 +31,7 @@ kept-if false x y u v kx ky = ky refl
 
 -- digits
 abbrev SameHex : List ℕ → Hex → Hex → Type 0
-SameHex more (number n behind) long = long ≡ number n (behind ++ more)
+SameHex more (number n after) long = long ≡ number n (after ++ more)
 SameHex more no_digit long = long ≡ no_digit
 SameHex more cut_digits long = Unit {0}
 
@@ -39,33 +39,33 @@ hex-either : (more : List ℕ) (is : Bool) (x u : Hex) → SameHex more x u → 
 hex-either more true x u s = s
 hex-either more false x u s = refl
 
-hex-same : (k n : ℕ) (bytes more : List ℕ) → SameHex more (hex_behind k n bytes) (hex_behind k n (bytes ++ more))
-unfolding hex_behind
+hex-same : (k n : ℕ) (bytes more : List ℕ) → SameHex more (hex_after k n bytes) (hex_after k n (bytes ++ more))
+unfolding hex_after
 hex-same zero n bytes more = refl
 hex-same (suc k) n [] more = tt
 hex-same (suc k) n (b ∷ bytes) more =
-    hex-either more (is_hex_digit b) (hex_behind k (16 * n + digit_value b) bytes) (hex_behind k (16 * n + digit_value b) (bytes ++ more)) (hex-same k (16 * n + digit_value b) bytes more)
+    hex-either more (is_hex_digit b) (hex_after k (16 * n + digit_value b) bytes) (hex_after k (16 * n + digit_value b) (bytes ++ more)) (hex-same k (16 * n + digit_value b) bytes more)
 
 low-kept : (high : ℕ) (more : List ℕ) (h long : Hex) → SameHex more h long → Kept (quoted.low_half high h) (quoted.low_half high long)
-low-kept high more (number low behind) long e w = ap (quoted.low_half high) e
+low-kept high more (number low after) long e w = ap (quoted.low_half high) e
 low-kept high more no_digit long e w = ap (quoted.low_half high) e
 low-kept high more cut_digits long e w = absurd w
 
-behind-kept : (high : ℕ) (behind more : List ℕ) → Kept (quoted.low_behind high behind) (quoted.low_behind high (behind ++ more))
-behind-kept high [] more w = absurd w
-behind-kept high (b ∷ []) [] w = refl
-behind-kept high (b ∷ []) (c ∷ more) w = from (b == 92) w
+after-kept : (high : ℕ) (after more : List ℕ) → Kept (quoted.low_after high after) (quoted.low_after high (after ++ more))
+after-kept high [] more w = absurd w
+after-kept high (b ∷ []) [] w = refl
+after-kept high (b ∷ []) (c ∷ more) w = from (b == 92) w
   where
-    from : (escapes : Bool) → Kept (if escapes then cut else illegal) (if escapes && c == 117 then quoted.low_half high (hex_behind 4 0 more) else illegal)
+    from : (escapes : Bool) → Kept (if escapes then cut else illegal) (if escapes && c == 117 then quoted.low_half high (hex_after 4 0 more) else illegal)
     from true w = absurd w
     from false w = refl
-behind-kept high (b ∷ c ∷ bytes) more w =
-    kept-if (b == 92 && c == 117) _ _ _ _ (λ _. low-kept high more (hex_behind 4 0 bytes) (hex_behind 4 0 (bytes ++ more)) (hex-same 4 0 bytes more)) (λ _ w. refl) w
+after-kept high (b ∷ c ∷ bytes) more w =
+    kept-if (b == 92 && c == 117) _ _ _ _ (λ _. low-kept high more (hex_after 4 0 bytes) (hex_after 4 0 (bytes ++ more)) (hex-same 4 0 bytes more)) (λ _ w. refl) w
 
 byte-kept : (in_clob : Bool) (more : List ℕ) (h long : Hex) → SameHex more h long → Kept (quoted.byte_code in_clob h) (quoted.byte_code in_clob long)
-byte-kept in_clob more (number n behind) long e w = ap (quoted.byte_code in_clob) e ∙ by in_clob
+byte-kept in_clob more (number n after) long e w = ap (quoted.byte_code in_clob) e ∙ by in_clob
   where
-    by : (in_clob : Bool) → quoted.byte_code in_clob (number n (behind ++ more)) ≡ quoted.byte_code in_clob (number n behind)
+    by : (in_clob : Bool) → quoted.byte_code in_clob (number n (after ++ more)) ≡ quoted.byte_code in_clob (number n after)
     by true = refl
     by false = refl
 byte-kept in_clob more no_digit long e w = ap (quoted.byte_code in_clob) e
@@ -73,23 +73,23 @@ byte-kept true more cut_digits long e w = absurd w
 byte-kept false more cut_digits long e w = absurd w
 
 short_code-kept : (more : List ℕ) (h long : Hex) → SameHex more h long → Kept (quoted.short_code h) (quoted.short_code long)
-short_code-kept more (number n behind) long e w =
+short_code-kept more (number n after) long e w =
     ap quoted.short_code e
-    ∙ kept-if (quoted.is_high_surrogate n) (quoted.low_behind n behind) (quoted.by_code n 6) (quoted.low_behind n (behind ++ more)) (quoted.by_code n 6) (λ _. behind-kept n behind more) (λ _ w. refl) w
+    ∙ kept-if (quoted.is_high_surrogate n) (quoted.low_after n after) (quoted.by_code n 6) (quoted.low_after n (after ++ more)) (quoted.by_code n 6) (λ _. after-kept n after more) (λ _ w. refl) w
 short_code-kept more no_digit long e w = ap quoted.short_code e
 short_code-kept more cut_digits long e w = absurd w
 
 long_code-kept : (more : List ℕ) (h long : Hex) → SameHex more h long → Kept (quoted.long_code h) (quoted.long_code long)
-long_code-kept more (number n behind) long e w = ap quoted.long_code e
+long_code-kept more (number n after) long e w = ap quoted.long_code e
 long_code-kept more no_digit long e w = ap quoted.long_code e
 long_code-kept more cut_digits long e w = absurd w
 
 coded-kept : (in_clob : Bool) (e : ℕ) (bytes more : List ℕ) → Kept (quoted.coded in_clob e bytes) (quoted.coded in_clob e (bytes ++ more))
 coded-kept in_clob e bytes more =
-    kept-if (e == 120) _ _ _ _ (λ _. byte-kept in_clob more (hex_behind 2 0 bytes) (hex_behind 2 0 (bytes ++ more)) (hex-same 2 0 bytes more))
+    kept-if (e == 120) _ _ _ _ (λ _. byte-kept in_clob more (hex_after 2 0 bytes) (hex_after 2 0 (bytes ++ more)) (hex-same 2 0 bytes more))
     (λ _. kept-if in_clob illegal _ illegal _ (λ _ w. refl)
-    (λ _. kept-if (e == 117) _ _ _ _ (λ _. short_code-kept more (hex_behind 4 0 bytes) (hex_behind 4 0 (bytes ++ more)) (hex-same 4 0 bytes more))
-    (λ _. kept-if (e == 85) _ _ _ _ (λ _. long_code-kept more (hex_behind 8 0 bytes) (hex_behind 8 0 (bytes ++ more)) (hex-same 8 0 bytes more)) (λ _ w. refl))))
+    (λ _. kept-if (e == 117) _ _ _ _ (λ _. short_code-kept more (hex_after 4 0 bytes) (hex_after 4 0 (bytes ++ more)) (hex-same 4 0 bytes more))
+    (λ _. kept-if (e == 85) _ _ _ _ (λ _. long_code-kept more (hex_after 8 0 bytes) (hex_after 8 0 (bytes ++ more)) (hex-same 8 0 bytes more)) (λ _ w. refl))))
 
 letter-kept : (in_clob : Bool) (e : ℕ) (bytes more : List ℕ) (o : Option ℕ) → Kept (quoted.by_letter o in_clob e bytes) (quoted.by_letter o in_clob e (bytes ++ more))
 letter-kept in_clob e bytes more (Some c) w = refl
@@ -136,9 +136,9 @@ whole-if : (b : Bool) (x y : Piece) → IsWhole x → IsWhole y → IsWhole (if 
 whole-if true x y wx wy = wx
 whole-if false x y wx wy = wy
 
--- so many digits are there, and so many bytes behind them
+-- so many digits are there, and so many bytes after them
 abbrev HexWhole : ℕ → Hex → Type 0
-HexWhole j (number n behind) = j ≤ length behind
+HexWhole j (number n after) = j ≤ length after
 HexWhole j no_digit = Unit {0}
 HexWhole j cut_digits = ⊥
 
@@ -146,51 +146,51 @@ hex-whole-if : (j : ℕ) (is : Bool) (h : Hex) → HexWhole j h → HexWhole j (
 hex-whole-if j true h w = w
 hex-whole-if j false h w = tt
 
-hex-whole : (k j n : ℕ) (bytes : List ℕ) → k + j ≤ length bytes → HexWhole j (hex_behind k n bytes)
-unfolding hex_behind
+hex-whole : (k j n : ℕ) (bytes : List ℕ) → k + j ≤ length bytes → HexWhole j (hex_after k n bytes)
+unfolding hex_after
 hex-whole zero j n bytes le = omega (arith, le)
 hex-whole (suc k) j n [] le = absurd (omega (arith, le))
 hex-whole (suc k) j n (b ∷ bytes) le =
-    hex-whole-if j (is_hex_digit b) (hex_behind k (16 * n + digit_value b) bytes) (hex-whole k j (16 * n + digit_value b) bytes (omega (arith, le)))
+    hex-whole-if j (is_hex_digit b) (hex_after k (16 * n + digit_value b) bytes) (hex-whole k j (16 * n + digit_value b) bytes (omega (arith, le)))
 
 code-whole : (c taken : ℕ) → IsWhole (quoted.by_code c taken)
 code-whole c taken = whole-if (nat_le c 0x10FFFF && not (is_between 0xD800 0xDFFF c)) _ _ tt tt
 
 low-whole : (high : ℕ) (h : Hex) → HexWhole 0 h → IsWhole (quoted.low_half high h)
-low-whole high (number low behind) w = whole-if (quoted.is_low_surrogate low) (quoted.by_code (quoted.pair high low) 12) illegal (code-whole (quoted.pair high low) 12) tt
+low-whole high (number low after) w = whole-if (quoted.is_low_surrogate low) (quoted.by_code (quoted.pair high low) 12) illegal (code-whole (quoted.pair high low) 12) tt
 low-whole high no_digit w = tt
 low-whole high cut_digits w = absurd w
 
-behind-whole : (high : ℕ) (behind : List ℕ) → 6 ≤ length behind → IsWhole (quoted.low_behind high behind)
-behind-whole high [] le = absurd (omega (arith, le))
-behind-whole high (b ∷ []) le = absurd (omega (arith, le))
-behind-whole high (b ∷ c ∷ bytes) le =
-    whole-if (b == 92 && c == 117) (quoted.low_half high (hex_behind 4 0 bytes)) illegal (low-whole high (hex_behind 4 0 bytes) (hex-whole 4 0 0 bytes (omega (arith, le)))) tt
+after-whole : (high : ℕ) (after : List ℕ) → 6 ≤ length after → IsWhole (quoted.low_after high after)
+after-whole high [] le = absurd (omega (arith, le))
+after-whole high (b ∷ []) le = absurd (omega (arith, le))
+after-whole high (b ∷ c ∷ bytes) le =
+    whole-if (b == 92 && c == 117) (quoted.low_half high (hex_after 4 0 bytes)) illegal (low-whole high (hex_after 4 0 bytes) (hex-whole 4 0 0 bytes (omega (arith, le)))) tt
 
 byte-whole : (in_clob : Bool) (h : Hex) → HexWhole 0 h → IsWhole (quoted.byte_code in_clob h)
-byte-whole true (number n behind) w = tt
-byte-whole false (number n behind) w = code-whole n 4
+byte-whole true (number n after) w = tt
+byte-whole false (number n after) w = code-whole n 4
 byte-whole true no_digit w = tt
 byte-whole false no_digit w = tt
 byte-whole true cut_digits w = absurd w
 byte-whole false cut_digits w = absurd w
 
 short_code-whole : (h : Hex) → HexWhole 6 h → IsWhole (quoted.short_code h)
-short_code-whole (number n behind) w = whole-if (quoted.is_high_surrogate n) (quoted.low_behind n behind) (quoted.by_code n 6) (behind-whole n behind w) (code-whole n 6)
+short_code-whole (number n after) w = whole-if (quoted.is_high_surrogate n) (quoted.low_after n after) (quoted.by_code n 6) (after-whole n after w) (code-whole n 6)
 short_code-whole no_digit w = tt
 short_code-whole cut_digits w = absurd w
 
 long_code-whole : (h : Hex) → HexWhole 0 h → IsWhole (quoted.long_code h)
-long_code-whole (number n behind) w = code-whole n 10
+long_code-whole (number n after) w = code-whole n 10
 long_code-whole no_digit w = tt
 long_code-whole cut_digits w = absurd w
 
 coded-whole : (in_clob : Bool) (e : ℕ) (bytes : List ℕ) → 10 ≤ length bytes → IsWhole (quoted.coded in_clob e bytes)
 coded-whole in_clob e bytes le =
-    whole-if (e == 120) _ _ (byte-whole in_clob (hex_behind 2 0 bytes) (hex-whole 2 0 0 bytes (omega (arith, le))))
+    whole-if (e == 120) _ _ (byte-whole in_clob (hex_after 2 0 bytes) (hex-whole 2 0 0 bytes (omega (arith, le))))
     (whole-if in_clob illegal _ tt
-    (whole-if (e == 117) _ _ (short_code-whole (hex_behind 4 0 bytes) (hex-whole 4 6 0 bytes (omega (arith, le))))
-    (whole-if (e == 85) _ _ (long_code-whole (hex_behind 8 0 bytes) (hex-whole 8 0 0 bytes (omega (arith, le)))) tt)))
+    (whole-if (e == 117) _ _ (short_code-whole (hex_after 4 0 bytes) (hex-whole 4 6 0 bytes (omega (arith, le))))
+    (whole-if (e == 85) _ _ (long_code-whole (hex_after 8 0 bytes) (hex-whole 8 0 0 bytes (omega (arith, le)))) tt)))
 
 letter-whole : (in_clob : Bool) (e : ℕ) (bytes : List ℕ) (o : Option ℕ) → 10 ≤ length bytes → IsWhole (quoted.by_letter o in_clob e bytes)
 letter-whole in_clob e bytes (Some c) le = tt

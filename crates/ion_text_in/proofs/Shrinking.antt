@@ -19,13 +19,13 @@ use Rattle.ion_value.specs.Scalar.{scalar_of_run}
 use Rattle.ion_value.specs.Value as value
 use Rattle.ion_value.specs.Value.{Symbol, SymbolAt, Scalar}
 use Rattle.ion_value.proofs.Faults.{Free, free}
-use Rattle.ion_text_in.specs.Places.{run_of, behind_run}
+use Rattle.ion_text_in.specs.Places.{run_of, after_run}
 use Rattle.ion_text_in.specs.Limit.{passes}
 use Rattle.ion_text_in.specs.Meaning.{counts}
 use Rattle.ion_text_in.specs.Blanks as blanks
 use Rattle.ion_text_in.specs.Blanks.{Begins, white, line_comment, block_comment, no_blank, blank_at, is_line_end, ends_block, blanks_at, in_line, opening, in_block, closing}
 use Rattle.ion_text_in.specs.Quoted as quoted
-use Rattle.ion_text_in.specs.Quoted.{Quote, Piece, char, close, illegal, cut, Hex, number, no_digit, cut_digits, hex_behind, piece_at, pieces_for, segment_at, segments_for, text_at}
+use Rattle.ion_text_in.specs.Quoted.{Quote, Piece, char, close, illegal, cut, Hex, number, no_digit, cut_digits, hex_after, piece_at, pieces_for, segment_at, segments_for, text_at}
 use Rattle.ion_text_in.specs.Lob as lob
 use Rattle.ion_text_in.specs.Lob.{group_of, group_bytes, groups_for, lob_at}
 use Rattle.ion_text_in.specs.Scanning.{Takes}
@@ -121,22 +121,22 @@ line_end b bytes =
 
 -- so many digits
 abbrev pub HexFits : ℕ → List ℕ → Hex → Type 0
-HexFits k bytes (number n behind) = k + length behind ≤ length bytes
+HexFits k bytes (number n after) = k + length after ≤ length bytes
 HexFits k bytes no_digit = Unit {0}
 HexFits k bytes cut_digits = Unit {0}
 
 hex-either : (k b : ℕ) (bytes : List ℕ) (is : Bool) (h : Hex) → HexFits k bytes h → HexFits (suc k) (b ∷ bytes) (elim is [ true ↦ h | false ↦ no_digit ])
-hex-either k b bytes true (number n behind) fits = omega (arith, fits)
+hex-either k b bytes true (number n after) fits = omega (arith, fits)
 hex-either k b bytes true no_digit fits = tt
 hex-either k b bytes true cut_digits fits = tt
 hex-either k b bytes false h fits = tt
 
-pub hex-fits : (k n : ℕ) (bytes : List ℕ) → HexFits k bytes (hex_behind k n bytes)
-unfolding hex_behind
+pub hex-fits : (k n : ℕ) (bytes : List ℕ) → HexFits k bytes (hex_after k n bytes)
+unfolding hex_after
 hex-fits zero n bytes = omega arith
 hex-fits (suc k) n [] = tt
 hex-fits (suc k) n (b ∷ bytes) =
-    hex-either k b bytes (is_hex_digit b) (hex_behind k (16 * n + digit_value b) bytes) (hex-fits k (16 * n + digit_value b) bytes)
+    hex-either k b bytes (is_hex_digit b) (hex_after k (16 * n + digit_value b) bytes) (hex-fits k (16 * n + digit_value b) bytes)
 
 module _ (q : Quote) where
   -- a character takes a byte or more, of those that there are, and gives no more; else the quotes close the text
@@ -159,42 +159,42 @@ module _ (q : Quote) where
       (let bounds = len_utf8_bounds c in so-many rest (encode_utf8 c) taken (omega (arith, long, length-encode c, bounds.1)) (omega (arith, long)) there few) tt
 
   low-is : (rest bytes : List ℕ) (high : ℕ) → 8 + length bytes ≤ length rest → (h : Hex) → HexFits 4 bytes h → PieceIs rest (quoted.low_half high h)
-  low-is rest bytes high le (number low behind) fits =
+  low-is rest bytes high le (number low after) fits =
       if-is rest (quoted.is_low_surrogate low) (quoted.by_code (quoted.pair high low) 12) illegal (code-is rest (quoted.pair high low) 12 (omega arith) (omega (arith, le, fits)) (omega arith)) tt
   low-is rest bytes high le no_digit fits = tt
   low-is rest bytes high le cut_digits fits = tt
 
-  behind-is : (rest : List ℕ) (high : ℕ) (behind : List ℕ) → 6 + length behind ≤ length rest → PieceIs rest (quoted.low_behind high behind)
-  behind-is rest high [] le = tt
-  behind-is rest high (b ∷ []) le = if-is rest (b == 92) cut illegal tt tt
-  behind-is rest high (b ∷ c ∷ bytes) le =
-      if-is rest (b == 92 && c == 117) (quoted.low_half high (hex_behind 4 0 bytes)) illegal (low-is rest bytes high (omega (arith, le)) (hex_behind 4 0 bytes) (hex-fits 4 0 bytes)) tt
+  after-is : (rest : List ℕ) (high : ℕ) (after : List ℕ) → 6 + length after ≤ length rest → PieceIs rest (quoted.low_after high after)
+  after-is rest high [] le = tt
+  after-is rest high (b ∷ []) le = if-is rest (b == 92) cut illegal tt tt
+  after-is rest high (b ∷ c ∷ bytes) le =
+      if-is rest (b == 92 && c == 117) (quoted.low_half high (hex_after 4 0 bytes)) illegal (low-is rest bytes high (omega (arith, le)) (hex_after 4 0 bytes) (hex-fits 4 0 bytes)) tt
 
   byte-is : (rest bytes : List ℕ) (in_clob : Bool) → 2 + length bytes ≤ length rest → (h : Hex) → HexFits 2 bytes h → PieceIs rest (quoted.byte_code in_clob h)
-  byte-is rest bytes true le (number n behind) fits = so-many rest (n ∷ []) 4 (omega arith) (omega arith) (omega (arith, le, fits)) (omega arith)
-  byte-is rest bytes false le (number n behind) fits = code-is rest n 4 (omega arith) (omega (arith, le, fits)) (omega arith)
+  byte-is rest bytes true le (number n after) fits = so-many rest (n ∷ []) 4 (omega arith) (omega arith) (omega (arith, le, fits)) (omega arith)
+  byte-is rest bytes false le (number n after) fits = code-is rest n 4 (omega arith) (omega (arith, le, fits)) (omega arith)
   byte-is rest bytes in_clob le no_digit fits = tt
   byte-is rest bytes in_clob le cut_digits fits = tt
 
   short_code-is : (rest bytes : List ℕ) → 2 + length bytes ≤ length rest → (h : Hex) → HexFits 4 bytes h → PieceIs rest (quoted.short_code h)
-  short_code-is rest bytes le (number n behind) fits =
-      if-is rest (quoted.is_high_surrogate n) (quoted.low_behind n behind) (quoted.by_code n 6) (behind-is rest n behind (omega (arith, le, fits)))
+  short_code-is rest bytes le (number n after) fits =
+      if-is rest (quoted.is_high_surrogate n) (quoted.low_after n after) (quoted.by_code n 6) (after-is rest n after (omega (arith, le, fits)))
       (code-is rest n 6 (omega arith) (omega (arith, le, fits)) (omega arith))
   short_code-is rest bytes le no_digit fits = tt
   short_code-is rest bytes le cut_digits fits = tt
 
   long_code-is : (rest bytes : List ℕ) → 2 + length bytes ≤ length rest → (h : Hex) → HexFits 8 bytes h → PieceIs rest (quoted.long_code h)
-  long_code-is rest bytes le (number n behind) fits = code-is rest n 10 (omega arith) (omega (arith, le, fits)) (omega arith)
+  long_code-is rest bytes le (number n after) fits = code-is rest n 10 (omega arith) (omega (arith, le, fits)) (omega arith)
   long_code-is rest bytes le no_digit fits = tt
   long_code-is rest bytes le cut_digits fits = tt
 
   coded-is : (b e : ℕ) (bytes : List ℕ) (in_clob : Bool) → PieceIs (b ∷ e ∷ bytes) (quoted.coded in_clob e bytes)
   coded-is b e bytes in_clob =
       let rest : List ℕ = b ∷ e ∷ bytes in
-      if-is rest (e == 120) (quoted.byte_code in_clob (hex_behind 2 0 bytes)) _ (byte-is rest bytes in_clob (omega arith) (hex_behind 2 0 bytes) (hex-fits 2 0 bytes))
+      if-is rest (e == 120) (quoted.byte_code in_clob (hex_after 2 0 bytes)) _ (byte-is rest bytes in_clob (omega arith) (hex_after 2 0 bytes) (hex-fits 2 0 bytes))
       (if-is rest in_clob illegal _ tt
-      (if-is rest (e == 117) (quoted.short_code (hex_behind 4 0 bytes)) _ (short_code-is rest bytes (omega arith) (hex_behind 4 0 bytes) (hex-fits 4 0 bytes))
-      (if-is rest (e == 85) (quoted.long_code (hex_behind 8 0 bytes)) illegal (long_code-is rest bytes (omega arith) (hex_behind 8 0 bytes) (hex-fits 8 0 bytes)) tt)))
+      (if-is rest (e == 117) (quoted.short_code (hex_after 4 0 bytes)) _ (short_code-is rest bytes (omega arith) (hex_after 4 0 bytes) (hex-fits 4 0 bytes))
+      (if-is rest (e == 85) (quoted.long_code (hex_after 8 0 bytes)) illegal (long_code-is rest bytes (omega arith) (hex_after 8 0 bytes) (hex-fits 8 0 bytes)) tt)))
 
   letter-is : (b e : ℕ) (bytes : List ℕ) (in_clob : Bool) (o : Option ℕ) → PieceIs (b ∷ e ∷ bytes) (quoted.by_letter o in_clob e bytes)
   letter-is b e bytes in_clob (Some c) = so-many (b ∷ e ∷ bytes) (c ∷ []) 2 (omega arith) (omega arith) (omega arith) (omega arith)
@@ -257,7 +257,7 @@ SizedAt P c x = (length x.0 + length x.1.rest ≤ length c.rest) × P x.0
 abbrev pub Sized : (List ℕ → Type 0) → Cursor → Result (List ℕ × Cursor) Reason → Type 0
 Sized P c o = IfOk o (SizedAt P c)
 
--- it holds of no bytes, and of some behind others
+-- it holds of no bytes, and of some after others
 pub record Joins (P : List ℕ → Type 0) : Type 0 where
   pub none : P []
   pub join : (xs ys : List ℕ) → P xs → P ys → P (xs ++ ys)
@@ -268,15 +268,15 @@ PieceHas P (char bytes taken) = P bytes
 PieceHas P piece = Unit {0}
 
 module _ (P : List ℕ → Type 0) (joins : Joins P) (limit : Option ℕ) where
-  behind-sized : (c d : Cursor) (bytes : List ℕ) (o : Result (List ℕ × Cursor) Reason) → length bytes + length d.rest ≤ length c.rest → P bytes → Sized P d o
+  after-sized : (c d : Cursor) (bytes : List ℕ) (o : Result (List ℕ × Cursor) Reason) → length bytes + length d.rest ≤ length c.rest → P bytes → Sized P d o
       → Sized P c (o >>= (λ others. Ok (bytes ++ others.0, others.1)))
-  behind-sized c d bytes (Ok x) le p s = (omega (arith, le, s.0, length-append bytes x.0), joins.join bytes x.0 p s.1)
-  behind-sized c d bytes (Err reason) le p s = tt
+  after-sized c d bytes (Ok x) le p s = (omega (arith, le, s.0, length-append bytes x.0), joins.join bytes x.0 p s.1)
+  after-sized c d bytes (Err reason) le p s = tt
 
-  -- bytes that are counted, and others behind them
+  -- bytes that are counted, and others after them
   sized-append : (c d : Cursor) (bytes : List ℕ) (count : ℕ) (o : Result (List ℕ × Cursor) Reason) → length bytes + length d.rest ≤ length c.rest → P bytes → Sized P d o
       → Sized P c (refuse (passes limit (count + length bytes)) ScalarLimit >> (o >>= (λ others. Ok (bytes ++ others.0, others.1))))
-  sized-append c d bytes count o le p s = if-passed (SizedAt P c) (passes limit (count + length bytes)) ScalarLimit _ (λ _. behind-sized c d bytes o le p s)
+  sized-append c d bytes count o le p s = if-passed (SizedAt P c) (passes limit (count + length bytes)) ScalarLimit _ (λ _. after-sized c d bytes o le p s)
 
   with_piece-sized : (later : ℕ → Cursor → Result (List ℕ × Cursor) Reason) (q : Quote) (count : ℕ) (c : Cursor) (piece : Piece) → PieceIs q c.rest piece → PieceHas P piece
       → ((n : ℕ) (d : Cursor) → Sized P d (later n d)) → Sized P c (quoted.with_piece later q limit count c piece)
@@ -300,7 +300,7 @@ module _ (P : List ℕ → Type 0) (joins : Joins P) (limit : Option ℕ) where
   with_segments-sized : (later : Cursor → Result (List ℕ × Cursor) Reason) (c : Cursor) (s : List ℕ × Cursor) (o : Option Cursor) → SizedAt P c s → WithinIf s.1 o
       → ((d : Cursor) → Sized P d (later d)) → Sized P c (quoted.with_segments later s o)
   with_segments-sized later c s None le w more = le
-  with_segments-sized later c s (Some d) le w more = behind-sized c d s.0 (later d) (omega (arith, le.0, w)) le.1 (more d)
+  with_segments-sized later c s (Some d) le w more = after-sized c d s.0 (later d) (omega (arith, le.0, w)) le.1 (more d)
 
   segments-sized : (q : Quote) → ((count : ℕ) (c : Cursor) → Sized P c (segment_at q limit count c)) → (most count : ℕ) (c : Cursor) → Sized P c (segments_for most q limit count c)
   unfolding segments_for
@@ -336,7 +336,7 @@ any-text q limit c = text-sized Any any-joins limit q (any-segment q limit) c
 
 -- ---- lobs
 
--- the characters of a group and what stands behind it are no more than there are, and the group has so many at most
+-- the characters of a group and what stands after it are no more than there are, and the group has so many at most
 abbrev GroupIs : ℕ → List ℕ → List ℕ × List ℕ → Type 0
 GroupIs n bytes g = (length g.0 + length g.1 ≤ length bytes) × (length g.0 ≤ n)
 
@@ -421,7 +421,7 @@ module _ (P : List ℕ → Type 0) (joins : Joins P) (limit : Option ℕ) (each_
   groups-sized zero count padded c = tt
   groups-sized (suc most) count padded c =
       let g : List ℕ × List ℕ = group_of 4 c.rest in
-      let d : Cursor = lob.behind_to c g.1 in
+      let d : Cursor = lob.after_to c g.1 in
       let all = group-is 4 c.rest in
       chosen-sized (nat_lt (length g.0) 4) _ _ (last_group-sized c d g.0 (omega (arith, all.0)))
       (λ many. let four : length g.0 ≡ 4 = (let up = ltb-false (length g.0) 4 many in omega (arith, up, all.1)) in
@@ -436,7 +436,7 @@ module _ (P : List ℕ → Type 0) (joins : Joins P) (limit : Option ℕ) (each_
   clob-is : (p : ℕ) (is_long : Bool) (c : Cursor) → IfOk (lob.clob_at limit is_long c) (LobAt P p c)
   clob-is p is_long c =
       if-then (SizedAt P c) _ (text_at (clob_quote is_long) limit c) _ (text-sized P joins limit (clob_quote is_long) (segment-sized P joins limit (clob_quote is_long) (each_piece is_long)) c)
-      (λ t s. let d : Cursor = behind_run (first_is blanks.is_white) t.1 in
+      (λ t s. let d : Cursor = after_run (first_is blanks.is_white) t.1 in
       let w = skip-within (length (run_of (first_is blanks.is_white) t.1.rest).0) t.1 in
       if-then (NoLonger d) _ (lob.clob_closed_at is_long d) _ (if-passed (NoLonger d) (is_long && lob.are_cut_quotes d.rest) Truncated (lob.closed_at d) (λ _. closed-within d))
       (λ e less. (omega (arith, s.0, w, less), s.1)))
@@ -490,15 +490,15 @@ word_of-front (b ∷ bytes) =
     by (b ∷ (run_of in_word bytes).0) (run_of in_word bytes).1 (bytes_eq (codes "null") (b ∷ (run_of in_word bytes).0)) (first_is (λ b. b == 46) (run_of in_word bytes).1) (omega arith)
     (λ point. first-some (λ b. b == 46) (run_of in_word bytes).1 point) (omega (arith, all))
   where
-    by : (word behind : List ℕ) (null point : Bool) → 0 < length word → (point ≡ true → 1 ≤ length behind) → length word + length behind ≤ suc (length bytes)
-        → Front (b ∷ bytes) (if null && point then word ++ 46 ∷ (run_of in_word (drop 1 behind)).0 else word)
-    by word behind true true some there le =
-        let all = run-counts in_word (drop 1 behind) in
+    by : (word after : List ℕ) (null point : Bool) → 0 < length word → (point ≡ true → 1 ≤ length after) → length word + length after ≤ suc (length bytes)
+        → Front (b ∷ bytes) (if null && point then word ++ 46 ∷ (run_of in_word (drop 1 after)).0 else word)
+    by word after true true some there le =
+        let all = run-counts in_word (drop 1 after) in
         let more = there refl in
-        let long = length-append word (46 ∷ (run_of in_word (drop 1 behind)).0) in
-        (omega (arith, le, all, more, long, length-drop 1 behind), λ _. omega (arith, some, long))
-    by word behind true false some there le = (omega (arith, le), λ _. some)
-    by word behind false point some there le = (omega (arith, le), λ _. some)
+        let long = length-append word (46 ∷ (run_of in_word (drop 1 after)).0) in
+        (omega (arith, le, all, more, long, length-drop 1 after), λ _. omega (arith, some, long))
+    by word after true false some there le = (omega (arith, le), λ _. some)
+    by word after false point some there le = (omega (arith, le), λ _. some)
 
 -- ---- tokens
 
@@ -567,7 +567,7 @@ word-named word = by (keyword word)
     by (Some (a_null (Some type))) = tt
     by k = tt
 
--- a text between quotes, behind so many
+-- a text between quotes, after so many
 between-is : (limit : Option ℕ) (first : First) (n : ℕ) (c : Cursor) (q : Quote) (k : List ℕ → Token) → 0 < n → ((bytes : List ℕ) (p r : ℕ) → counts (k bytes) p r ≡ length bytes)
     → ((bytes : List ℕ) (d : Cursor) → length bytes + length d.rest ≤ length c.rest → NameTaken c (k bytes) d)
     → IfOk (text_at q limit (skip n c) >>= (λ t. Ok (k t.0, t.1))) (TokenIs first c)

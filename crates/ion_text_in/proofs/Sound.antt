@@ -5,10 +5,10 @@ use Rattle.ion_meter.specs.declared.limits.Limits.{Limits}
 use Rattle.ion_value.specs.declared.ion_type.Kind.{Kind}
 use Rattle.ion_value.specs.Value.{SymbolAt, Top}
 use Rattle.ion_value.specs.Path.{Path, closed, path_items}
-use Rattle.ion_value.specs.Reading.{Reading, Finished, More, items_of, Step, Ends, Stops, Gives, GoesOn, next_reading, reading_by, behind}
+use Rattle.ion_value.specs.Reading.{Reading, Finished, More, items_of, Step, Ends, Stops, Gives, GoesOn, next_reading, reading_by, items_then}
 use Rattle.ion_meter.specs.Sources.{Cursor}
-use Rattle.ion_value.proofs.ReadingLaws.{ending_of-behind}
-use Rattle.ion_value.proofs.Readings.{behind-append, reading_by-step, reading_by-gives, reading_by-goes_on, items_of-behind}
+use Rattle.ion_value.proofs.ReadingLaws.{ending_of-items_then}
+use Rattle.ion_value.proofs.Readings.{items_then-append, reading_by-step, reading_by-gives, reading_by-goes_on, items_of-items_then}
 use Rattle.ion_text_in.specs.Positions.{Wants, a_value, State}
 use Rattle.ion_text_in.specs.Reading.{step, size, start, reading}
 use Rattle.ion_text_in.specs.Grammar.{Field, Annotations, Tops, Stream, start_of}
@@ -38,7 +38,7 @@ spells-tops _ _ _ (Spells.inside path field annotations p k members s f ns tok i
 pub at-whole : (bytes : List ℕ) (path : Path SymbolAt ℕ) (s : State) → At bytes path s → Follows bytes path s Ends → IsWhole bytes path
 at-whole bytes path s stands ends =
     let tops = spells-tops path s.kinds stands.full stands.spells ends.0 in
-    let same : s.cursor ≡ stands.behind = begun-nothing s.kinds stands.full s.wants stands.begun ends.1 in (
+    let same : s.cursor ≡ stands.after = begun-nothing s.kinds stands.full s.wants stands.begun ends.1 in (
       tops.0,
       tops.1,
       record {
@@ -50,12 +50,12 @@ at-whole bytes path s stands ends =
       },
     )
 
-pub at-path : (bytes : List ℕ) (path : Path SymbolAt ℕ) (s : State) (stands : At bytes path s) → IsPath bytes stands.behind.place path
-at-path bytes path s stands = record { kinds = s.kinds; full = stands.full; behind = stands.behind; place = refl; spells = stands.spells }
+pub at-path : (bytes : List ℕ) (path : Path SymbolAt ℕ) (s : State) (stands : At bytes path s) → IsPath bytes stands.after.place path
+at-path bytes path s stands = record { kinds = s.kinds; full = stands.full; after = stands.after; place = refl; spells = stands.spells }
 
 -- before the first byte
 at-start : (bytes : List ℕ) → At bytes (closed []) (start bytes)
-at-start bytes = record { full = false; behind = start_of bytes; spells = Spells.top Tops.nothing; begun = in_item Field.at_top Annotations.nothing; top = tt }
+at-start bytes = record { full = false; after = start_of bytes; spells = Spells.top Tops.nothing; begun = in_item Field.at_top Annotations.nothing; top = tt }
 
 -- ---- from path to path
 
@@ -71,13 +71,13 @@ pub record Walked (limits wide : Limits) (bytes : List ℕ) : Type 0 where
   pub state : State
   pub stands : At bytes path state
   pub last : IsLast (step limits state)
-  pub short : reading limits bytes ≡ behind (path_items path) (reading_by (step limits) size state)
-  pub long : reading wide bytes ≡ behind (path_items path) (reading_by (step wide) size state)
+  pub short : reading limits bytes ≡ items_then (path_items path) (reading_by (step limits) size state)
+  pub long : reading wide bytes ≡ items_then (path_items path) (reading_by (step wide) size state)
 
 module _ (limits wide : Limits) (within : AreWithin limits wide) (bytes : List ℕ) where
-  -- from a state behind a path on
+  -- from a state after a path on
   abbrev WalksFrom : Path SymbolAt ℕ → State → Type 0
-  WalksFrom path s = reading limits bytes ≡ behind (path_items path) (reading_by (step limits) size s) → reading wide bytes ≡ behind (path_items path) (reading_by (step wide) size s)
+  WalksFrom path s = reading limits bytes ≡ items_then (path_items path) (reading_by (step limits) size s) → reading wide bytes ≡ items_then (path_items path) (reading_by (step wide) size s)
       → Walked limits wide bytes
 
   next-walks : (path : Path SymbolAt ℕ) (s : State) (x y : Step State) → At bytes path s → step limits s ≡ x → step wide s ≡ y → StepCut limits s x y → Follows bytes path s x
@@ -86,15 +86,15 @@ module _ (limits wide : Limits) (within : AreWithin limits wide) (bytes : List �
   next-walks path s (Stops why place) y stands e g cut follows h r w = record { path = path; state = s; stands = stands; last = subst IsLast (sym e) tt; short = r; long = w }
   next-walks path s (Gives item after) _ stands e g (same_step _ less) follows h r w =
       h follows.0 after follows.1 less
-      (r ∙ ap (behind (path_items path)) (reading_by-gives (step limits) size (each_step_falls limits) s after item e) ∙ further (reading_by (step limits) size after))
-      (w ∙ ap (behind (path_items path)) (reading_by-gives (step wide) size (each_step_falls wide) s after item g) ∙ further (reading_by (step wide) size after))
+      (r ∙ ap (items_then (path_items path)) (reading_by-gives (step limits) size (each_step_falls limits) s after item e) ∙ further (reading_by (step limits) size after))
+      (w ∙ ap (items_then (path_items path)) (reading_by-gives (step wide) size (each_step_falls wide) s after item g) ∙ further (reading_by (step wide) size after))
     where
-      further : (t : Reading) → behind (path_items path) (More item t) ≡ behind (path_items follows.0) t
-      further t = sym (behind-append (path_items path) (item ∷ []) t) ∙ ap (λ items. behind items t) (sym follows.2)
+      further : (t : Reading) → items_then (path_items path) (More item t) ≡ items_then (path_items follows.0) t
+      further t = sym (items_then-append (path_items path) (item ∷ []) t) ∙ ap (λ items. items_then items t) (sym follows.2)
   next-walks path s (GoesOn after) _ stands e g (same_step _ less) follows h r w =
       h path after follows less
-      (r ∙ ap (behind (path_items path)) (reading_by-goes_on (step limits) size (each_step_falls limits) s after e))
-      (w ∙ ap (behind (path_items path)) (reading_by-goes_on (step wide) size (each_step_falls wide) s after g))
+      (r ∙ ap (items_then (path_items path)) (reading_by-goes_on (step limits) size (each_step_falls limits) s after e))
+      (w ∙ ap (items_then (path_items path)) (reading_by-goes_on (step wide) size (each_step_falls wide) s after g))
 
   steps-walk : (n : ℕ) (path : Path SymbolAt ℕ) (s : State) → At bytes path s → size s < n → WalksFrom path s
   steps-walk zero path s stands fuel r w = absurd (omega (arith, fuel))
@@ -115,19 +115,19 @@ last-read limits s = reading_by-step (step limits) size (each_step_falls limits)
 pub sound : Sound
 sound limits bytes =
     let w = walk limits limits (record { depth = omega arith; scalar = omega arith }) bytes in
-    let read : reading limits bytes ≡ behind (path_items w.path) (next_reading (reading_by (step limits) size) (step limits w.state)) = w.short ∙ ap (behind (path_items w.path)) (last-read limits w.state) in
+    let read : reading limits bytes ≡ items_then (path_items w.path) (next_reading (reading_by (step limits) size) (step limits w.state)) = w.short ∙ ap (items_then (path_items w.path)) (last-read limits w.state) in
     let all = by w.path w.state w.stands (step limits w.state) w.last (step-follows limits bytes w.path w.state w.stands) in
     record {
       path = w.path;
-      place = w.stands.behind.place;
+      place = w.stands.after.place;
       is_path = at-path bytes w.path w.state w.stands;
-      items = ap items_of read ∙ items_of-behind (path_items w.path) _ ∙ ap (λ items. path_items w.path ++ items) all.0 ∙ append-nil (path_items w.path);
-      whole = λ e. all.1 (sym (ending_of-behind (path_items w.path) _) ∙ sym (ap ending_of read) ∙ e);
+      items = ap items_of read ∙ items_of-items_then (path_items w.path) _ ∙ ap (λ items. path_items w.path ++ items) all.0 ∙ append-nil (path_items w.path);
+      whole = λ e. all.1 (sym (ending_of-items_then (path_items w.path) _) ∙ sym (ap ending_of read) ∙ e);
     }
   where
     by : (path : Path SymbolAt ℕ) (s : State) → At bytes path s → (o : Step State) → IsLast o → Follows bytes path s o
         → (items_of (next_reading (reading_by (step limits) size) o) ≡ []) × (ending_of (next_reading (reading_by (step limits) size) o) ≡ Finished → IsWhole bytes path)
     by path s stands Ends last follows = (refl, λ e. at-whole bytes path s stands follows)
     by path s stands (Stops why place) last follows = (refl, λ e. absurd (cc e))
-    by path s stands (Gives item after) last follows = absurd last
-    by path s stands (GoesOn after) last follows = absurd last
+    by path s stands (Gives item next) last follows = absurd last
+    by path s stands (GoesOn next) last follows = absurd last

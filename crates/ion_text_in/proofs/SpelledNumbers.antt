@@ -20,22 +20,22 @@ value-digit b e = grind (arith, nat_tests)
 one-on : (n v l m rest : ℕ) → m ≡ l → (n * 10 + v) * 10 ^ l + rest ≡ n * 10 ^ suc l + (v * 10 ^ m + rest)
 one-on n v l m rest e = rw (e, pow-suc) (omega arith)
 
-number-behind : (n : ℕ) (ds : List ℕ) → all_are is_digit ds ≡ true → number_after n ds ≡ n * 10 ^ length ds + spelled_by ds
-number-behind n [] e = rw pow-zero (omega arith)
-number-behind n (d ∷ ds) e =
+number-after : (n : ℕ) (ds : List ℕ) → all_are is_digit ds ≡ true → number_after n ds ≡ n * 10 ^ length ds + spelled_by ds
+number-after n [] e = rw pow-zero (omega arith)
+number-after n (d ∷ ds) e =
     let parts = and_parts (is_digit d) (all_are is_digit ds) e in
-    number-behind (n * 10 + (d - 48)) ds parts.1
+    number-after (n * 10 + (d - 48)) ds parts.1
     ∙ ap (λ (v : ℕ). (n * 10 + v) * 10 ^ length ds + spelled_by ds) (value-digit d parts.0)
     ∙ one-on n (digit_value d) (length ds) (length (map digit_value ds)) (spelled_by ds) (length-map ds digit_value)
 
 number-is : (ds : List ℕ) → all_are is_digit ds ≡ true → number_after 0 ds ≡ spelled_by ds
-number-is ds e = let behind = number-behind 0 ds e in omega (arith, behind)
+number-is ds e = let after = number-after 0 ds e in omega (arith, after)
 
 pub after-both : (k : ℕ) (ds : List ℕ) → all_are is_digit ds ≡ true → number_after 0 (take k ds) * 10 ^ length (drop k ds) + number_after 0 (drop k ds) ≡ number_after 0 ds
 after-both k ds e =
-    let behind = (cut-digits k ds e).1 in
-    ap (λ (m : ℕ). number_after 0 (take k ds) * 10 ^ length (drop k ds) + m) (number-is (drop k ds) behind)
-    ∙ sym (number-behind (number_after 0 (take k ds)) (drop k ds) behind)
+    let after = (cut-digits k ds e).1 in
+    ap (λ (m : ℕ). number_after 0 (take k ds) * 10 ^ length (drop k ds) + m) (number-is (drop k ds) after)
+    ∙ sym (number-after (number_after 0 (take k ds)) (drop k ds) after)
     ∙ after-front 0 k ds
 
 after-least : (n : ℕ) (ds : List ℕ) → n ≤ number_after n ds
@@ -44,7 +44,7 @@ after-least n (d ∷ ds) = let more = after-least (n * 10 + (d - 48)) ds in omeg
 
 -- ---- zeros
 
--- no zero stands before another digit or an underscore, or alone behind a minus
+-- no zero stands before another digit or an underscore, or alone after a minus
 abbrev pub HasNoZero : Bool → List ℕ → Type 0
 HasNoZero negative bytes =
     (first_is (λ b. b == 48) bytes && (first_is (λ b. is_digit b || b == 95) (drop 1 bytes) || (negative && first_is stops (drop 1 bytes)))) ≡ false
@@ -80,7 +80,7 @@ front-zeros (b ∷ c ∷ bytes) (suc (suc k)) some within digits none = elim (ca
   | inr e ↦ inr e
 ]
 
--- no zero is first behind a minus
+-- no zero is first after a minus
 zero-apart : (bytes : List ℕ) (k : ℕ) → 0 < k → k < length bytes → all_are is_digit (take k bytes) ≡ true → stops (get_or bytes k 0) ≡ true → HasNoZero true bytes
     → first_is (λ b. b == 48) bytes ≡ false
 zero-apart [] k some within digits stop none = absurd (omega (arith, within))
@@ -168,11 +168,11 @@ pub pointed-is : (negative : Bool) (bytes text : List ℕ) (k j : ℕ) → AreWh
     (record { negative = negative; number = number_after (number_after 0 (take k bytes)) (take j (drop (k + 1) bytes)); exponent = Some (signed true j); count = k + 1 + j; canonical = true })
 pointed-is negative bytes text k j so some within digits few is =
     let front = length-take-le k bytes (omega (arith, so.within)) in
-    let behind = length-take-le j (drop (k + 1) bytes) within in
+    let after = length-take-le j (drop (k + 1) bytes) within in
     record {
       int = λ none. absurd (cc none);
       text = λ _.
           decimal-pointed negative (take k bytes) (take j (drop (k + 1) bytes)) text is so.digits digits (omega (arith, front, so.some)) (omega (arith, front, few)) (front-zeros bytes k so.some so.within so.digits so.no_zeros)
-          (omega (arith, behind, some)) (omega (arith, behind, few))
-          ∙ ap (λ (m : ℕ). decimal_text (scaled negative (number_after (number_after 0 (take k bytes)) (take j (drop (k + 1) bytes))) (signed true m))) behind;
+          (omega (arith, after, some)) (omega (arith, after, few))
+          ∙ ap (λ (m : ℕ). decimal_text (scaled negative (number_after (number_after 0 (take k bytes)) (take j (drop (k + 1) bytes))) (signed true m))) after;
     }

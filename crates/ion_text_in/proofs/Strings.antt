@@ -13,12 +13,12 @@ use Rattle.ion_value.specs.Name.{begins_with}
 use Rattle.ion_value.specs.Value as value
 use Rattle.ion_value.specs.Parts.{refuse, ◌>>=◌, ◌>>◌}
 use Rattle.ion_text_in.specs.Quoted as texts
-use Rattle.ion_text_in.specs.Quoted.{Quote, Piece, symbol_quote, short_quote, piece_at, pieces_for, segment_at, segments_for, text_at, with_piece, raw, by_code, byte_code, hex_behind, number}
+use Rattle.ion_text_in.specs.Quoted.{Quote, Piece, symbol_quote, short_quote, piece_at, pieces_for, segment_at, segments_for, text_at, with_piece, raw, by_code, byte_code, hex_after, number}
 use Rattle.ion_text_in.specs.Token as tokens
 use Rattle.ion_text_in.specs.Token.{Token, first_at, token_of}
 use Rattle.ion_text_in.specs.Meaning.{Limit, Allows, at, Escape, Char, Chars, quoted, EndsSymbol, QuotedSymbolIsRead, StringTextIsRead, ClobTextIsRead}
 use Rattle.ion_text_in.proofs.TokenBegins.{no-first}
-use Rattle.ion_text_in.specs.Places.{run_of, behind_run}
+use Rattle.ion_text_in.specs.Places.{run_of, after_run}
 use Rattle.ion_text_in.specs.Blanks.{is_white}
 use Rattle.ion_text_in.specs.Lob as lob
 use Rattle.ion_text_in.specs.Lob.{lob_at}
@@ -40,9 +40,9 @@ by-ascii n taken small =
     let no_surrogate : (nat_le 0xD800 n && nat_le n 0xDFFF) ≡ false = grind (arith, nat_tests) in
     rw (inside, no_surrogate, encode_ascii n small) refl
 
-two-digits : (x y : ℕ) (more : List ℕ) → is_hex_digit x ≡ true → is_hex_digit y ≡ true → hex_behind 2 0 (x ∷ y ∷ more) ≡ number (16 * (16 * 0 + digit_value x) + digit_value y) more
-unfolding hex_behind
-two-digits x y more dx dy = rw (hex_behind, dx, dy) refl
+two-digits : (x y : ℕ) (more : List ℕ) → is_hex_digit x ≡ true → is_hex_digit y ≡ true → hex_after 2 0 (x ∷ y ∷ more) ≡ number (16 * (16 * 0 + digit_value x) + digit_value y) more
+unfolding hex_after
+two-digits x y more dx dy = rw (hex_after, dx, dy) refl
 
 code-read : (quote : ℕ) (in_clob : Bool) (x y : ℕ) (more : List ℕ) → (quote == 92) ≡ false → is_hex_digit x ≡ true → is_hex_digit y ≡ true
     → (in_clob ≡ false → 16 * digit_value x + digit_value y < 128)
@@ -55,7 +55,7 @@ code-read quote in_clob x y more other dx dy small =
     same : 16 * (16 * 0 + digit_value x) + digit_value y ≡ 16 * digit_value x + digit_value y
     same = omega arith
 
-    begin : piece_at (by_quote quote in_clob) (92 ∷ 120 ∷ x ∷ y ∷ more) ≡ byte_code in_clob (hex_behind 2 0 (x ∷ y ∷ more))
+    begin : piece_at (by_quote quote in_clob) (92 ∷ 120 ∷ x ∷ y ∷ more) ≡ byte_code in_clob (hex_after 2 0 (x ∷ y ∷ more))
     begin = rw (piece_at, other) refl
 
     by-kind : (clob : Bool) → (clob ≡ false → 16 * digit_value x + digit_value y < 128)
@@ -161,8 +161,8 @@ text-given quote in_clob limit p q chars bytes rest other are utf8 allows place 
 abbrev made : Token → Cursor → Result (Token × Cursor) Reason
 made t c = Ok (t, c)
 
-behind-quotes : (quote : ℕ) (chars rest : List ℕ) → (chars ++ quote ∷ []) ++ rest ≡ chars ++ quote ∷ rest
-behind-quotes quote chars rest = append_assoc chars (quote ∷ []) rest
+after-quotes : (quote : ℕ) (chars rest : List ℕ) → (chars ++ quote ∷ []) ++ rest ≡ chars ++ quote ∷ rest
+after-quotes quote chars rest = append_assoc chars (quote ∷ []) rest
 
 quoted-place : (p quote : ℕ) (chars : List ℕ) → p + 1 + (length chars + 1) ≡ p + length (quoted quote chars)
 quoted-place p quote chars = omega (arith, length-append chars (quote ∷ []))
@@ -170,7 +170,7 @@ quoted-place p quote chars = omega (arith, length-append chars (quote ∷ []))
 pub string-means : StringTextIsRead
 unfolding first_at token_of
 string-means chars bytes are utf8 limit sexp place rest allows ends =
-    ap (λ (xs : List ℕ). text_at (by_quote 34 false) limit (at (place + 1) xs) >>= (λ t. made (tokens.text t.0) t.1)) (behind-quotes 34 chars rest)
+    ap (λ (xs : List ℕ). text_at (by_quote 34 false) limit (at (place + 1) xs) >>= (λ t. made (tokens.text t.0) t.1)) (after-quotes 34 chars rest)
     ∙ ap (λ (o : Got). o >>= (λ t. made (tokens.text t.0) t.1))
     (text-given 34 false limit (place + 1) (place + length (quoted 34 chars)) chars bytes rest refl are (λ _. utf8) allows (quoted-place place 34 chars))
 
@@ -195,7 +195,7 @@ symbol-first sexp bytes e = ap (λ (long : Bool). if long then tokens.a_long els
 pub symbol-means : QuotedSymbolIsRead
 unfolding token_of
 symbol-means chars bytes are utf8 limit sexp place rest allows ends =
-    ap (λ (xs : List ℕ). tokens.token_at limit sexp (at place (39 ∷ xs))) (behind-quotes 39 chars rest)
+    ap (λ (xs : List ℕ). tokens.token_at limit sexp (at place (39 ∷ xs))) (after-quotes 39 chars rest)
     ∙ ap (λ (f : tokens.First). token_of limit f (at place (39 ∷ (chars ++ 39 ∷ rest)))) (symbol-first sexp (chars ++ 39 ∷ rest) (no-long chars bytes rest are ends))
     ∙ ap (λ (o : Got). o >>= (λ t. made (tokens.name true (value.Text t.0)) t.1))
     (text-given 39 false limit (place + 1) (place + length (quoted 39 chars)) chars bytes rest refl are (λ _. utf8) allows (quoted-place place 39 chars))
@@ -208,9 +208,9 @@ white-run (x ∷ white) b rest all dark =
     let parts = and_parts (is_white x) (all_are is_white white) all in
     run-more (first_is is_white) x (white ++ b ∷ rest) parts.0 ∙ ap (λ (z : List ℕ × List ℕ). (x ∷ z.0, z.1)) (white-run white b rest parts.1 dark)
 
-behind-white : (p : ℕ) (white : List ℕ) (b : ℕ) (rest : List ℕ) → all_are is_white white ≡ true → is_white b ≡ false
-    → behind_run (first_is is_white) (at p (white ++ b ∷ rest)) ≡ at (p + length white) (b ∷ rest)
-behind-white p white b rest all dark =
+after-white : (p : ℕ) (white : List ℕ) (b : ℕ) (rest : List ℕ) → all_are is_white white ≡ true → is_white b ≡ false
+    → after_run (first_is is_white) (at p (white ++ b ∷ rest)) ≡ at (p + length white) (b ∷ rest)
+after-white p white b rest all dark =
     ap (λ (z : List ℕ × List ℕ). skip (length z.0) (at p (white ++ b ∷ rest))) (white-run white b rest all dark) ∙ skip-prefix p white (b ∷ rest)
 
 abbrev body : Scalar SymbolAt → Cursor → Result (Scalar SymbolAt × Cursor) Reason
@@ -220,19 +220,19 @@ clob-given : (limit : Limit) (p q : ℕ) (prefix chars back bytes rest : List �
     → p + length prefix + 1 + (length chars + 1) + length back + 2 ≡ q
     → lob.lob_at limit (at p (prefix ++ 34 ∷ (chars ++ 34 ∷ (back ++ 125 ∷ 125 ∷ rest)))) ≡ body (clob bytes) (at q rest)
 unfolding lob_at
-clob-given limit p q prefix chars back bytes rest white are behind allows place =
+clob-given limit p q prefix chars back bytes rest white are after allows place =
     let r : ℕ = p + length prefix + 1 + (length chars + 1) in
-    ap (λ (c : Cursor). lob.lob_in limit c) (behind-white p prefix 34 (chars ++ 34 ∷ (back ++ 125 ∷ 125 ∷ rest)) white refl)
-    ∙ ap (λ (o : Got). o >>= (λ t. lob.clob_closed_at false (behind_run (first_is is_white) t.1) >>= (λ d. body (clob t.0) d)))
+    ap (λ (c : Cursor). lob.lob_in limit c) (after-white p prefix 34 (chars ++ 34 ∷ (back ++ 125 ∷ 125 ∷ rest)) white refl)
+    ∙ ap (λ (o : Got). o >>= (λ t. lob.clob_closed_at false (after_run (first_is is_white) t.1) >>= (λ d. body (clob t.0) d)))
     (text-given 34 true limit (p + length prefix + 1) r chars bytes (back ++ 125 ∷ 125 ∷ rest) refl are (λ no. absurd (false≢true (sym no))) allows refl)
-    ∙ ap (λ (c : Cursor). lob.clob_closed_at false c >>= (λ d. body (clob bytes) d)) (behind-white r back 125 (125 ∷ rest) behind refl)
+    ∙ ap (λ (c : Cursor). lob.clob_closed_at false c >>= (λ d. body (clob bytes) d)) (after-white r back 125 (125 ∷ rest) after refl)
     ∙ ap (λ (q : ℕ). body (clob bytes) (at q rest)) place
 
 pub clob-means : ClobTextIsRead
 unfolding first_at token_of
-clob-means prefix chars back bytes white are behind limit sexp place rest allows ends =
+clob-means prefix chars back bytes white are after limit sexp place rest allows ends =
     let text : (prefix ++ (quoted 34 chars ++ (back ++ 125 ∷ 125 ∷ []))) ++ rest ≡ prefix ++ 34 ∷ (chars ++ 34 ∷ (back ++ 125 ∷ 125 ∷ rest)) = simp append_assoc refl in
     ap (λ (xs : List ℕ). lob.lob_at limit (at (place + 2) xs) >>= (λ l. made (tokens.plain l.0) l.1)) text
     ∙ ap (λ (o : Result (Scalar SymbolAt × Cursor) Reason). o >>= (λ l. made (tokens.plain l.0) l.1))
-    (clob-given limit (place + 2) (place + length (codes "{{" ++ (prefix ++ (quoted 34 chars ++ (back ++ codes "}}"))))) prefix chars back bytes rest white are behind allows
+    (clob-given limit (place + 2) (place + length (codes "{{" ++ (prefix ++ (quoted 34 chars ++ (back ++ codes "}}"))))) prefix chars back bytes rest white are after allows
     (omega (arith, length-append prefix (quoted 34 chars ++ (back ++ 125 ∷ 125 ∷ [])), length-append chars (34 ∷ []), length-append (chars ++ 34 ∷ []) (back ++ 125 ∷ 125 ∷ []), length-append back (125 ∷ 125 ∷ []))))

@@ -8,15 +8,15 @@ use Rattle.ion_value.specs.Name.{is_identifier_byte, is_one_of}
 use Rattle.ion_text_in.specs.Blanks.{is_white, begins_comment}
 use Rattle.ion_text_in.specs.Token.{in_run, in_word}
 use Rattle.ion_text_in.specs.Overrun.{IsRun}
-use Rattle.ion_text_in.specs.Runs.{GoOn, EndBehind, IsExtent, goes_on, stays, is_sure_in_number}
+use Rattle.ion_text_in.specs.Runs.{GoOn, EndAfter, IsExtent, goes_on, stays, is_sure_in_number}
 use Rattle.ion_text_in.specs.declared.run.Run.{Run}
 use Rattle.ion_text_in.specs.declared.run.Run.TheVariants as run
 use Rattle.ion_text_in.proofs.Meaning.{run-more}
 use Rattle.ion_text_in.proofs.RunEnds.{go-end, stays-on}
 
-pub extent-ended : (kind : Run) (bytes : List ℕ) (n : ℕ) → n < length bytes → GoOn (goes_on kind) bytes n → EndBehind (goes_on kind) bytes n → IsExtent kind bytes (record { len = n; ended = true })
+pub extent-ended : (kind : Run) (bytes : List ℕ) (n : ℕ) → n < length bytes → GoOn (goes_on kind) bytes n → EndAfter (goes_on kind) bytes n → IsExtent kind bytes (record { len = n; ended = true })
 extent-ended kind bytes n less goes ends =
-    record { within = omega (arith, less); behind = λ _. less; goes = goes; ends = λ _. ends; unsure = λ e. absurd (cc e) }
+    record { within = omega (arith, less); after = λ _. less; goes = goes; ends = λ _. ends; unsure = λ e. absurd (cc e) }
 
 module _ (kind : Run) where
   pub all-go : (bytes : List ℕ) (n : ℕ) → n ≤ length bytes → all_are (stays kind) (take n bytes) ≡ true → GoOn (goes_on kind) bytes n

@@ -11,7 +11,7 @@ use Rattle.ion_value.specs.Name.{is_one_of}
 use Rattle.ion_text_in.specs.Scanning.{is_plain_byte}
 use Rattle.ion_text_in.specs.Quotes.{quote_of, mark_of, is_sure}
 use Rattle.ion_text_in.specs.declared.quoted.Quote.{Quote as CodeQuote}
-use Rattle.ion_text_in.proofs.Quotes.{all-behind, plain_mark}
+use Rattle.ion_text_in.proofs.Quotes.{all-after, plain_mark}
 use Rattle.ion_text_in.proofs.Blocks.{all_pass, run_passes, run_ends, run_at}
 
 -- a byte as it is counted round from the space
@@ -94,7 +94,7 @@ module _ (q : CodeQuote) (bytes : List ℕ) (at found : ℕ) (same : found ≡ m
 
   -- over a block without a suspect
   pub over-block : all_are plain (take at bytes) ≡ true → found ≡ 0 → all_are plain (take (at + 32) bytes) ≡ true
-  over-block before none = all-behind plain bytes at 32 before (all-sure q (quote_of q).in_clob (chunk at 32 bytes) (λ _ e. e) (all_pass sure (chunk at 32 bytes) (sym same ∙ none)))
+  over-block before none = all-after plain bytes at 32 before (all-sure q (quote_of q).in_clob (chunk at 32 bytes) (λ _ e. e) (all_pass sure (chunk at 32 bytes) (sym same ∙ none)))
 
   -- up to the first suspect of a block
   pub to-suspect : at + 32 ≤ length bytes → all_are plain (take at bytes) ≡ true → found ≢ 0
@@ -107,10 +107,10 @@ module _ (q : CodeQuote) (bytes : List ℕ) (at found : ℕ) (same : found ≡ m
       let passes = subst (λ (k : ℕ). all_are sure (take k (drop at bytes)) ≡ true) count (run_passes sure (drop at bytes)) in
       let within : prefix_len sure (drop at bytes) < length (drop at bytes) = omega (arith, count, there, length-drop at bytes) in
       let end : first_is sure (drop n (drop at bytes)) ≡ false = subst (λ (k : ℕ). first_is sure (drop k (drop at bytes)) ≡ false) count (run_ends sure (drop at bytes) within) in
-      let behind = rw (drop-drop n at bytes) at end in (
+      let after = rw (drop-drop n at bytes) at end in (
         there,
-        all-behind plain bytes at n before (all-sure q (quote_of q).in_clob (take n (drop at bytes)) (λ _ e. e) passes),
-        from-other sure bytes (at + n) there behind,
+        all-after plain bytes at n before (all-sure q (quote_of q).in_clob (take n (drop at bytes)) (λ _ e. e) passes),
+        from-other sure bytes (at + n) there after,
       )
 
 -- over one byte that is plain
@@ -118,7 +118,7 @@ pub over-one : (test : ℕ → Bool) (bytes : List ℕ) (n : ℕ) → n < length
     → all_are test (take (n + 1) bytes) ≡ true
 over-one test bytes n there before one =
     let cons : drop n bytes ≡ slice_index bytes n ∷ drop (suc n) bytes = drop-cons bytes n 0 there in
-    all-behind test bytes n 1 before (rw (cons, one) refl)
+    all-after test bytes n 1 before (rw (cons, one) refl)
 
 -- ---- a text of ASCII alone, in one block
 

@@ -31,29 +31,29 @@ unfolding token_of
 long-token limit c = refl
 
 -- what a call on a part answers, for the whole
-pub continues-answers : {T A B : Type 0} (view : T → A) (r : Result T Fault) (behind : Cursor) (place there : ℕ) (one : Result B Reason) (after : T → Result B Reason) (all : Result (A × Cursor) Reason) → place ≡ there
-    → ((x : T) → one ≡ after x → all ≡ Ok (view x, behind)) → ((e : Reason) → one ≡ Err e → all ≡ Err e) → Continues r place one after → Answers view r behind there all
-continues-answers view (Ok x) behind place there one after all is whole refused h = whole x h
-continues-answers view (Err (Refused reason at)) behind place there one after all is whole refused h = (refused reason h.0, h.1 ∙ is)
-continues-answers view (Err Memory) behind place there one after all is whole refused h = tt
-continues-answers view (Err ReadFault) behind place there one after all is whole refused h = tt
-continues-answers view (Err WriteFault) behind place there one after all is whole refused h = tt
-continues-answers view (Err InputLimit) behind place there one after all is whole refused h = tt
+pub continues-answers : {T A B : Type 0} (view : T → A) (r : Result T Fault) (after : Cursor) (place there : ℕ) (one : Result B Reason) (next : T → Result B Reason) (all : Result (A × Cursor) Reason) → place ≡ there
+    → ((x : T) → one ≡ next x → all ≡ Ok (view x, after)) → ((e : Reason) → one ≡ Err e → all ≡ Err e) → Continues r place one next → Answers view r after there all
+continues-answers view (Ok x) after place there one next all is whole refused h = whole x h
+continues-answers view (Err (Refused reason at)) after place there one next all is whole refused h = (refused reason h.0, h.1 ∙ is)
+continues-answers view (Err Memory) after place there one next all is whole refused h = tt
+continues-answers view (Err ReadFault) after place there one next all is whole refused h = tt
+continues-answers view (Err WriteFault) after place there one next all is whole refused h = tt
+continues-answers view (Err InputLimit) after place there one next all is whole refused h = tt
 
 -- the fault of a text is the token's
-pub text-refused : (fault : Fault) (text : List ℕ) (f : List ℕ → Token) (place : ℕ) (behind : Cursor) (o : Spelled) (given : Result (Token × Cursor) Reason) → given ≡ made f o
-    → ((reason : Reason) (at : ℕ) → fault ≡ Refused reason at → (o ≡ Err reason) × (at ≡ place)) → TokenGives text place (Err fault) behind given
-text-refused (Refused reason at) text f place behind o given is refused = let h = refused reason at refl in (is ∙ ap (made f) h.0, h.1)
-text-refused Memory text f place behind o given is refused = tt
-text-refused ReadFault text f place behind o given is refused = tt
-text-refused WriteFault text f place behind o given is refused = tt
-text-refused InputLimit text f place behind o given is refused = tt
+pub text-refused : (fault : Fault) (text : List ℕ) (f : List ℕ → Token) (place : ℕ) (after : Cursor) (o : Spelled) (given : Result (Token × Cursor) Reason) → given ≡ made f o
+    → ((reason : Reason) (at : ℕ) → fault ≡ Refused reason at → (o ≡ Err reason) × (at ≡ place)) → TokenGives text place (Err fault) after given
+text-refused (Refused reason at) text f place after o given is refused = let h = refused reason at refl in (is ∙ ap (made f) h.0, h.1)
+text-refused Memory text f place after o given is refused = tt
+text-refused ReadFault text f place after o given is refused = tt
+text-refused WriteFault text f place after o given is refused = tt
+text-refused InputLimit text f place after o given is refused = tt
 
 -- the fault of a segment is the text's
-pub overruns-refused : {T A B : Type 0} (f : Fault) (in_clob : Bool) (text : A) (behind : Cursor) (place : ℕ) (one : Result B Reason) (after : T → Result B Reason) (all : Result (A × Cursor) Reason)
-    → Continues (Err f) place one after → ((e : Reason) → one ≡ Err e → all ≡ Err e) → Overruns in_clob text (Err f) behind place all
-overruns-refused (Refused reason at) in_clob text behind place one after all h refused = (refused reason h.0, h.1)
-overruns-refused Memory in_clob text behind place one after all h refused = tt
-overruns-refused ReadFault in_clob text behind place one after all h refused = tt
-overruns-refused WriteFault in_clob text behind place one after all h refused = tt
-overruns-refused InputLimit in_clob text behind place one after all h refused = tt
+pub overruns-refused : {T A B : Type 0} (f : Fault) (in_clob : Bool) (text : A) (after : Cursor) (place : ℕ) (one : Result B Reason) (next : T → Result B Reason) (all : Result (A × Cursor) Reason)
+    → Continues (Err f) place one next → ((e : Reason) → one ≡ Err e → all ≡ Err e) → Overruns in_clob text (Err f) after place all
+overruns-refused (Refused reason at) in_clob text after place one next all h refused = (refused reason h.0, h.1)
+overruns-refused Memory in_clob text after place one next all h refused = tt
+overruns-refused ReadFault in_clob text after place one next all h refused = tt
+overruns-refused WriteFault in_clob text after place one next all h refused = tt
+overruns-refused InputLimit in_clob text after place one next all h refused = tt

@@ -84,12 +84,12 @@ number-is : (b : ℕ) (bytes : List ℕ) → begins_run b bytes ≡ true → Beg
 number-is b bytes e = elim (or_cases (is_digit b) (b == 45 && first_is is_digit bytes) e) [
   | inl d ↦ BeginsNumber.digit (digit-is b d)
   | inr minus ↦ (let parts = and_parts (b == 45) (first_is is_digit bytes) minus in
-      subst (λ (b : ℕ). BeginsNumber (b ∷ bytes)) (sym (eqb-true b 45 parts.0)) (behind bytes parts.1))
+      subst (λ (b : ℕ). BeginsNumber (b ∷ bytes)) (sym (eqb-true b 45 parts.0)) (after bytes parts.1))
 ]
   where
-    behind : (bytes : List ℕ) → first_is is_digit bytes ≡ true → BeginsNumber (45 ∷ bytes)
-    behind [] e = absurd (false≢true e)
-    behind (c ∷ bytes) e = BeginsNumber.minus (digit-is c e)
+    after : (bytes : List ℕ) → first_is is_digit bytes ≡ true → BeginsNumber (45 ∷ bytes)
+    after [] e = absurd (false≢true e)
+    after (c ∷ bytes) e = BeginsNumber.minus (digit-is c e)
 
 pub ends-from : {bytes : List ℕ} → EndsIdentifier bytes → not (first_is is_identifier_byte bytes) ≡ true
 ends-from EndsIdentifier.end = refl
@@ -163,7 +163,7 @@ second-colon : {sexp : Bool} (bytes : List ℕ) → first_is (λ c. c == 58) byt
 second-colon [] e = absurd (false≢true e)
 second-colon {sexp} (c ∷ bytes) e = subst (λ (c : ℕ). TokenBegins sexp (58 ∷ c ∷ bytes) two_colons) (sym (eqb-true c 58 e)) TokenBegins.colons
 
--- behind a byte that is the first of two, the second is not the same
+-- after a byte that is the first of two, the second is not the same
 second-not : (b : ℕ) (bytes cs : List ℕ) (c : ℕ) → begins_with (c ∷ cs) (b ∷ bytes) ≡ false → (b == c) ≡ true → BeginsNot cs bytes
 second-not b bytes cs c none same more is =
     prefix-not (c ∷ cs) (b ∷ bytes) none more (ap (λ (bytes : List ℕ). b ∷ bytes) is ∙ ap (λ (b : ℕ). b ∷ (cs ++ more)) (eqb-true b c same))

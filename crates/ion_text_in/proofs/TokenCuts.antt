@@ -25,7 +25,7 @@ use Rattle.ion_value.specs.Value.{SymbolAt, Scalar}
 use Rattle.ion_value.proofs.Faults.{Blames, bind_blames, then_blames, if_blames, is_limit, Free, free, fault_free, refuse_free, either-free, years-free}
 use Rattle.ion_meter.specs.Sources.{Cursor, skip}
 use Rattle.ion_value.specs.Parts.{refuse, ◌>>=◌, ◌>>◌}
-use Rattle.ion_text_in.specs.Places.{behind_run}
+use Rattle.ion_text_in.specs.Places.{after_run}
 use Rattle.ion_text_in.specs.Limit.{passes}
 use Rattle.ion_text_in.specs.Blanks.{is_white}
 use Rattle.ion_text_in.specs.Quoted.{Quote, symbol_quote, short_quote, long_quote, Piece, char, close, illegal, cut, piece_at, with_piece, pieces_for, segment_at, next_segment, with_segments, segments_for, text_at}
@@ -171,8 +171,8 @@ decoded-free padded None = fault_free reason.BadLob refl
 -- ---- under two limits
 
 -- bytes count with those before them
-abbrev behind : ℕ → List ℕ × Cursor → ℕ
-behind count x = count + length x.0
+abbrev after : ℕ → List ℕ × Cursor → ℕ
+after count x = count + length x.0
 
 -- what the scalar of a token at a place counts
 abbrev scalar_counts : ℕ → Scalar SymbolAt × Cursor → ℕ
@@ -238,13 +238,13 @@ module _ (limits wide : Option ℕ) (within : (n : ℕ) → passes wide n ≡ tr
       by false true e f = absurd (cc (sym e ∙ within n f))
       by false false e f = h e
 
-  -- bytes that are counted, and others behind them
-  join-cut : (count : ℕ) (bytes : List ℕ) (r w : Result (List ℕ × Cursor) Reason) → (passes limits (count + length bytes) ≡ false → Short (behind (count + length bytes)) r w)
-      → Short (behind count) (refuse (passes limits (count + length bytes)) reason.ScalarLimit >> (r >>= (λ others. Ok (bytes ++ others.0, others.1))))
+  -- bytes that are counted, and others after them
+  join-cut : (count : ℕ) (bytes : List ℕ) (r w : Result (List ℕ × Cursor) Reason) → (passes limits (count + length bytes) ≡ false → Short (after (count + length bytes)) r w)
+      → Short (after count) (refuse (passes limits (count + length bytes)) reason.ScalarLimit >> (r >>= (λ others. Ok (bytes ++ others.0, others.1))))
       (refuse (passes wide (count + length bytes)) reason.ScalarLimit >> (w >>= (λ others. Ok (bytes ++ others.0, others.1))))
   join-cut count bytes r w h =
-      passed-cut (behind count) (count + length bytes) _ _ (if-any _ w _ (λ x. omega (arith, length-append bytes x.0)))
-      (λ kept. map-cut (behind (count + length bytes)) (behind count) r w (λ others. (bytes ++ others.0, others.1)) (λ x. omega (arith, length-append bytes x.0)) (h kept))
+      passed-cut (after count) (count + length bytes) _ _ (if-any _ w _ (λ x. omega (arith, length-append bytes x.0)))
+      (λ kept. map-cut (after (count + length bytes)) (after count) r w (λ others. (bytes ++ others.0, others.1)) (λ x. omega (arith, length-append bytes x.0)) (h kept))
 
   -- ---- texts
 
@@ -252,87 +252,87 @@ module _ (limits wide : Option ℕ) (within : (n : ℕ) → passes wide n ≡ tr
   nothing count kept = passes-fewer limits (count + 0) count (omega arith) kept
 
   with_piece-cut : (later more : ℕ → Cursor → Result (List ℕ × Cursor) Reason) (q : Quote) (count : ℕ) (c : Cursor) (piece : Piece) → passes limits count ≡ false
-      → ((n : ℕ) (d : Cursor) → passes limits n ≡ false → Short (behind n) (later n d) (more n d)) → Short (behind count) (with_piece later q limits count c piece) (with_piece more q wide count c piece)
+      → ((n : ℕ) (d : Cursor) → passes limits n ≡ false → Short (after n) (later n d) (more n d)) → Short (after count) (with_piece later q limits count c piece) (with_piece more q wide count c piece)
   with_piece-cut later more q count c (char bytes taken) kept h =
       join-cut count bytes (later (count + length bytes) (skip taken c)) (more (count + length bytes) (skip taken c)) (h (count + length bytes) (skip taken c))
   with_piece-cut later more q count c (close taken) kept h = same _ (nothing count kept)
   with_piece-cut later more q count c illegal kept h = by q.in_clob
     where
-      by : (in_clob : Bool) → Short (behind count) (Err (if in_clob then reason.BadLob else reason.BadText)) (Err (if in_clob then reason.BadLob else reason.BadText))
-      by true = bad (behind count) reason.BadLob refl
-      by false = bad (behind count) reason.BadText refl
-  with_piece-cut later more q count c cut kept h = bad (behind count) reason.Truncated refl
+      by : (in_clob : Bool) → Short (after count) (Err (if in_clob then reason.BadLob else reason.BadText)) (Err (if in_clob then reason.BadLob else reason.BadText))
+      by true = bad (after count) reason.BadLob refl
+      by false = bad (after count) reason.BadText refl
+  with_piece-cut later more q count c cut kept h = bad (after count) reason.Truncated refl
 
-  pieces-cut : (most : ℕ) (q : Quote) (count : ℕ) (c : Cursor) → passes limits count ≡ false → Short (behind count) (pieces_for most q limits count c) (pieces_for most q wide count c)
+  pieces-cut : (most : ℕ) (q : Quote) (count : ℕ) (c : Cursor) → passes limits count ≡ false → Short (after count) (pieces_for most q limits count c) (pieces_for most q wide count c)
   unfolding pieces_for
-  pieces-cut zero q count c kept = bad (behind count) reason.Truncated refl
+  pieces-cut zero q count c kept = bad (after count) reason.Truncated refl
   pieces-cut (suc most) q count c kept =
       with_piece-cut (λ n d. pieces_for most q limits n d) (λ n d. pieces_for most q wide n d) q count c (piece_at q c.rest) kept (λ n d less. pieces-cut most q n d less)
 
-  segment-cut : (q : Quote) (count : ℕ) (c : Cursor) → passes limits count ≡ false → Short (behind count) (segment_at q limits count c) (segment_at q wide count c)
+  segment-cut : (q : Quote) (count : ℕ) (c : Cursor) → passes limits count ≡ false → Short (after count) (segment_at q limits count c) (segment_at q wide count c)
   unfolding segment_at
   segment-cut q count c kept =
-      onward (behind count) (behind count) (pieces_for (suc (length c.rest)) q limits count c) (pieces_for (suc (length c.rest)) q wide count c) _ _ (pieces-cut (suc (length c.rest)) q count c kept)
+      onward (after count) (after count) (pieces_for (suc (length c.rest)) q limits count c) (pieces_for (suc (length c.rest)) q wide count c) _ _ (pieces-cut (suc (length c.rest)) q count c kept)
       (λ s. if-passed _ (not (q.in_clob || is_utf8 s.0)) reason.BadText (Ok s) (λ _. omega arith))
-      (λ s less. then-cut (behind count) (refuse (not (q.in_clob || is_utf8 s.0)) reason.BadText) (Ok s) (refuse_free (not (q.in_clob || is_utf8 s.0)) reason.BadText refl) less)
+      (λ s less. then-cut (after count) (refuse (not (q.in_clob || is_utf8 s.0)) reason.BadText) (Ok s) (refuse_free (not (q.in_clob || is_utf8 s.0)) reason.BadText refl) less)
 
   with_segments-cut : (later more : Cursor → Result (List ℕ × Cursor) Reason) (count : ℕ) (s : List ℕ × Cursor) (o : Option Cursor) → passes limits (count + length s.0) ≡ false
-      → ((d : Cursor) → Short (behind (count + length s.0)) (later d) (more d)) → Short (behind count) (with_segments later s o) (with_segments more s o)
+      → ((d : Cursor) → Short (after (count + length s.0)) (later d) (more d)) → Short (after count) (with_segments later s o) (with_segments more s o)
   with_segments-cut later more count s None kept h = same _ kept
   with_segments-cut later more count s (Some d) kept h =
-      map-cut (behind (count + length s.0)) (behind count) (later d) (more d) (λ others. (s.0 ++ others.0, others.1)) (λ x. omega (arith, length-append s.0 x.0)) (h d)
+      map-cut (after (count + length s.0)) (after count) (later d) (more d) (λ others. (s.0 ++ others.0, others.1)) (λ x. omega (arith, length-append s.0 x.0)) (h d)
 
   with_segments-more : (more : Cursor → Result (List ℕ × Cursor) Reason) (count : ℕ) (s : List ℕ × Cursor) (o : Option Cursor) → IfOk (with_segments more s o) (λ y. count + length s.0 ≤ count + length y.0)
   with_segments-more more count s None = omega arith
   with_segments-more more count s (Some d) = if-any _ (more d) _ (λ x. omega (arith, length-append s.0 x.0))
 
-  segments-cut : (most : ℕ) (q : Quote) (count : ℕ) (c : Cursor) → passes limits count ≡ false → Short (behind count) (segments_for most q limits count c) (segments_for most q wide count c)
+  segments-cut : (most : ℕ) (q : Quote) (count : ℕ) (c : Cursor) → passes limits count ≡ false → Short (after count) (segments_for most q limits count c) (segments_for most q wide count c)
   unfolding segments_for
-  segments-cut zero q count c kept = bad (behind count) reason.Truncated refl
+  segments-cut zero q count c kept = bad (after count) reason.Truncated refl
   segments-cut (suc most) q count c kept =
-      onward (behind count) (behind count) (segment_at q limits count c) (segment_at q wide count c) _ _ (segment-cut q count c kept)
+      onward (after count) (after count) (segment_at q limits count c) (segment_at q wide count c) _ _ (segment-cut q count c kept)
       (λ s. with_segments-more (λ d. segments_for most q wide (count + length s.0) d) count s (next_segment q s.1))
       (λ s less. with_segments-cut (λ d. segments_for most q limits (count + length s.0) d) (λ d. segments_for most q wide (count + length s.0) d) count s (next_segment q s.1) less
       (λ d. segments-cut most q (count + length s.0) d less))
 
-  text-cut : (q : Quote) (c : Cursor) → Short (behind 0) (text_at q limits c) (text_at q wide c)
+  text-cut : (q : Quote) (c : Cursor) → Short (after 0) (text_at q limits c) (text_at q wide c)
   text-cut q c = segments-cut (suc (length c.rest)) q 0 c (passes-none limits)
 
   -- ---- lobs
 
-  last_group-cut : (count : ℕ) (group : List ℕ) (c : Cursor) → passes limits count ≡ false → Short (behind count) (lob.last_group group c) (lob.last_group group c)
-  last_group-cut count [] c kept = before-cut (behind count) (lob.closed_at c) _ _ (closed-free c) (λ d. same _ (nothing count kept))
-  last_group-cut count (b ∷ group) c kept = then-cut (behind count) (lob.closed_at c) (Err reason.BadLob) (closed-free c) (free reason.BadLob refl)
+  last_group-cut : (count : ℕ) (group : List ℕ) (c : Cursor) → passes limits count ≡ false → Short (after count) (lob.last_group group c) (lob.last_group group c)
+  last_group-cut count [] c kept = before-cut (after count) (lob.closed_at c) _ _ (closed-free c) (λ d. same _ (nothing count kept))
+  last_group-cut count (b ∷ group) c kept = then-cut (after count) (lob.closed_at c) (Err reason.BadLob) (closed-free c) (free reason.BadLob refl)
 
-  groups-cut : (most count : ℕ) (padded : Bool) (c : Cursor) → passes limits count ≡ false → Short (behind count) (groups_for most limits count padded c) (groups_for most wide count padded c)
+  groups-cut : (most count : ℕ) (padded : Bool) (c : Cursor) → passes limits count ≡ false → Short (after count) (groups_for most limits count padded c) (groups_for most wide count padded c)
   unfolding groups_for
-  groups-cut zero count padded c kept = bad (behind count) reason.Truncated refl
+  groups-cut zero count padded c kept = bad (after count) reason.Truncated refl
   groups-cut (suc most) count padded c kept =
       let g : List ℕ × List ℕ = group_of 4 c.rest in
-      let d : Cursor = lob.behind_to c g.1 in
-      cut-if (behind count) (nat_lt (length g.0) 4) _ _ _ _ (last_group-cut count g.0 d kept)
-      (before-cut (behind count) (lob.group_bytes padded g.0) _ _ (decoded-free padded (decoded_of standard g.0))
+      let d : Cursor = lob.after_to c g.1 in
+      cut-if (after count) (nat_lt (length g.0) 4) _ _ _ _ (last_group-cut count g.0 d kept)
+      (before-cut (after count) (lob.group_bytes padded g.0) _ _ (decoded-free padded (decoded_of standard g.0))
       (λ bytes. join-cut count bytes (groups_for most limits (count + length bytes) (nat_lt (length bytes) 3) d) (groups_for most wide (count + length bytes) (nat_lt (length bytes) 3) d)
       (λ less. groups-cut most (count + length bytes) (nat_lt (length bytes) 3) d less)))
 
   clob-cut : (p : ℕ) (is_long : Bool) (c : Cursor) → Short (scalar_counts p) (lob.clob_at limits is_long c) (lob.clob_at wide is_long c)
   clob-cut p is_long c =
       let q : Quote = if is_long then long_quote true else short_quote true in
-      onward (behind 0) (scalar_counts p) (text_at q limits c) (text_at q wide c) _ _ (text-cut q c)
-      (λ t. if-any _ (lob.clob_closed_at is_long (behind_run (first_is is_white) t.1)) _ (λ d. omega arith))
-      (λ t kept. let d : Cursor = behind_run (first_is is_white) t.1 in
+      onward (after 0) (scalar_counts p) (text_at q limits c) (text_at q wide c) _ _ (text-cut q c)
+      (λ t. if-any _ (lob.clob_closed_at is_long (after_run (first_is is_white) t.1)) _ (λ d. omega arith))
+      (λ t kept. let d : Cursor = after_run (first_is is_white) t.1 in
       before-cut (scalar_counts p) (lob.clob_closed_at is_long d) _ _ (then_blames Free (refuse _ reason.Truncated) (lob.closed_at d) (refuse_free _ reason.Truncated refl) (closed-free d))
       (λ e. same _ (passes-fewer limits (length t.0) (0 + length t.0) (omega arith) kept)))
 
   blob-cut : (p : ℕ) (c : Cursor) → Short (scalar_counts p) (lob.blob_at limits c) (lob.blob_at wide c)
   blob-cut p c =
-      map-cut (behind 0) (scalar_counts p) (groups_for (suc (length c.rest)) limits 0 false c) (groups_for (suc (length c.rest)) wide 0 false c) (λ b. (value.blob b.0, b.1)) (λ b. omega arith)
+      map-cut (after 0) (scalar_counts p) (groups_for (suc (length c.rest)) limits 0 false c) (groups_for (suc (length c.rest)) wide 0 false c) (λ b. (value.blob b.0, b.1)) (λ b. omega arith)
       (groups-cut (suc (length c.rest)) 0 false c (passes-none limits))
 
   lob-cut : (p : ℕ) (c : Cursor) → Short (scalar_counts p) (lob_at limits c) (lob_at wide c)
   unfolding lob_at
   lob-cut p c =
-      let d : Cursor = behind_run (first_is is_white) c in
+      let d : Cursor = after_run (first_is is_white) c in
       cut-if (scalar_counts p) (begins_with (34 ∷ []) d.rest) _ _ _ _ (clob-cut p false (skip 1 d))
       (cut-if (scalar_counts p) (begins_with (39 ∷ 39 ∷ 39 ∷ []) d.rest) _ _ _ _ (clob-cut p true (skip 3 d)) (blob-cut p d))
 
@@ -362,13 +362,13 @@ module _ (limits wide : Option ℕ) (within : (n : ℕ) → passes wide n ≡ tr
       (bind_blames Free (scalar_of_run (bytes_of in_run c.rest)) _ (run-free (bytes_of in_run c.rest)) (λ v _. record { so = tt }))
   token-cut a_word c = counted-cut (word_of c.rest) c word_token (word_token-counts (word_of c.rest)) (word_token-free (word_of c.rest))
   token-cut a_quoted c =
-      map-cut (behind 0) (token_counts c.place) (text_at symbol_quote limits (skip 1 c)) (text_at symbol_quote wide (skip 1 c)) (λ t. (name true (value.Text t.0), t.1)) (λ t. omega arith)
+      map-cut (after 0) (token_counts c.place) (text_at symbol_quote limits (skip 1 c)) (text_at symbol_quote wide (skip 1 c)) (λ t. (name true (value.Text t.0), t.1)) (λ t. omega arith)
       (text-cut symbol_quote (skip 1 c))
   token-cut a_short c =
-      map-cut (behind 0) (token_counts c.place) (text_at (short_quote false) limits (skip 1 c)) (text_at (short_quote false) wide (skip 1 c)) (λ t. (text t.0, t.1)) (λ t. omega arith)
+      map-cut (after 0) (token_counts c.place) (text_at (short_quote false) limits (skip 1 c)) (text_at (short_quote false) wide (skip 1 c)) (λ t. (text t.0, t.1)) (λ t. omega arith)
       (text-cut (short_quote false) (skip 1 c))
   token-cut a_long c =
-      map-cut (behind 0) (token_counts c.place) (text_at (long_quote false) limits (skip 3 c)) (text_at (long_quote false) wide (skip 3 c)) (λ t. (text t.0, t.1)) (λ t. omega arith)
+      map-cut (after 0) (token_counts c.place) (text_at (long_quote false) limits (skip 3 c)) (text_at (long_quote false) wide (skip 3 c)) (λ t. (text t.0, t.1)) (λ t. omega arith)
       (text-cut (long_quote false) (skip 3 c))
   token-cut a_lob c =
       map-cut (scalar_counts c.place) (token_counts c.place) (lob_at limits (skip 2 c)) (lob_at wide (skip 2 c)) (λ l. (plain l.0, l.1)) (λ l. refl) (lob-cut c.place (skip 2 c))

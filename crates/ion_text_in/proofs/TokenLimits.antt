@@ -17,7 +17,7 @@ use Rattle.ion_value.specs.Value.{SymbolAt, Scalar}
 use Rattle.ion_text_in.specs.Meaning.{counts}
 use Rattle.ion_text_in.specs.Token.{Token, plain, word_token, run_token, by_keyword}
 
--- a token and what stands behind it
+-- a token and what stands after it
 abbrev pub got : Token → Cursor → Result (Token × Cursor) Reason
 got t d = Ok (t, d)
 

@@ -103,7 +103,7 @@ tok-stands sexp c d t p e =
     let there = went (part b.place (token_at None sexp b)) _ _ before.second in
     let u : Token × Cursor = there.value in
     let same : tokens.cut u.0 b.place u.1 ≡ tokens.cut t p d = cc there.second in
-    let is : u ≡ (t, d) = ap (λ (z : tokens.Cut). (z.token, z.behind)) same in
+    let is : u ≡ (t, d) = ap (λ (z : tokens.Cut). (z.token, z.after)) same in
     record {
       prefix = b;
       blank = before.first;
@@ -155,7 +155,7 @@ naming-suits t bare naming first told = ap (λ b. b || names_field first) (sym t
 
 module _ (limits : Limits) (kinds : List Kind) (top : ℕ) (wants : Wants) (c : Cursor) (t : Token) (d : Cursor) (suits : Suits wants t) (b : Cursor) where
   rest-token : (rest : List ℕ) → b.rest ≡ rest → token_of None (first_at (in_sexp (innermost kinds)) b.rest) b ≡ got t d
-      → reading.part_behind limits (state kinds top wants c) b rest
+      → reading.part_after limits (state kinds top wants c) b rest
       ≡ (part b.place (if nat_lt limits.scalar (counts t b.place d.place) then Err ScalarLimit else got t d) >>= (λ t. take limits kinds top wants b.place t.0 t.1))
   unfolding first_at token_of
   rest-token [] is e =
@@ -175,7 +175,7 @@ unfolding step part_at
 step-by limits kinds top wants c t p d suits tok =
     let stands = tok-stands (in_sexp (innermost kinds)) c d t p tok in
     let b : Cursor = stands.prefix in
-    ap step_of (ap (λ o. o >>= (λ b. reading.part_behind limits (state kinds top wants c) b b.rest)) stands.blank ∙ rest-token limits kinds top wants c t d suits b b.rest refl stands.token)
+    ap step_of (ap (λ o. o >>= (λ b. reading.part_after limits (state kinds top wants c) b b.rest)) stands.blank ∙ rest-token limits kinds top wants c t d suits b b.rest refl stands.token)
     ∙ placed b.place (nat_lt limits.scalar (counts t b.place d.place))
     ∙ ap (λ p. if nat_lt limits.scalar (counts t p d.place) then Stops ScalarLimit p else step_of (take limits kinds top wants p t d)) stands.place
   where
@@ -229,12 +229,12 @@ marked limit two_colons b d t e is = mark-same colons t b d e
 marked limit no_token b d t e is = absurd (cc e)
 marked limit first b d t e is = absurd (false≢true is)
 
-pub colons-stand : (sexp : Bool) (c d : Cursor) (p : ℕ) → Tok sexp c colons p d → reading.behind_colons sexp c ≡ Some d
+pub colons-stand : (sexp : Bool) (c d : Cursor) (p : ℕ) → Tok sexp c colons p d → reading.after_colons sexp c ≡ Some d
 colons-stand sexp c d p tok =
     let s = tok-stands sexp c d colons p tok in
     let told = token-told None (first_at sexp s.prefix.rest) s.prefix d colons s.token in
     let are = marked None (first_at sexp s.prefix.rest) s.prefix d colons s.token (sym told.mark) in
-    ap (λ o. reading.colons_behind sexp o) s.blank ∙ ap (λ first. reading.colons_at first s.prefix) are.0 ∙ ap Some (sym are.1)
+    ap (λ o. reading.colons_after sexp o) s.blank ∙ ap (λ first. reading.colons_at first s.prefix) are.0 ∙ ap Some (sym are.1)
 
 colon-from : (kinds : List Kind) (top : ℕ) (a : SymbolAt) (b : Cursor) (rest : List ℕ) → first_at false rest ≡ a_colon
     → reading.colon_from kinds top a b rest ≡ Ok (reading.onward_step kinds top (a_value (Some a) []) (skip 1 b))
@@ -242,7 +242,7 @@ unfolding first_at
 colon-from kinds top a b [] is = absurd (cc is)
 colon-from kinds top a b (x ∷ rest) is = ap (reading.colon_of kinds top a b) is
 
--- behind a field's name
+-- after a field's name
 pub colon-stands : (c d : Cursor) (p : ℕ) (kinds : List Kind) (top : ℕ) (a : SymbolAt) → Tok false c colon p d
     → reading.field_step kinds top a c ≡ Ok (reading.onward_step kinds top (a_value (Some a) []) d)
 colon-stands c d p kinds top a tok =

@@ -9,7 +9,7 @@ use Rattle.ion_value.specs.Calls.{Reads}
 use Rattle.ion_value.proofs.Cursors.{moves-then}
 use Rattle.ion_value.proofs.Passing.{Passed-lent}
 use Rattle.ion_text_in.specs.Meaning.{at}
-use Rattle.ion_text_in.proofs.Shown.{behind_lent, lent-left}
+use Rattle.ion_text_in.proofs.Shown.{after_lent, lent-left}
 
 -- a source that went on and has not failed
 pub record Gone {I : Type 0} (device : InputOf I) (old new : Incoming I) : Type 0 where
@@ -44,22 +44,22 @@ turn device s p t bytes n stands kept well steady is fits passed =
           sym (take-append-drop n (left device.rest s))
           ∙ ap (λ (l : List ℕ). take n l ++ drop n (left device.rest s)) (sym same)
           ∙ ap (λ (l : List ℕ). l ++ drop n (left device.rest s)) (lent-take device.rest p n there ∙ ap (λ (l : List ℕ). take n l) (sym is))
-          ∙ ap (λ (l : List ℕ). take n bytes ++ l) (sym (over.behind h));
+          ∙ ap (λ (l : List ℕ). take n bytes ++ l) (sym (over.after h));
     }
 
--- what is read from before the bytes is what is read from behind them
+-- what is read from before the bytes is what is read from after them
 pub turn-then : {I A : Type 0} (device : InputOf I) (s t : Incoming I) (run : List ℕ) (before after : Cursor → A) → Turn device s t run → device.observable s.device
     → before (at s.place (run ++ left device.rest t)) ≡ after (at (s.place + length run) (left device.rest t)) → before (cursor device s) ≡ after (cursor device t)
 turn-then device s t run before after passed h same =
     ap (λ (l : List ℕ). before (at s.place l)) (passed.bytes h) ∙ same ∙ ap (λ (n : ℕ). after (at n (left device.rest t))) (sym passed.place)
 
--- where the source stands behind bytes of which the last was given
+-- where the source stands after bytes of which the last was given
 pub passed-cursor : {I : Type 0} (device : InputOf I) (s p t : Incoming I) (ahead : ℕ) → Stands s → Extends device.rest device.observable s p → p.fault ≡ None → IsGiven p ahead
     → IsPassed p t (ahead + 1) → device.observable s.device → cursor device t ≡ at (s.place + (ahead + 1)) (drop (ahead + 1) (left device.rest s))
 passed-cursor device s p t ahead stands kept well given passed h =
     let there = lent-IsGiven p ahead well given in
     let over = Passed-lent device s p t (ahead + 1) stands kept well (omega (arith, there)) passed in
-    ap (λ (n : ℕ). at n (left device.rest t)) over.place ∙ ap (λ (l : List ℕ). at (s.place + (ahead + 1)) l) (over.behind h)
+    ap (λ (n : ℕ). at n (left device.rest t)) over.place ∙ ap (λ (l : List ℕ). at (s.place + (ahead + 1)) l) (over.after h)
 
 -- more was read, and more again
 pub extends-then : {I : Type 0} (device : InputOf I) (s p q : Incoming I) → Extends device.rest device.observable s p → Extends device.rest device.observable p q
@@ -72,12 +72,12 @@ extends-then device s p q a b = record {
   same_left = λ h. b.same_left (a.still_observable.1 h) ∙ a.same_left h;
 }
 
--- what stands behind bytes of the window
-pub turn-behind : {I : Type 0} (device : InputOf I) (p t : Incoming I) (bytes : List ℕ) (n : ℕ) → bytes ≡ lent p → n ≤ length bytes → IsPassed p t n
+-- what stands after bytes of the window
+pub turn-after : {I : Type 0} (device : InputOf I) (p t : Incoming I) (bytes : List ℕ) (n : ℕ) → bytes ≡ lent p → n ≤ length bytes → IsPassed p t n
     → (more : List ℕ) × (left device.rest t ≡ drop n bytes ++ more)
-turn-behind device p t bytes n is fits passed =
+turn-after device p t bytes n is fits passed =
     let there : n ≤ length (lent p) = subst (λ (l : List ℕ). n ≤ length l) is fits in
-    let more : List ℕ = behind_lent p.fault (p.limit - p.place) p.buffered ++ device.rest p.device in (
+    let more : List ℕ = after_lent p.fault (p.limit - p.place) p.buffered ++ device.rest p.device in (
       more,
       IsPassed-left device.rest p t n (lent-CanPass p n there).0 passed
           ∙ ap (λ (l : List ℕ). drop n l) (lent-left device.rest p)
@@ -101,7 +101,7 @@ extends-not device s = record {
   same_left = λ h. refl;
 }
 
--- a source behind bytes of which the last was given
+-- a source after bytes of which the last was given
 pub gone-passed : {I : Type 0} (device : InputOf I) (s p t : Incoming I) (ahead : ℕ) → Stands s → Extends device.rest device.observable s p → p.fault ≡ None
     → device.failure_count p.device ≡ device.failure_count s.device + 0 → IsGiven p ahead → IsPassed p t (ahead + 1) → Gone device s t × (t.place ≡ s.place + (ahead + 1))
 gone-passed device s p t ahead stands kept well steady given passed =

@@ -50,10 +50,10 @@ name-gathered limit before text c d point e there =
 
 -- ---- a word
 
-pub run-behind : (test : List ℕ → Bool) (xs : List ℕ) → drop (length (run_of test xs).0) xs ≡ (run_of test xs).1
+pub run-after : (test : List ℕ → Bool) (xs : List ℕ) → drop (length (run_of test xs).0) xs ≡ (run_of test xs).1
 unfolding run_of
-run-behind test [] = refl
-run-behind test (b ∷ xs) = from (test (b ∷ xs)) (run_of test xs) (run-behind test xs)
+run-after test [] = refl
+run-after test (b ∷ xs) = from (test (b ∷ xs)) (run_of test xs) (run-after test xs)
   where
     either : Bool → List ℕ × List ℕ → List ℕ × List ℕ
     either t z = elim t [ true ↦ (b ∷ z.0, z.1) | false ↦ ([], b ∷ xs) ]
@@ -86,7 +86,7 @@ counted-ok limit bytes text c d e = from (passes limit (length bytes)) refl e
 -- any word by its bytes before a point
 word-parts : (rest : List ℕ) → 1 ≤ length (bytes_of in_word rest) → word_of rest ≡ with_type (bytes_of in_word rest) (drop (length (bytes_of in_word rest)) rest)
 word-parts [] some = absurd (omega (arith, some))
-word-parts (b ∷ bytes) some = ap (λ (l : List ℕ). with_type (b ∷ (run_of in_word bytes).0) l) (sym (run-behind in_word bytes))
+word-parts (b ∷ bytes) some = ap (λ (l : List ℕ). with_type (b ∷ (run_of in_word bytes).0) l) (sym (run-after in_word bytes))
 
 null-long : (text : List ℕ) → bytes_eq (codes "null") text ≡ true → 1 ≤ length text
 null-long [] e = absurd (cc e)
@@ -104,12 +104,12 @@ null-spelled limit c d text e null =
     let same = is.same in
     let there : d ≡ skip (length text) c = is.there ∙ ap (λ (l : List ℕ). skip (length l) c) same in
     let some : 1 ≤ length (bytes_of in_word c.rest) = subst (λ (l : List ℕ). 1 ≤ length l) (sym same) (null-long text null) in
-    let behind : List ℕ = drop (length text) c.rest in
-    let name : List ℕ = 46 ∷ (run_of in_word (drop 1 behind)).0 in
-    let word : word_of c.rest ≡ (if first_is (λ b. b == 46) behind then text ++ name else text) =
+    let after : List ℕ = drop (length text) c.rest in
+    let name : List ℕ = 46 ∷ (run_of in_word (drop 1 after)).0 in
+    let word : word_of c.rest ≡ (if first_is (λ b. b == 46) after then text ++ name else text) =
     word-parts c.rest some
     ∙ ap (λ (l : List ℕ). with_type l (drop (length l) c.rest)) same
-    ∙ ap (λ (b : Bool). if b && first_is (λ b. b == 46) behind then text ++ name else text) null in
+    ∙ ap (λ (b : Bool). if b && first_is (λ b. b == 46) after then text ++ name else text) null in
     ap (with_name limit text) there
-    ∙ sym (name-either limit text c (first_is (λ b. b == 46) behind) name (ap (λ (l : List ℕ). passes limit (length l)) (sym same) ∙ is.within))
+    ∙ sym (name-either limit text c (first_is (λ b. b == 46) after) name (ap (λ (l : List ℕ). passes limit (length l)) (sym same) ∙ is.within))
     ∙ ap (λ (l : List ℕ). counted limit l c) (sym word)

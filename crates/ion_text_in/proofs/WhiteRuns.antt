@@ -19,7 +19,7 @@ run-at test (b ∷ bytes) (suc n) (suc m) le lf all ends run stops =
 pub one-run : (test : ℕ → Bool) (bytes : List ℕ) (n m : ℕ) → IsRun test bytes n → IsRun test bytes m → n ≡ m
 one-run test bytes n m one other = run-at test bytes n m one.within other.within one.run one.ends other.run other.ends
 
--- the byte behind a run
+-- the byte after a run
 pub first-at : (test : ℕ → Bool) (bytes : List ℕ) (n : ℕ) → n < length bytes → first_is test (drop n bytes) ≡ test (get_or bytes n 0)
 first-at test [] n lt = absurd (omega (arith, lt))
 first-at test (b ∷ bytes) zero lt = refl

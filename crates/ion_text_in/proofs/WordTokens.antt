@@ -14,7 +14,7 @@ use Rattle.ion_value.proofs.Numbers.{number-append_one}
 use Rattle.ion_text_in.specs.Places.{run_of}
 use Rattle.ion_text_in.specs.Token.{Token, name, in_word, with_type, word_of, word_token}
 use Rattle.ion_text_in.specs.Views.{AreShown, may_be_keyword, id_in}
-use Rattle.ion_text_in.specs.Runs.{EndBehind}
+use Rattle.ion_text_in.specs.Runs.{EndAfter}
 
 -- ---- ids
 
@@ -36,8 +36,8 @@ id-more digits i id within is e =
 
 -- ---- how far a word goes
 
--- a word, and what stands behind it before its type
-word-here : (slice more : List ℕ) (n : ℕ) → 1 ≤ length slice → EndBehind in_word (drop 1 slice) n → word_of (slice ++ more) ≡ with_type (take (1 + n) slice) (drop (1 + n) slice ++ more)
+-- a word, and what stands after it before its type
+word-here : (slice more : List ℕ) (n : ℕ) → 1 ≤ length slice → EndAfter in_word (drop 1 slice) n → word_of (slice ++ more) ≡ with_type (take (1 + n) slice) (drop (1 + n) slice ++ more)
 word-here [] more n some ends = absurd (omega (arith, some))
 word-here (b ∷ others) more n some ends =
     let one : 1 + n ≡ suc n = omega arith in
@@ -48,22 +48,22 @@ first-same : (test : ℕ → Bool) (xs more : List ℕ) → 1 ≤ length xs → 
 first-same test [] more some = absurd (omega (arith, some))
 first-same test (b ∷ xs) more some = refl
 
-behind-some : (slice : List ℕ) (n : ℕ) → n < length (drop 1 slice) → 1 ≤ length (drop (1 + n) slice)
-behind-some slice n within = omega (arith, within, length-drop 1 slice, length-drop (1 + n) slice)
+after-some : (slice : List ℕ) (n : ℕ) → n < length (drop 1 slice) → 1 ≤ length (drop (1 + n) slice)
+after-some slice n within = omega (arith, within, length-drop 1 slice, length-drop (1 + n) slice)
 
 -- without a type
-pub word-untyped : (slice : List ℕ) (n : ℕ) → 1 ≤ length slice → n < length (drop 1 slice) → EndBehind in_word (drop 1 slice) n
+pub word-untyped : (slice : List ℕ) (n : ℕ) → 1 ≤ length slice → n < length (drop 1 slice) → EndAfter in_word (drop 1 slice) n
     → (bytes_eq (codes "null") (take (1 + n) slice) && first_is (λ b. b == 46) (drop (1 + n) slice)) ≡ false → AreShown word_of slice (1 + n)
 word-untyped slice n some within ends none =
     let word : List ℕ = take (1 + n) slice in
-    let behind : List ℕ = drop (1 + n) slice in
+    let after : List ℕ = drop (1 + n) slice in
     record {
       within = omega (arith, within, length-drop 1 slice);
       same = λ more.
-          let first = first-same (λ b. b == 46) behind more (behind-some slice n within) in
+          let first = first-same (λ b. b == 46) after more (after-some slice n within) in
           word-here slice more n some ends
-          ∙ ap (λ (point : Bool). if bytes_eq (codes "null") word && point then word ++ 46 ∷ (run_of in_word (drop 1 (behind ++ more))).0 else word) first
-          ∙ ap (λ (typed : Bool). if typed then word ++ 46 ∷ (run_of in_word (drop 1 (behind ++ more))).0 else word) none;
+          ∙ ap (λ (point : Bool). if bytes_eq (codes "null") word && point then word ++ 46 ∷ (run_of in_word (drop 1 (after ++ more))).0 else word) first
+          ∙ ap (λ (typed : Bool). if typed then word ++ 46 ∷ (run_of in_word (drop 1 (after ++ more))).0 else word) none;
     }
 
 one-point : (xs : List ℕ) → first_is (λ b. b == 46) xs ≡ true → xs ≡ 46 ∷ drop 1 xs
@@ -71,28 +71,28 @@ one-point [] e = absurd (cc e)
 one-point (b ∷ xs) e = ap (λ (c : ℕ). c ∷ xs) (eqb-true b 46 e)
 
 -- with the name of one
-pub word-typed : (slice : List ℕ) (n m : ℕ) → 1 ≤ length slice → n < length (drop 1 slice) → EndBehind in_word (drop 1 slice) n
+pub word-typed : (slice : List ℕ) (n m : ℕ) → 1 ≤ length slice → n < length (drop 1 slice) → EndAfter in_word (drop 1 slice) n
     → (bytes_eq (codes "null") (take (1 + n) slice) && first_is (λ b. b == 46) (drop (1 + n) slice)) ≡ true
-    → m < length (drop (1 + n + 1) slice) → EndBehind in_word (drop (1 + n + 1) slice) m → AreShown word_of slice (1 + n + 1 + m)
+    → m < length (drop (1 + n + 1) slice) → EndAfter in_word (drop (1 + n + 1) slice) m → AreShown word_of slice (1 + n + 1 + m)
 word-typed slice n m some within ends typed there later =
     let word : List ℕ = take (1 + n) slice in
-    let behind : List ℕ = drop (1 + n) slice in
+    let after : List ℕ = drop (1 + n) slice in
     let name : List ℕ = drop (1 + n + 1) slice in
-    let point = one-point behind (and_parts (bytes_eq (codes "null") word) (first_is (λ b. b == 46) behind) typed).1 in
-    let names : drop 1 behind ≡ name = drop-drop 1 (1 + n) slice in
+    let point = one-point after (and_parts (bytes_eq (codes "null") word) (first_is (λ b. b == 46) after) typed).1 in
+    let names : drop 1 after ≡ name = drop-drop 1 (1 + n) slice in
     let all : take (1 + n + 1 + m) slice ≡ word ++ 46 ∷ take m name =
     take-add (1 + n + 1) m slice
     ∙ ap (λ (l : List ℕ). l ++ take m name) (take-add (1 + n) 1 slice)
-    ∙ append_assoc word (take 1 behind) (take m name)
+    ∙ append_assoc word (take 1 after) (take m name)
     ∙ ap (λ (l : List ℕ). word ++ (take 1 l ++ take m name)) point in
     record {
       within = omega (arith, there, length-drop (1 + n + 1) slice);
       same = λ more.
-          let first = first-same (λ b. b == 46) behind more (behind-some slice n within) in
-          let next : drop 1 (behind ++ more) ≡ name ++ more = ap (λ (l : List ℕ). drop 1 (l ++ more)) point ∙ ap (λ (l : List ℕ). l ++ more) names in
+          let first = first-same (λ b. b == 46) after more (after-some slice n within) in
+          let next : drop 1 (after ++ more) ≡ name ++ more = ap (λ (l : List ℕ). drop 1 (l ++ more)) point ∙ ap (λ (l : List ℕ). l ++ more) names in
           word-here slice more n some ends
-          ∙ ap (λ (point : Bool). if bytes_eq (codes "null") word && point then word ++ 46 ∷ (run_of in_word (drop 1 (behind ++ more))).0 else word) first
-          ∙ ap (λ (typed : Bool). if typed then word ++ 46 ∷ (run_of in_word (drop 1 (behind ++ more))).0 else word) typed
+          ∙ ap (λ (point : Bool). if bytes_eq (codes "null") word && point then word ++ 46 ∷ (run_of in_word (drop 1 (after ++ more))).0 else word) first
+          ∙ ap (λ (typed : Bool). if typed then word ++ 46 ∷ (run_of in_word (drop 1 (after ++ more))).0 else word) typed
           ∙ ap (λ (l : List ℕ). word ++ 46 ∷ (run_of in_word l).0) next
           ∙ ap (λ (z : List ℕ × List ℕ). word ++ 46 ∷ z.0) (later more)
           ∙ sym all;
@@ -122,7 +122,7 @@ plain-word (b ∷ bytes) none dollar =
     or_parts true y e = absurd (cc e)
     or_parts false y e = (refl, e)
 
--- behind a dollar sign an id, or not
+-- after a dollar sign an id, or not
 abbrev pub id_token : List ℕ → Option ℕ → Token
 id_token word (Some id) = name false (value.Id id)
 id_token word None = name false (value.Text word)

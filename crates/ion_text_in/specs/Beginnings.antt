@@ -46,17 +46,17 @@ pub data BeginsComment : List ℕ → Type 0 where
   line : {bytes : List ℕ} → BeginsComment (codes "//" ++ bytes)
   block : {bytes : List ℕ} → BeginsComment (codes "/*" ++ bytes)
 
--- what may stand behind a number or timestamp: nothing, a stop character, or a comment
+-- what may stand after a number or timestamp: nothing, a stop character, or a comment
 pub data EndsNumber : List ℕ → Type 0 where
   end : EndsNumber []
   character : {b : ℕ} {bytes : List ℕ} → IsStopCharacter b → EndsNumber (b ∷ bytes)
   comment : {bytes : List ℕ} → BeginsComment bytes → EndsNumber bytes
 
--- some bytes go on up to an end, and no further: the bytes of a token behind its first, and what follows
-pub record IsRun (Ends : List ℕ → Type 0) (bytes run behind : List ℕ) : Type 0 where
-  pub whole : bytes ≡ run ++ behind
-  pub ended : Ends behind
-  pub goes_on : (xs ys : List ℕ) → run ≡ xs ++ ys → ys ≢ [] → Ends (ys ++ behind) → ⊥
+-- some bytes go on up to an end, and no further: the bytes of a token after its first, and what follows
+pub record IsRun (Ends : List ℕ → Type 0) (bytes run after : List ℕ) : Type 0 where
+  pub whole : bytes ≡ run ++ after
+  pub ended : Ends after
+  pub goes_on : (xs ys : List ℕ) → run ≡ xs ++ ys → ys ≢ [] → Ends (ys ++ after) → ⊥
 
 -- a number or timestamp is said not to go on exactly where such an end stands
 abbrev pub NumbersEnd : Type 0
@@ -64,7 +64,7 @@ NumbersEnd = (bytes : List ℕ) → (in_run bytes ≡ false) ↔ EndsNumber byte
 
 -- the bytes that are said to go on with a number or timestamp are such a run, and no others are
 abbrev pub NumbersAreCut : Type 0
-NumbersAreCut = (bytes run behind : List ℕ) → (run_of in_run bytes ≡ (run, behind)) ↔ IsRun EndsNumber bytes run behind
+NumbersAreCut = (bytes run after : List ℕ) → (run_of in_run bytes ≡ (run, after)) ↔ IsRun EndsNumber bytes run after
 
 -- ---- what ends an identifier or an operator
 
@@ -79,7 +79,7 @@ IdentifiersEnd = (bytes : List ℕ) → (in_word bytes ≡ false) ↔ EndsIdenti
 
 -- the bytes that are said to go on with an identifier are such a run, and no others are
 abbrev pub IdentifiersAreCut : Type 0
-IdentifiersAreCut = (bytes run behind : List ℕ) → (run_of in_word bytes ≡ (run, behind)) ↔ IsRun EndsIdentifier bytes run behind
+IdentifiersAreCut = (bytes run after : List ℕ) → (run_of in_word bytes ≡ (run, after)) ↔ IsRun EndsIdentifier bytes run after
 
 -- nothing, a byte that is in no operator, or a comment
 pub data EndsOperator : List ℕ → Type 0 where
@@ -93,7 +93,7 @@ OperatorsEnd = (bytes : List ℕ) → (in_operator bytes ≡ false) ↔ EndsOper
 
 -- the bytes that are said to go on with an operator are such a run, and no others are
 abbrev pub OperatorsAreCut : Type 0
-OperatorsAreCut = (bytes run behind : List ℕ) → (run_of in_operator bytes ≡ (run, behind)) ↔ IsRun EndsOperator bytes run behind
+OperatorsAreCut = (bytes run after : List ℕ) → (run_of in_operator bytes ≡ (run, after)) ↔ IsRun EndsOperator bytes run after
 
 -- ---- what begins
 

@@ -13,14 +13,14 @@ is_white b = b == 32 || is_between 9 13 b
 abbrev pub is_line_end : ℕ → Bool
 is_line_end b = b == 10 || b == 13
 
--- what begins at a byte with the bytes behind it
+-- what begins at a byte with the bytes after it
 pub data Begins : Type 0 where
   white : Begins
   line_comment : Begins
   block_comment : Begins
   no_blank : Begins
 
--- which blank begins at the byte b, if any does; `bytes` stand behind it
+-- which blank begins at the byte b, if any does; `bytes` stand after it
 abbrev pub blank_at : ℕ → List ℕ → Begins
 blank_at b bytes =
     if is_white b then white
@@ -48,7 +48,7 @@ ends_block b bytes = b == 42 && first_is (λ c. c == 47) bytes
 abbrev pub here : ℕ → List ℕ → Placed Cursor
 here p bytes = Ok (record { place = p; rest = bytes })
 
--- behind all blanks from a place on; a comment in a block that does not end is refused where it begins
+-- after all blanks from a place on; a comment in a block that does not end is refused where it begins
 unfoldable mutual
   pub blanks_at : ℕ → List ℕ → Placed Cursor
   blanks_at p [] = here p []
@@ -79,6 +79,6 @@ unfoldable mutual
   closing p [] = here p []
   closing p (b ∷ bytes) = blanks_at (suc p) bytes
 
--- behind all blanks from a cursor on, or the fault of a comment in a block that does not end
+-- after all blanks from a cursor on, or the fault of a comment in a block that does not end
 abbrev pub blanks : Cursor → Placed Cursor
 blanks c = blanks_at c.place c.rest

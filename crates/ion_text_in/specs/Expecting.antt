@@ -10,7 +10,7 @@ use Rattle.ion_text_in.specs.declared.expected.Expected.TheVariants as expected
 use Rattle.ion_text_in.specs.declared.token.FieldName.{FieldName}
 use Rattle.ion_text_in.specs.Positions.{Wants, a_value, a_field, a_separator}
 
--- what must come, behind what is read of an item
+-- what must come, after what is read of an item
 abbrev pub wanted : Expected → Option SymbolAt → List SymbolAt → Wants
 wanted expected.Value field annotations = a_value field annotations
 wanted expected.Field field annotations = a_field

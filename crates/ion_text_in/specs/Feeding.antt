@@ -13,7 +13,7 @@ use Rattle.ion_value.specs.Feeding.{CanTake, Feeds, Joint, StaysWell}
 use Rattle.ion_value.specs.Items.{named_at, named_item, raw_head}
 use Rattle.ion_value.specs.Outcome.{one_if_closed}
 use Rattle.ion_value.specs.Parts.{Placed}
-use Rattle.ion_value.specs.PlainItems.{listed, placed_text, with_second, StandsBehind, HasKnownName, HasNoDollar, HaveNoDollar, IsPlainHead, IsRightlyQuoted, IsTextOf}
+use Rattle.ion_value.specs.PlainItems.{listed, placed_text, with_second, StandsAfter, HasKnownName, HasNoDollar, HaveNoDollar, IsPlainHead, IsRightlyQuoted, IsTextOf}
 use Rattle.ion_value.specs.Reading.{More}
 use Rattle.ion_value.specs.Shares.{Charges}
 use Rattle.ion_value.specs.Standing.{open_after, in_struct, has_field, is_marker, HasPlace, HeadInRange, WritesWithin}
@@ -40,16 +40,16 @@ use Rattle.ion_text_in.specs.Firsts.{numbered}
 use Rattle.ion_text_in.specs.Meaning.{at}
 use Rattle.ion_text_in.specs.Positions.{State, Wants, a_field, a_value, innermost}
 use Rattle.ion_text_in.specs.Quoted.{Quote, text_at}
-use Rattle.ion_text_in.specs.Reading.{behind_member, cost, item_of, member_of, top_of}
-use Rattle.ion_text_in.specs.Runs.{EndBehind}
+use Rattle.ion_text_in.specs.Reading.{after_member, cost, item_of, member_of, top_of}
+use Rattle.ion_text_in.specs.Runs.{EndAfter}
 use Rattle.ion_text_in.specs.Steps.{later}
 use Rattle.ion_text_in.specs.Token.{First, a_colon, a_quoted, a_short, a_word, first_at, in_word, name, token_of, two_colons}
 use Rattle.ion_value.specs.Name.{is_identifier_start, is_simple}
 
 -- ---- bytes
 
--- what stands behind some of these bytes
-pub record IsBehind (bytes rest : List ℕ) : Type 0 where
+-- what stands after some of these bytes
+pub record IsAfter (bytes rest : List ℕ) : Type 0 where
   pub count : ℕ
   pub within : count ≤ length bytes
   pub same : rest ≡ drop count bytes
@@ -60,14 +60,14 @@ IsBare bytes = (p : ℕ) (more : List ℕ) → blanks (at p (bytes ++ more)) ≡
 
 -- blanks stand between the front of some bytes and a rest of them, whatever follows
 pub record PassesBlanks (bytes rest : List ℕ) : Type 0 where
-  pub part : IsBehind bytes rest
+  pub part : IsAfter bytes rest
   pub fewer : length rest ≤ length bytes
   pub blank : (p q : ℕ) (more : List ℕ) → p + length bytes ≡ q + length rest → blanks (at p (bytes ++ more)) ≡ Ok (at q (rest ++ more))
   pub bare : IsBare rest
 
 -- what one reading makes of some bytes, the other makes of a rest of them, whatever follows
 pub record LeadsTo (one other : ℕ → List ℕ → Placed Cursor) (bytes rest : List ℕ) : Type 0 where
-  pub part : IsBehind bytes rest
+  pub part : IsAfter bytes rest
   pub fewer : length rest ≤ length bytes
   pub same : (p q : ℕ) (more : List ℕ) → p + length bytes ≡ q + length rest → one p (bytes ++ more) ≡ other q (rest ++ more)
 
@@ -87,12 +87,12 @@ BeginsText quotes.LongClob bytes = ⊥
 
 -- a text stands between quotes at the front of some bytes, whatever follows
 pub record IsBetween (quote : Quote) (limit : ℕ) (bytes : List ℕ) (found : Between) : Type 0 where
-  pub part : IsBehind bytes found.rest.now
+  pub part : IsAfter bytes found.rest.now
   pub fewer : length found.rest.now < length bytes
   pub shown : (place q : ℕ) (more : List ℕ) → place + length bytes ≡ q + length found.rest.now
       → text_at quote (Some limit) (skip 1 (at place (bytes ++ more))) ≡ Ok (found.text.now, at q (found.rest.now ++ more))
 
--- what a slice shows of the next token behind blanks, by the number of what its first byte or two tell: 0 is known of nothing
+-- what a slice shows of the next token after blanks, by the number of what its first byte or two tell: 0 is known of nothing
 pub record IsNext (bytes : List ℕ) (next : Next) : Type 0 where
   pub passes : 0 < length next.rest.now → PassesBlanks bytes next.rest.now
   pub some : 0 < next.told → 0 < length next.rest.now
@@ -122,13 +122,13 @@ pub record IsZeroId (limit : ℕ) (bytes : List ℕ) : Type 0 where
   pub within : 2 ≤ length bytes
   pub shown : (place : ℕ) (more : List ℕ) → token_of (Some limit) a_word (at place (bytes ++ more)) ≡ Ok (name false (value.Id 0), at (place + 2) (drop 2 bytes ++ more))
 
--- so many bytes in front are a word without a type behind it, within a limit, and begin as a symbol does, but with no dollar sign
+-- so many bytes in front are a word without a type after it, within a limit, and begin as a symbol does, but with no dollar sign
 pub record IsBegun (limit : ℕ) (bytes : List ℕ) (n : ℕ) : Type 0 where
   pub others : ℕ
   pub count : n ≡ 1 + others
   pub some : 1 ≤ length bytes
   pub within : others < length (drop 1 bytes)
-  pub ends : EndBehind in_word (drop 1 bytes) others
+  pub ends : EndAfter in_word (drop 1 bytes) others
   pub begins : is_identifier_start (get_or bytes 0 0) ≡ true
   pub no_dollar : (get_or bytes 0 0 == 36) ≡ false
   pub fits : n ≤ limit
@@ -143,7 +143,7 @@ IfName P (Whole word.Name n) = P n
 IfName P (Fault reason) = Unit {0}
 IfName P Cut = Unit {0}
 
--- behind blanks a colon stands there
+-- after blanks a colon stands there
 pub record ToColon (bytes rest : List ℕ) : Type 0 where
   pub passes : PassesBlanks bytes rest
   pub some : 0 < length rest
@@ -157,17 +157,17 @@ state kinds top wants place rest = record { kinds = kinds; top = top; wants = wa
 
 -- without an item reading goes on from some bytes at a place to a rest of them, whatever follows
 pub record Onward (limits : Limits) (kinds : List Kind) (top place : ℕ) (wants : Wants) (bytes : List ℕ) (after : Wants) (rest : List ℕ) : Type 0 where
-  pub part : IsBehind bytes rest
+  pub part : IsAfter bytes rest
   pub fewer : length rest ≤ length bytes
   pub same : (q : ℕ) (more : List ℕ) → place + length bytes ≡ q + length rest
       → later limits (state kinds top wants place (bytes ++ more)) ≡ later limits (state kinds top after q (rest ++ more))
 
--- what must come behind the head of an item that stands where these containers are open
-abbrev pub behind_head : List Kind → Head SymbolAt → Wants
-behind_head kinds (value.whole body) = behind_member (innermost kinds)
-behind_head kinds (value.begin kind) = member_of kind
-behind_head kinds value.end = a_value None []
-behind_head kinds value.marker = a_value None []
+-- what must come after the head of an item that stands where these containers are open
+abbrev pub after_head : List Kind → Head SymbolAt → Wants
+after_head kinds (value.whole body) = after_member (innermost kinds)
+after_head kinds (value.begin kind) = member_of kind
+after_head kinds value.end = a_value None []
+after_head kinds value.marker = a_value None []
 
 -- an item by its parts
 abbrev pub item_in : List Kind → ℕ → Option SymbolAt → List SymbolAt → ℕ → Head SymbolAt → PlacedItem
@@ -185,8 +185,8 @@ pub record Begins (next : Next) : Type 0 where
   pub tells : 0 < next.told → (in_sexp : Bool) (more : List ℕ) → first_at in_sexp (next.rest.now ++ more) ≡ numbered next.told
   pub bare : IsBare next.rest.now
 
--- behind a name a colon stands behind blanks, and a value begins
-pub record IsBehindName (name : TextAt) (bytes : List ℕ) (start : Start) : Type 0 where
+-- after a name a colon stands after blanks, and a value begins
+pub record IsAfterName (name : TextAt) (bytes : List ℕ) (start : Start) : Type 0 where
   pub colon : List ℕ
   pub is : start.field ≡ Some name
   pub bare : start.note ≡ None
@@ -194,7 +194,7 @@ pub record IsBehindName (name : TextAt) (bytes : List ℕ) (start : Start) : Typ
   pub passes : PassesBlanks (drop 1 colon) start.next.rest.now
   pub begins : Begins start.next
 
--- behind a name that stands at the front of some bytes, at a place, and is read as `raw`, and behind a colon, a value begins
+-- after a name that stands at the front of some bytes, at a place, and is read as `raw`, and after a colon, a value begins
 pub record IsNamedAs (text : TextAt) (raw : SymbolAt) (limits : Limits) (place : ℕ) (bytes : List ℕ) (start : Start) : Type 0 where
   pub is : start.field ≡ Some text
   pub bare : start.note ≡ None
@@ -215,19 +215,19 @@ pub record IsNamedBy (texts : ℕ → Option (List ℕ)) (limits : Limits) (plac
   pub seen : named_at texts raw ≡ placed_text text
   pub name : IsNamedAs text raw limits place bytes start
 
--- two colons stand here, and a value begins behind them
-pub record IsBehindColons (colons : List ℕ) (next : Next) : Type 0 where
+-- two colons stand here, and a value begins after them
+pub record IsAfterColons (colons : List ℕ) (next : Next) : Type 0 where
   pub two : 2 ≤ length colons
   pub shown : BeginsAs two_colons colons
   pub passes : PassesBlanks (drop 2 colons) next.rest.now
   pub begins : Begins next
 
--- behind an annotation two colons stand, its bytes and those of one before it are no more than may be, and a value begins
-pub record IsBehindNote (limits : Limits) (start : Start) (note : TextAt) (colons : List ℕ) (noted : Start) : Type 0 where
+-- after an annotation two colons stand, its bytes and those of one before it are no more than may be, and a value begins
+pub record IsAfterNote (limits : Limits) (start : Start) (note : TextAt) (colons : List ℕ) (noted : Start) : Type 0 where
   pub is : noted.note ≡ Some note
   pub same : noted.field ≡ start.field
   pub costs : sum_by cost (notes start.note ++ placed_text note ∷ []) ≤ limits.scalar
-  pub behind : IsBehindColons colons noted.next
+  pub after : IsAfterColons colons noted.next
 
 -- after an annotation that begins at a place, maybe after another, and two colons, a value begins
 pub record IsNoted (limits : Limits) (place : ℕ) (start noted : Start) : Type 0 where
@@ -255,19 +255,19 @@ pub record PassesComma (old new : Spot) : Type 0 where
   pub expects : (opened : List Kind) → kind_in opened ≡ old.kind → MayExpect (expected_of old) opened None [] → MayExpect (expected_of new) opened None []
   pub same : new ≡ record old { rest = new.rest; separator = new.separator }
 
--- a value begins here, behind the name of a field where one must come, which is read as `raw`, and behind its annotations, two at most
+-- a value begins here, after the name of a field where one must come, which is read as `raw`, and after its annotations, two at most
 pub record IsStartAs (raw : Option SymbolAt) (other : Option TextAt) (bounds : Bounds) (spot : Spot) (start : Start) : Type 0 where
   pub known : HasKnownName (option_map placed_text start.field)
   pub free : HaveNoDollar (with_second (notes start.note) other)
   pub field : IfSome start.field IsRightlyQuoted
   pub note : IfSome start.note IsRightlyQuoted
-  pub second : IfSome other (StandsBehind start.note)
+  pub second : IfSome other (StandsAfter start.note)
   pub onward : (kinds : List Kind) → MayExpect (expected_of spot) kinds None []
       → Onward bounds.limits kinds spot.top (place_in bounds spot.rest.now) (wanted (expected_of spot) None []) spot.rest.now (a_value raw (with_second (notes start.note) other)) start.next.rest.now
   pub named : (kinds : List Kind) → MayExpect (expected_of spot) kinds None [] → is_some start.field ≡ in_struct kinds
   pub begins : Begins start.next
 
--- the name is a text, and behind the annotation another may stand
+-- the name is a text, and after the annotation another may stand
 abbrev pub IsFurther : Option TextAt → Bounds → Spot → Start → Type 0
 IsFurther second bounds spot start = IsStartAs (option_map placed_text start.field) second bounds spot start
 
@@ -290,9 +290,9 @@ pub record IsStartBy (texts : ℕ → Option (List ℕ)) (second : Option TextAt
   pub seen : option_map (named_at texts) raw ≡ option_map placed_text start.field
   pub read : IsStartAs raw second bounds spot start
 
--- a head stands at the front of some bytes, and these behind it; it is read as `raw`
+-- a head stands at the front of some bytes, and these after it; it is read as `raw`
 pub record IsHeadAs (raw : Head SymbolAt) (limits : Limits) (place : ℕ) (bytes : List ℕ) (head : Head SymbolAt) (rest : List ℕ) : Type 0 where
-  pub part : IsBehind bytes rest
+  pub part : IsAfter bytes rest
   pub fewer : length rest < length bytes
   pub known : IsPlainHead head
   pub range : HeadInRange head
@@ -300,7 +300,7 @@ pub record IsHeadAs (raw : Head SymbolAt) (limits : Limits) (place : ℕ) (bytes
   pub value : is_marker head ≡ false
   pub gives : (kinds : List Kind) (top q : ℕ) (field : Option SymbolAt) (annotations : List SymbolAt) (more : List ℕ) → HasPlace limits.depth kinds head → place + length bytes ≡ q + length rest
       → later limits (state kinds top (a_value field annotations) place (bytes ++ more))
-      ≡ More (item_in kinds top field annotations place raw) (later limits (state (open_after kinds head) (top_of kinds top annotations place) (behind_head kinds head) q (rest ++ more)))
+      ≡ More (item_in kinds top field annotations place raw) (later limits (state (open_after kinds head) (top_of kinds top annotations place) (after_head kinds head) q (rest ++ more)))
 
 -- it is read as it is
 abbrev pub IsHead : Limits → ℕ → List ℕ → Head SymbolAt → List ℕ → Type 0
@@ -391,7 +391,7 @@ pub record MovedFor {W O A : Type 0} (w : WriterOf W O A) (bounds : Bounds) (see
   pub feeds : (texts : ℕ → Option (List ℕ)) → sees texts → (more : List ℕ) → Feeds w (named_item texts) (Unit {0}) (joint bounds more old) (joint bounds more new)
   pub falls : new.values + length new.rest ≤ old.values + length old.rest
   pub opens : length new.kinds + length new.rest ≤ length old.kinds + length old.rest
-  pub part : IsBehind old.rest new.rest
+  pub part : IsAfter old.rest new.rest
   pub fewer : length new.rest ≤ length old.rest
   pub few : length new.kinds ≤ bounds.limits.depth
   pub kind : kind_in (reverse new.kinds) ≡ new.kind
@@ -429,7 +429,7 @@ begun (value.begin kind) = Some kind
 begun value.end = None
 begun value.marker = None
 
--- the open containers behind it, the innermost last, and what its entry costs
+-- the open containers after it, the innermost last, and what its entry costs
 abbrev pub with_begun : List Kind → Option Kind → List Kind
 with_begun kinds None = kinds
 with_begun kinds (Some kind) = kinds ++ kind ∷ []
@@ -447,26 +447,26 @@ pub record Opens (depth : ℕ) (begins : Option Kind) (old new : List Kind) (ear
   pub rises : earlier.peak ≤ later.peak
   pub refused : later.refused ≡ earlier.refused
 
--- where a lane stands behind an item, where these containers were open
-abbrev pub values_behind : Option Kind → List Kind → ℕ → ℕ
-values_behind None opened values = values + one_if_closed opened
-values_behind (Some kind) opened values = values
+-- where a lane stands after an item, where these containers were open
+abbrev pub values_after : Option Kind → List Kind → ℕ → ℕ
+values_after None opened values = values + one_if_closed opened
+values_after (Some kind) opened values = values
 
-abbrev pub separator_behind : Option Kind → Kind → Bool
-separator_behind None kind = is_separated kind
-separator_behind (Some kind) outer = false
+abbrev pub separator_after : Option Kind → Kind → Bool
+separator_after None kind = is_separated kind
+separator_after (Some kind) outer = false
 
-abbrev pub kind_behind : Option Kind → Kind → Kind
-kind_behind None kind = kind
-kind_behind (Some kind) outer = kind
+abbrev pub kind_after : Option Kind → Kind → Kind
+kind_after None kind = kind
+kind_after (Some kind) outer = kind
 
 abbrev pub passed : Option Kind → List Kind → Spot → Found → ℕ → Spot
 passed begins opened spot found top = record {
   rest = found.rest;
   top = top;
-  values = values_behind begins opened spot.values;
-  separator = separator_behind begins spot.kind;
-  kind = kind_behind begins spot.kind;
+  values = values_after begins opened spot.values;
+  separator = separator_after begins spot.kind;
+  kind = kind_after begins spot.kind;
 }
 
 -- ---- the lane of a reader

@@ -51,12 +51,12 @@ width tokens.an_infinity = 4
 width tokens.two_colons = 2
 width _ = 1
 
--- a byte that begins no word, no number and no string, and needs none behind it to tell what it begins
+-- a byte that begins no word, no number and no string, and needs none after it to tell what it begins
 abbrev pub is_told_alone : ℕ → Bool
 is_told_alone b =
     not (is_identifier_start b) && not (is_digit b) && not (b == 34) && not (b == 39) && not (b == 123) && not (b == 58) && not (b == 43) && not (b == 45)
 
--- `inf`, and no identifier goes on behind it
+-- `inf`, and no identifier goes on after it
 abbrev pub is_inf : List ℕ → Bool
 is_inf bytes = begins_with (codes "inf") bytes && not (first_is is_identifier_byte (drop 3 bytes))
 

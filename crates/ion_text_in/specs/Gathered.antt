@@ -16,7 +16,7 @@ use Rattle.ion_value.specs.Shares.{Charges, GrowsWithin, fault_of}
 use Rattle.ion_text_in.specs.Blanks.{is_white, blanks}
 use Rattle.ion_text_in.specs.Limit.{passes}
 use Rattle.ion_text_in.specs.Overrun.{overrun}
-use Rattle.ion_text_in.specs.Places.{behind_run}
+use Rattle.ion_text_in.specs.Places.{after_run}
 use Rattle.ion_text_in.specs.Quoted.{Quote, segment_at}
 use Rattle.ion_text_in.specs.Scanning.{Spelled, pieces, with_front}
 
@@ -35,7 +35,7 @@ pub record CanGather {I : Type 0} (limits : Limits) (source : Incoming I) (text 
   pub stands : Stands source
   pub grows : CanGrow limits text meter
 
--- what putting bytes behind a text costs, and the causes of its faults
+-- what putting bytes after a text costs, and the causes of its faults
 pub record Grown (earlier later : Counts) (before after most : ℕ) (fault : Option Fault) : Type 0 where
   pub charges : Charges earlier later before after most
   pub memory : fault ≡ Some Memory → earlier.refused < later.refused
@@ -51,7 +51,7 @@ pub record Gathers {I T : Type 0} (device : InputOf I) (limits : Limits) (old ne
 
 -- ---- what is answered
 
--- bytes are put behind a text, unless it then passes the limit
+-- bytes are put after a text, unless it then passes the limit
 abbrev pub PutsOn : {T : Type 0} → List ℕ → List ℕ → List ℕ → ℕ → ℕ → Result T Fault → Type 0
 PutsOn old new bytes limit place (Ok x) = (new ≡ old ++ bytes) × (passes (Some limit) (length old + length bytes) ≡ false)
 PutsOn old new bytes limit place (Err (Refused reason at)) = (passes (Some limit) (length old + length bytes) ≡ true) × (reason ≡ ScalarLimit) × (at ≡ place)
@@ -60,7 +60,7 @@ PutsOn old new bytes limit place (Err ReadFault) = Unit {0}
 PutsOn old new bytes limit place (Err WriteFault) = Unit {0}
 PutsOn old new bytes limit place (Err InputLimit) = Unit {0}
 
--- what putting bytes behind a text does and costs
+-- what putting bytes after a text does and costs
 pub record Puts {T : Type 0} (limits : Limits) (earlier later : Counts) (old new bytes : List ℕ) (place : ℕ) (result : Result T Fault) : Type 0 where
   pub puts : PutsOn old new bytes limits.scalar place result
   pub grown : Grown earlier later (length old) (length new) limits.scalar (fault_of result)
@@ -76,26 +76,26 @@ Continues (Err ReadFault) place before after = Unit {0}
 Continues (Err WriteFault) place before after = Unit {0}
 Continues (Err InputLimit) place before after = Unit {0}
 
--- bytes that were read, and the pieces behind them
+-- bytes that were read, and the pieces after them
 abbrev pub onward : Quote → ℕ → List ℕ → Cursor → Spelled
 onward q limit text c = with_front text (pieces q (Some limit) (length text) c)
 
--- bytes that were read, and the segment behind them
+-- bytes that were read, and the segment after them
 abbrev pub with_segment : Quote → ℕ → List ℕ → Cursor → Spelled
 with_segment q limit text c = with_front text (segment_at q (Some limit) (length text) c)
 
--- ---- what is overrun behind a text
+-- ---- what is overrun after a text
 
 -- what stands between the segments of a long text: white space in a clob, and comments too else
 abbrev pub passed : Bool → Cursor → Placed Cursor
-passed true c = Ok (behind_run (first_is is_white) c)
+passed true c = Ok (after_run (first_is is_white) c)
 passed false c = blanks c
 
 -- a text and where it ends, which blanks follow that were passed over up to where the source stands
 abbrev pub Overruns : {A : Type 0} → Bool → A → Result (Option ℕ) Fault → Cursor → ℕ → Result (A × Cursor) Reason → Type 0
-Overruns in_clob text (Ok start) behind place given = (d : Cursor) × (given ≡ Ok (text, d)) × (passed in_clob d ≡ overrun start behind)
-Overruns in_clob text (Err (Refused reason at)) behind place given = (given ≡ Err reason) × (at ≡ place)
-Overruns in_clob text (Err Memory) behind place given = Unit {0}
-Overruns in_clob text (Err ReadFault) behind place given = Unit {0}
-Overruns in_clob text (Err WriteFault) behind place given = Unit {0}
-Overruns in_clob text (Err InputLimit) behind place given = Unit {0}
+Overruns in_clob text (Ok start) after place given = (d : Cursor) × (given ≡ Ok (text, d)) × (passed in_clob d ≡ overrun start after)
+Overruns in_clob text (Err (Refused reason at)) after place given = (given ≡ Err reason) × (at ≡ place)
+Overruns in_clob text (Err Memory) after place given = Unit {0}
+Overruns in_clob text (Err ReadFault) after place given = Unit {0}
+Overruns in_clob text (Err WriteFault) after place given = Unit {0}
+Overruns in_clob text (Err InputLimit) after place given = Unit {0}

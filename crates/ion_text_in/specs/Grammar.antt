@@ -91,7 +91,7 @@ pub data Tops (c : Cursor) : List (Top SymbolAt ℕ) → Cursor → Type 0 where
 abbrev pub start_of : List ℕ → Cursor
 start_of bytes = record { place = 0; rest = bytes }
 
--- the bytes are values and version markers, with blanks between them and behind the last
+-- the bytes are values and version markers, with blanks between them and after the last
 pub record Stream (bytes : List ℕ) (tops : List (Top SymbolAt ℕ)) : Type 0 where
   pub last : Cursor
   pub spells : Tops (start_of bytes) tops last

@@ -8,7 +8,7 @@ use Rattle.ion_value.specs.declared.ion_type.Kind.{Kind}
 use Rattle.ion_value.specs.Value.{Symbol, SymbolAt, Top}
 use Rattle.ion_value.specs.Writable.{IsRaw}
 use Rattle.ion_value.specs.Path.{Path, closed, path_items}
-use Rattle.ion_value.specs.Reading.{Reading, Finished, Stopped, Shrinks, items_of, behind, reading_by}
+use Rattle.ion_value.specs.Reading.{Reading, Finished, Stopped, Shrinks, items_of, items_then, reading_by}
 use Rattle.ion_value.specs.ReadingLaws.{ending_of, IsLimit, Allows, AreWithin, IsBegun}
 use Rattle.ion_meter.specs.Sources.{Cursor}
 use Rattle.ion_text_in.specs.Token.{name, begin, colons, next_token}
@@ -30,7 +30,7 @@ pub record IsRead (bytes : List ℕ) (r : Reading) : Type 0 where
 abbrev pub Sound : Type 0
 Sound = (limits : Limits) (bytes : List ℕ) → IsRead bytes (reading limits bytes)
 
--- a step from behind a path and the front of an item gives an item and the path with it, or it keeps the path; it ends
+-- a step from after a path and the front of an item gives an item and the path with it, or it keeps the path; it ends
 -- where nothing is open and nothing but blanks is left
 abbrev pub EachStepFollows : Type 0
 EachStepFollows =
@@ -44,25 +44,25 @@ EachStepFalls = (limits : Limits) → Shrinks (step limits) size
 abbrev pub Complete : Type 0
 Complete =
     (limits : Limits) (bytes : List ℕ) (q : ℕ) (path : Path SymbolAt ℕ) → Allows limits bytes → IsPath bytes q path
-    → (rest : Reading) × (reading limits bytes ≡ behind (path_items path) rest)
+    → (rest : Reading) × (reading limits bytes ≡ items_then (path_items path) rest)
 
 -- and a stream is read to its end
 abbrev pub StreamsAreRead : Type 0
 StreamsAreRead =
     (limits : Limits) (bytes : List ℕ) (tops : List (Top SymbolAt ℕ)) → Allows limits bytes → Stream bytes tops
-    → reading limits bytes ≡ behind (path_items (closed tops)) Finished
+    → reading limits bytes ≡ items_then (path_items (closed tops)) Finished
 
 -- a path is read first under limits that allow what stands in it: tokens, annotations and depth
 abbrev pub PathsWithinAreRead : Type 0
 PathsWithinAreRead =
     (limits : Limits) (bytes : List ℕ) (q : ℕ) (path : Path SymbolAt ℕ) (is : IsPath bytes q path) → PathWithin limits is.spells
-    → (rest : Reading) × (reading limits bytes ≡ behind (path_items path) rest)
+    → (rest : Reading) × (reading limits bytes ≡ items_then (path_items path) rest)
 
 -- and so is a stream to its end
 abbrev pub StreamsWithinAreRead : Type 0
 StreamsWithinAreRead =
     (limits : Limits) (bytes : List ℕ) (tops : List (Top SymbolAt ℕ)) (is : Stream bytes tops) → TopsWithin limits is.spells
-    → reading limits bytes ≡ behind (path_items (closed tops)) Finished
+    → reading limits bytes ≡ items_then (path_items (closed tops)) Finished
 
 -- a limit is passed where a reading stands, at the place of the next token: by this token, by the container that it
 -- begins, or by the annotations with the one that it is
@@ -81,7 +81,7 @@ abbrev pub WithinLimitsAreRead : Type 0
 WithinLimitsAreRead =
     (limits : Limits) (bytes : List ℕ) (tops : List (Top SymbolAt ℕ)) → Stream bytes tops
     → ((path : Path SymbolAt ℕ) (s : State) (reason : Reason) (place : ℕ) → At bytes path s → Passes limits s place reason → ⊥)
-    → reading limits bytes ≡ behind (path_items (closed tops)) Finished
+    → reading limits bytes ≡ items_then (path_items (closed tops)) Finished
 
 -- two readings come to one state with the same items; there one stops, since its limits are passed, and the other goes
 -- on
@@ -92,8 +92,8 @@ pub record IsCut (limits wide : Limits) (bytes : List ℕ) : Type 0 where
   pub reason : Reason
   pub place : ℕ
   pub passes : Passes limits state place reason
-  pub short : reading limits bytes ≡ behind (path_items path) (Stopped reason place)
-  pub long : reading wide bytes ≡ behind (path_items path) (reading_by (step wide) size state)
+  pub short : reading limits bytes ≡ items_then (path_items path) (Stopped reason place)
+  pub long : reading wide bytes ≡ items_then (path_items path) (reading_by (step wide) size state)
 
 -- narrower limits change nothing, or cut the reading short where they are passed
 abbrev pub Narrow : Type 0
@@ -101,13 +101,13 @@ Narrow =
     (limits wide : Limits) (bytes : List ℕ) → AreWithin limits wide
     → (reading limits bytes ≡ reading wide bytes) ⊎ IsCut limits wide bytes
 
--- a reading stops behind a path and the front of an item, since a limit is passed there
+-- a reading stops after a path and the front of an item, since a limit is passed there
 pub record StopsAtLimit (limits : Limits) (bytes : List ℕ) (reason : Reason) (place : ℕ) : Type 0 where
   pub path : Path SymbolAt ℕ
   pub state : State
   pub stands : At bytes path state
   pub passes : Passes limits state place reason
-  pub read : reading limits bytes ≡ behind (path_items path) (Stopped reason place)
+  pub read : reading limits bytes ≡ items_then (path_items path) (Stopped reason place)
 
 -- a reading stops at a limit only where it is passed
 abbrev pub ExactLimits : Type 0

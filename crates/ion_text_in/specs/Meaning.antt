@@ -1,4 +1,4 @@
--- What a token means: the text of a scalar is read as that scalar, whatever stands behind it that ends it; the characters of a blob are the base64 of its bytes; what each token means is raw. And what it counts under a limit.
+-- What a token means: the text of a scalar is read as that scalar, whatever stands after it that ends it; the characters of a blob are the base64 of its bytes; what each token means is raw. And what it counts under a limit.
 use Rattle.std.specs.Prelude.{◌≡◌, ◌≢◌, ℕ, ◌+◌, ◌-◌, ◌*◌, ◌^◌, ◌<◌, ◌≤◌, Bool, true, false, not, nat_lt, if◌then◌else◌, List, [], ◌∷◌, ◌++◌, All, length, filter, codes, decimal as digits, Option, Some, None, IsUtf8, ⊤, Ok, Err}
 use Rattle.std.specs.Str.{is_utf8}
 use Rattle.base64.specs.Engines.{standard}
@@ -37,7 +37,7 @@ Allows (Some limit) count = count ≤ limit
 abbrev pub at : ℕ → List ℕ → Cursor
 at place rest = record { place = place; rest = rest }
 
--- a text is a token wherever it stands and whatever stands behind it that ends it, under every limit that allows so
+-- a text is a token wherever it stands and whatever stands after it that ends it, under every limit that allows so
 -- many bytes
 abbrev pub Means : ℕ → (List ℕ → Type 0) → List ℕ → Token → Type 0
 Means count Ends text t =
@@ -124,7 +124,7 @@ BlobsAreBase64 =
 
 -- ---- texts between quotes
 
--- the letter of an escape behind a backslash, and the byte that it means
+-- the letter of an escape after a backslash, and the byte that it means
 pub data Escape : ℕ → ℕ → Type 0 where
   bell : Escape 97 7
   backspace : Escape 98 8
@@ -155,7 +155,7 @@ pub data Chars (quote : ℕ) (in_clob : Bool) : List ℕ → List ℕ → Type 0
   and_then : {text chars bytes : List ℕ} {b : ℕ} → Char quote in_clob text b → Chars quote in_clob chars bytes
       → Chars quote in_clob (text ++ chars) (b ∷ bytes)
 
--- characters with this quote before and behind them
+-- characters with this quote before and after them
 abbrev pub quoted : ℕ → List ℕ → List ℕ
 quoted quote chars = quote ∷ (chars ++ quote ∷ [])
 
@@ -165,7 +165,7 @@ StringTextIsRead =
     (chars bytes : List ℕ) → Chars 34 false chars bytes → is_utf8 bytes ≡ true
     → Means (length bytes) Anything (quoted 34 chars) (tokens.text bytes)
 
--- behind two quotes alone a third begins a long string
+-- after two quotes alone a third begins a long string
 abbrev pub EndsSymbol : List ℕ → List ℕ → Type 0
 EndsSymbol bytes rest = bytes ≡ [] → BeginsNot (codes "'") rest
 

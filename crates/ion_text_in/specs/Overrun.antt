@@ -41,7 +41,7 @@ within comment.None start c = blanks c
 within comment.Line start c = in_line c.place c.rest
 within comment.Block start c = in_block start c.place c.rest
 
--- where the comment begins that stands behind a place
+-- where the comment begins that stands after a place
 abbrev pub begun : Comment → ℕ → ℕ → ℕ
 begun comment.None start place = place
 begun comment.Line start place = start
@@ -53,7 +53,7 @@ cut_at comment.None start = None
 cut_at comment.Line start = None
 cut_at comment.Block start = Some start
 
--- what the byte behind another tells where the first is a slash, the end of a line or a star: which comment goes on behind so many of
+-- what the byte after another tells where the first is a slash, the end of a line or a star: which comment goes on after so many of
 -- them, and nothing where blanks end before them
 abbrev pub turned : Comment → Option ℕ → Option (Comment × ℕ)
 turned comment.None (Some b) = if b == 47 then Some (comment.Line, 2) else (if b == 42 then Some (comment.Block, 2) else None)

@@ -11,7 +11,7 @@ use Rattle.ion_text_in.specs.Token.{begin}
 use Rattle.ion_text_in.specs.Positions.{Wants, a_value, a_field, a_separator, State, innermost, in_sexp, first_place}
 use Rattle.ion_text_in.specs.Grammar.{Tok, Annotations, Field, Inside, Tops, start_of}
 
--- the path behind a container's beginning and some of its members
+-- the path after a container's beginning and some of its members
 abbrev pub open_in : Path SymbolAt ℕ → ℕ → Option SymbolAt → List SymbolAt → ℕ → Kind → Members SymbolAt ℕ
     → Path SymbolAt ℕ
 open_in (closed tops) q field annotations p k members =
@@ -33,13 +33,13 @@ pub data Spells (b : Cursor) : Path SymbolAt ℕ → List Kind → Bool → Curs
 pub record IsPath (bytes : List ℕ) (q : ℕ) (path : Path SymbolAt ℕ) : Type 0 where
   pub kinds : List Kind
   pub full : Bool
-  pub behind : Cursor
-  pub place : q ≡ behind.place
-  pub spells : Spells (start_of bytes) path kinds full behind
+  pub after : Cursor
+  pub place : q ≡ after.place
+  pub spells : Spells (start_of bytes) path kinds full after
 
 -- ---- what a reading stands at
 
--- what is read of an item from behind a path on: a field and annotations; and what must come
+-- what is read of an item from after a path on: a field and annotations; and what must come
 pub data Begun (c : Cursor) : List Kind → Bool → Wants → Cursor → Type 0 where
   at_separator : {kinds : List Kind} → Begun c kinds true a_separator c
   at_field : {kinds : List Kind} → Begun c (kind.Struct ∷ kinds) false a_field c
@@ -53,15 +53,15 @@ abbrev pub IsTop : Path SymbolAt ℕ → ℕ → Type 0
 IsTop (closed tops) place = Unit {0}
 IsTop (opened tops first nest) place = first ≡ place
 
--- the reading stands behind the path and the front of an item
+-- the reading stands after the path and the front of an item
 pub record At (bytes : List ℕ) (path : Path SymbolAt ℕ) (s : State) : Type 0 where
   pub full : Bool
-  pub behind : Cursor
-  pub spells : Spells (start_of bytes) path s.kinds full behind
-  pub begun : Begun behind s.kinds full s.wants s.cursor
+  pub after : Cursor
+  pub spells : Spells (start_of bytes) path s.kinds full after
+  pub begun : Begun after s.kinds full s.wants s.cursor
   pub top : IsTop path s.top
 
--- a step gives an item, and a path that has it behind the items so far, or it keeps the path; it ends where nothing is
+-- a step gives an item, and a path that has it after the items so far, or it keeps the path; it ends where nothing is
 -- open, nothing of an item is read, and nothing is left
 abbrev pub Follows : List ℕ → Path SymbolAt ℕ → State → Step State → Type 0
 Follows bytes path s Ends =

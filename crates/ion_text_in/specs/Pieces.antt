@@ -12,7 +12,7 @@ use Rattle.ion_text_in.specs.declared.piece.HexDigits.TheVariants as code_hex
 use Rattle.ion_text_in.specs.Quoted as quoted
 use Rattle.ion_text_in.specs.Gathered.{onward}
 use Rattle.ion_text_in.specs.Limit.{passes}
-use Rattle.ion_text_in.specs.Quoted.{Quote, Piece, piece_at, hex_behind, bad_text}
+use Rattle.ion_text_in.specs.Quoted.{Quote, Piece, piece_at, hex_after, bad_text}
 use Rattle.ion_text_in.specs.Scanning.{Spelled}
 
 -- the bytes that a piece means
@@ -30,16 +30,16 @@ piece_of code.Cut = quoted.cut
 
 -- so many hex digits at the front of some bytes
 abbrev pub HexIs : ℕ → List ℕ → HexDigits → Type 0
-HexIs count bytes (code_hex.Number n) = (hex_behind count 0 bytes ≡ quoted.number n (drop count bytes)) × (n < 2 ^ (4 * count)) × (count ≤ length bytes)
-HexIs count bytes code_hex.NoDigit = hex_behind count 0 bytes ≡ quoted.no_digit
-HexIs count bytes code_hex.Cut = hex_behind count 0 bytes ≡ quoted.cut_digits
+HexIs count bytes (code_hex.Number n) = (hex_after count 0 bytes ≡ quoted.number n (drop count bytes)) × (n < 2 ^ (4 * count)) × (count ≤ length bytes)
+HexIs count bytes code_hex.NoDigit = hex_after count 0 bytes ≡ quoted.no_digit
+HexIs count bytes code_hex.Cut = hex_after count 0 bytes ≡ quoted.cut_digits
 
 -- what a slice shows of the piece at its front, whatever follows it
 abbrev pub ShowsPiece : Quote → List ℕ → CodePiece → Type 0
 ShowsPiece q bytes code.Cut = Unit {0}
 ShowsPiece q bytes piece = (more : List ℕ) → piece_at q (bytes ++ more) ≡ piece_of piece
 
--- a whole piece of these bytes may be another where more follow: a quote, two of them or a CR in a long text, or a CR behind a backslash
+-- a whole piece of these bytes may be another where more follow: a quote, two of them or a CR in a long text, or a CR after a backslash
 abbrev pub may_go_on : Quote → List ℕ → Bool
 may_go_on q [] = false
 may_go_on q (b ∷ []) = q.is_long && (b == 39 || b == 13)
@@ -53,12 +53,12 @@ taken_of (code.Close taken) = taken
 taken_of code.Illegal = 0
 taken_of code.Cut = 0
 
--- what is read on behind a piece, where so many bytes were read before it
-abbrev pub behind_piece : Quote → ℕ → List ℕ → Cursor → CodePiece → Spelled
-behind_piece q limit text c (code.Text m taken) = refuse (passes (Some limit) (length text + length (bytes_of m))) ScalarLimit >> onward q limit (text ++ bytes_of m) c
-behind_piece q limit text c (code.Close taken) = Ok (text, c)
-behind_piece q limit text c code.Illegal = Err (bad_text q)
-behind_piece q limit text c code.Cut = Err Truncated
+-- what is read on after a piece, where so many bytes were read before it
+abbrev pub after_piece : Quote → ℕ → List ℕ → Cursor → CodePiece → Spelled
+after_piece q limit text c (code.Text m taken) = refuse (passes (Some limit) (length text + length (bytes_of m))) ScalarLimit >> onward q limit (text ++ bytes_of m) c
+after_piece q limit text c (code.Close taken) = Ok (text, c)
+after_piece q limit text c code.Illegal = Err (bad_text q)
+after_piece q limit text c code.Cut = Err Truncated
 
 -- a piece that is passed over takes a byte
 abbrev pub Advances : ℕ → ℕ → CodePiece → Type 0

@@ -43,7 +43,7 @@ first_place (a ∷ annotations) place = a.place
 
 -- ---- where a reading stands
 
--- what must come: a value, behind what is read of its item; a field; or what separates two members
+-- what must come: a value, after what is read of its item; a field; or what separates two members
 pub data Wants : Type 0 where
   a_value : (field : Option SymbolAt) → (annotations : List SymbolAt) → Wants
   a_field : Wants

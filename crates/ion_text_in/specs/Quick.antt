@@ -3,7 +3,7 @@ use Rattle.std.specs.Prelude.{◌≡◌, ℕ, ◌+◌, ◌-◌, ◌*◌, ◌<◌
 use Rattle.ion_value.specs.declared.decimal.Decimal.{Decimal}
 use Rattle.ion_value.specs.declared.int.Int.{Int}
 use Rattle.ion_value.specs.Decimal.{decimal_of_parts, parts_of}
-use Rattle.ion_value.specs.DigitReading.{decimal_behind}
+use Rattle.ion_value.specs.DigitReading.{decimal_after}
 use Rattle.ion_value.specs.Digits.{is_digit, all_are, first_is, has_minus}
 use Rattle.ion_value.specs.Name.{is_one_of}
 use Rattle.ion_value.specs.PlainItems.{IsTextOf}
@@ -18,7 +18,7 @@ use Rattle.ion_text_in.specs.Runs.{stays}
 use Rattle.ion_text_in.specs.Token.{in_run, run_token}
 use Rattle.ion_text_in.specs.Views.{as_number, number_token}
 
--- a minus or none, and what stands behind it
+-- a minus or none, and what stands after it
 abbrev pub signed_text : Bool → List ℕ → List ℕ
 signed_text negative text = (if negative then 45 ∷ [] else []) ++ text
 
@@ -39,7 +39,7 @@ number_by negative n None = numbers.Int (signed_int negative n)
 abbrev pub as_quick : Quick → Number
 as_quick x = number_by x.negative x.number x.exponent
 
--- the number that digits spell behind another
+-- the number that digits spell after another
 abbrev pub number_after : ℕ → List ℕ → ℕ
 number_after n [] = n
 number_after n (digit ∷ digits) = number_after (n * 10 + (digit - 48)) digits
@@ -48,14 +48,14 @@ number_after n (digit ∷ digits) = number_after (n * 10 + (digit - 48)) digits
 abbrev pub stops : ℕ → Bool
 stops b = is_one_of (codes "{}[](),\"'") b || is_white b
 
--- so many bytes in front are digits, of which a first zero stands alone, and another byte stands behind them
+-- so many bytes in front are digits, of which a first zero stands alone, and another byte stands after them
 pub record AreWhole (bytes : List ℕ) (count : ℕ) : Type 0 where
   pub some : 0 < count
   pub within : count < length bytes
   pub digits : all_are is_digit (take count bytes) ≡ true
   pub no_zeros : (first_is (λ b. b == 48) bytes && first_is (λ b. is_digit b || b == 95) (drop 1 bytes)) ≡ false
 
--- so many bytes in front are a decimal's digits, so many of which may stand behind a point, and spell a number; behind them an exponent may come
+-- so many bytes in front are a decimal's digits, so many of which may stand after a point, and spell a number; after them an exponent may come
 pub record IsMantissa (bytes : List ℕ) (number places count : ℕ) : Type 0 where
   pub some : 0 < count
   pub within : count < length bytes
@@ -63,14 +63,14 @@ pub record IsMantissa (bytes : List ℕ) (number places count : ℕ) : Type 0 wh
   pub goes : all_are (stays run.Number) (take count bytes) ≡ true
   pub plain : (power : List ℕ) → has_minus (take count bytes ++ power) ≡ false
   pub read : (power : List ℕ) (negative : Bool)
-      → decimal_of_parts negative (parts_of (take count bytes ++ 100 ∷ power)) ≡ decimal_behind negative number places (nat_lt 0 places) (100 ∷ power)
+      → decimal_of_parts negative (parts_of (take count bytes ++ 100 ∷ power)) ≡ decimal_after negative number places (nat_lt 0 places) (100 ∷ power)
 
 -- some bytes are the canonical text of the number that was read of them where it says so, which it does of each int
 pub record AreSpelled (bytes : List ℕ) (x : Quick) : Type 0 where
   pub int : x.exponent ≡ None → x.canonical ≡ true
   pub text : x.canonical ≡ true → IsTextOf bytes (whole (as_number (as_quick x)))
 
--- so many bytes behind a sign are a number, and a byte that stops it stands behind them
+-- so many bytes after a sign are a number, and a byte that stops it stands after them
 pub record IsQuick (negative : Bool) (bytes : List ℕ) (x : Quick) : Type 0 where
   pub sign : x.negative ≡ negative
   pub some : 0 < x.count

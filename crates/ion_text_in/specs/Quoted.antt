@@ -7,7 +7,7 @@ use Rattle.ion_value.specs.Digits.{is_between, is_hex_digit, digit_value, first_
 use Rattle.ion_value.specs.Name.{begins_with, is_one_of}
 use Rattle.ion_value.specs.Parts.{Placed, refuse, ◌>>=◌, ◌>>◌}
 use Rattle.ion_meter.specs.Sources.{Cursor, skip}
-use Rattle.ion_text_in.specs.Places.{behind_run}
+use Rattle.ion_text_in.specs.Places.{after_run}
 use Rattle.ion_text_in.specs.Limit.{passes}
 use Rattle.ion_text_in.specs.Blanks.{is_white, blanks}
 
@@ -39,17 +39,17 @@ pub data Piece : Type 0 where
 
 -- ---- escapes
 
--- what so many hex digits spell and the bytes behind them; or that a byte among them is none, or that the input ends there
+-- what so many hex digits spell and the bytes after them; or that a byte among them is none, or that the input ends there
 pub data Hex : Type 0 where
-  number : (value : ℕ) → (behind : List ℕ) → Hex
+  number : (value : ℕ) → (after : List ℕ) → Hex
   no_digit : Hex
   cut_digits : Hex
 
--- so many hex digits at the front of these bytes, behind others that spell n
-unfoldable pub hex_behind : ℕ → ℕ → List ℕ → Hex
-hex_behind zero n bytes = number n bytes
-hex_behind (suc more) n [] = cut_digits
-hex_behind (suc more) n (b ∷ bytes) = elim (is_hex_digit b) [ true ↦ hex_behind more (16 * n + digit_value b) bytes | false ↦ no_digit ]
+-- so many hex digits at the front of these bytes, after others that spell n
+unfoldable pub hex_after : ℕ → ℕ → List ℕ → Hex
+hex_after zero n bytes = number n bytes
+hex_after (suc more) n [] = cut_digits
+hex_after (suc more) n (b ∷ bytes) = elim (is_hex_digit b) [ true ↦ hex_after more (16 * n + digit_value b) bytes | false ↦ no_digit ]
 
 -- the first of two codes by which UTF-16 has a character from U+10000 on
 abbrev pub is_high_surrogate : ℕ → Bool
@@ -67,38 +67,38 @@ by_code c taken = if nat_le c 0x10FFFF && not (is_between 0xD800 0xDFFF c) then 
 abbrev pub pair : ℕ → ℕ → ℕ
 pair high low = 0x10000 + (high - 0xD800) * 1024 + (low - 0xDC00)
 
--- the character of a high surrogate and of the escape behind it, whose digits these are: they must tell a low one
+-- the character of a high surrogate and of the escape after it, whose digits these are: they must tell a low one
 abbrev pub low_half : ℕ → Hex → Piece
-low_half high (number low behind) = if is_low_surrogate low then by_code (pair high low) 12 else illegal
+low_half high (number low after) = if is_low_surrogate low then by_code (pair high low) 12 else illegal
 low_half high no_digit = illegal
 low_half high cut_digits = cut
 
--- behind the escape of a high surrogate, which that of a low one must follow at once
-abbrev pub low_behind : ℕ → List ℕ → Piece
-low_behind high [] = cut
-low_behind high (b ∷ []) = if b == 92 then cut else illegal
-low_behind high (b ∷ c ∷ bytes) = if b == 92 && c == 117 then low_half high (hex_behind 4 0 bytes) else illegal
+-- after the escape of a high surrogate, which that of a low one must follow at once
+abbrev pub low_after : ℕ → List ℕ → Piece
+low_after high [] = cut
+low_after high (b ∷ []) = if b == 92 then cut else illegal
+low_after high (b ∷ c ∷ bytes) = if b == 92 && c == 117 then low_half high (hex_after 4 0 bytes) else illegal
 
 -- the character of `\x` and two digits, which in a clob is a byte
 abbrev pub byte_code : Bool → Hex → Piece
-byte_code true (number n behind) = char (n ∷ []) 4
-byte_code false (number n behind) = by_code n 4
+byte_code true (number n after) = char (n ∷ []) 4
+byte_code false (number n after) = by_code n 4
 byte_code in_clob no_digit = illegal
 byte_code in_clob cut_digits = cut
 
 -- the character of `\u` and four digits, or of two such escapes where these are a pair of surrogates
 abbrev pub short_code : Hex → Piece
-short_code (number n behind) = if is_high_surrogate n then low_behind n behind else by_code n 6
+short_code (number n after) = if is_high_surrogate n then low_after n after else by_code n 6
 short_code no_digit = illegal
 short_code cut_digits = cut
 
 -- the character of `\U` and eight digits
 abbrev pub long_code : Hex → Piece
-long_code (number n behind) = by_code n 10
+long_code (number n after) = by_code n 10
 long_code no_digit = illegal
 long_code cut_digits = cut
 
--- `\a \b \t \n \f \r \v \0`, and those characters that stand for themselves behind a backslash
+-- `\a \b \t \n \f \r \v \0`, and those characters that stand for themselves after a backslash
 abbrev pub letter : ℕ → Option ℕ
 letter e =
     if e == 97 then Some 7 else (if e == 98 then Some 8 else (if e == 116 then Some 9 else (if e == 110 then Some 10
@@ -108,13 +108,13 @@ letter e =
 -- an escape by code, whose letter is e: `\x`, and outside of clobs `\u` and `\U`
 abbrev pub coded : Bool → ℕ → List ℕ → Piece
 coded in_clob e bytes =
-    if e == 120 then byte_code in_clob (hex_behind 2 0 bytes)
+    if e == 120 then byte_code in_clob (hex_after 2 0 bytes)
     else (if in_clob then illegal
-    else (if e == 117 then short_code (hex_behind 4 0 bytes)
-    else (if e == 85 then long_code (hex_behind 8 0 bytes)
+    else (if e == 117 then short_code (hex_after 4 0 bytes)
+    else (if e == 85 then long_code (hex_after 8 0 bytes)
     else illegal)))
 
--- an escape whose letter is e: the byte that it means, where it means one by itself, and else what the code behind it means
+-- an escape whose letter is e: the byte that it means, where it means one by itself, and else what the code after it means
 abbrev pub by_letter : Option ℕ → Bool → ℕ → List ℕ → Piece
 by_letter (Some c) in_clob e bytes = char (c ∷ []) 2
 by_letter None in_clob e bytes = coded in_clob e bytes
@@ -123,7 +123,7 @@ by_letter None in_clob e bytes = coded in_clob e bytes
 abbrev pub line_end_length : ℕ → List ℕ → ℕ
 line_end_length b bytes = if b == 13 && first_is (λ c. c == 10) bytes then 2 else 1
 
--- behind a backslash: an end of a line vanishes with it
+-- after a backslash: an end of a line vanishes with it
 abbrev pub escape : Bool → List ℕ → Piece
 escape in_clob [] = cut
 escape in_clob (e ∷ bytes) = if e == 10 || e == 13 then char [] (1 + line_end_length e bytes) else by_letter (letter e) in_clob e bytes
@@ -160,7 +160,7 @@ with_piece later q limit count c (close taken) = Ok ([], skip taken c)
 with_piece later q limit count c illegal = Err (bad_text q)
 with_piece later q limit count c cut = Err Truncated
 
--- the pieces from behind opening quotes to behind the closing ones; the first number is how many there are at most
+-- the pieces from after opening quotes to after the closing ones; the first number is how many there are at most
 unfoldable pub pieces_for : ℕ → Quote → Option ℕ → ℕ → Cursor → Result (List ℕ × Cursor) Reason
 pieces_for zero q limit count c = Err Truncated
 pieces_for (suc most) q limit count c = with_piece (λ n d. pieces_for most q limit n d) q limit count c (piece_at q c.rest)
@@ -172,9 +172,9 @@ segment_at q limit count c = do
   refuse (not (q.in_clob || is_utf8 s.0)) BadText
   Ok s
 
--- behind the quotes of a further segment, where one follows
-abbrev pub behind_quotes : Quote → Cursor → Option Cursor
-behind_quotes q c = if begins_with q.closer c.rest then Some (skip (length q.closer) c) else None
+-- after the quotes of a further segment, where one follows
+abbrev pub after_quotes : Quote → Cursor → Option Cursor
+after_quotes q c = if begins_with q.closer c.rest then Some (skip (length q.closer) c) else None
 
 -- what was read, where there was no fault
 abbrev pub where_read : {A : Type 0} → Placed A → Option A
@@ -183,15 +183,15 @@ where_read (Err fault) = None
 
 -- white space stands between the segments of a clob, and comments too between others
 abbrev pub between : Bool → Cursor → Option Cursor
-between true c = Some (behind_run (first_is is_white) c)
+between true c = Some (after_run (first_is is_white) c)
 between false c = where_read (blanks c)
 
--- behind the quotes of a further segment, where there is a cursor and they stand at it
+-- after the quotes of a further segment, where there is a cursor and they stand at it
 abbrev pub in_next : Quote → Option Cursor → Option Cursor
 in_next q None = None
-in_next q (Some c) = behind_quotes q c
+in_next q (Some c) = after_quotes q c
 
--- behind the opening quotes of a further segment, where one follows: in long texts alone
+-- after the opening quotes of a further segment, where one follows: in long texts alone
 abbrev pub next_segment : Quote → Cursor → Option Cursor
 next_segment q c = if q.is_long then in_next q (between q.in_clob c) else None
 
@@ -202,13 +202,13 @@ with_segments later s (Some c) = do
   others ← later c
   Ok (s.0 ++ others.0, others.1)
 
--- the segments from behind the first opening quotes on; the first number is how many there are at most
+-- the segments from after the first opening quotes on; the first number is how many there are at most
 unfoldable pub segments_for : ℕ → Quote → Option ℕ → ℕ → Cursor → Result (List ℕ × Cursor) Reason
 segments_for zero q limit count c = Err Truncated
 segments_for (suc most) q limit count c = do
   s ← segment_at q limit count c
   with_segments (λ d. segments_for most q limit (count + length s.0) d) s (next_segment q s.1)
 
--- a text behind its opening quotes: the bytes that it spells, of which a limit may say how many there may be
+-- a text after its opening quotes: the bytes that it spells, of which a limit may say how many there may be
 abbrev pub text_at : Quote → Option ℕ → Cursor → Result (List ℕ × Cursor) Reason
 text_at q limit c = segments_for (suc (length c.rest)) q limit 0 c

@@ -30,7 +30,7 @@ mark_of code.LongClob = 39
 abbrev pub is_sure : ℕ → Bool → ℕ → Bool
 is_sure mark in_clob b = not (mark == b) && not (b == 92) && (nat_le 32 b && (not in_clob || nat_lt b 128))
 
--- so many bytes of a text are within a limit, and the quote stands behind them
+-- so many bytes of a text are within a limit, and the quote stands after them
 abbrev pub IsWithin : ℕ → Scanned ℕ → Type 0
 IsWithin limit (Whole plain taken) = (plain ≤ limit) × (plain < taken)
 IsWithin limit (Fault reason) = Unit {0}

@@ -4,7 +4,7 @@ use Rattle.std.specs.List.{AllByRecursion}
 use Rattle.ion_meter.specs.declared.limits.Limits.{Limits}
 use Rattle.ion_value.specs.Decimal.{decimal_of_text}
 use Rattle.ion_value.specs.Path.{closed, path_items}
-use Rattle.ion_value.specs.Reading.{Finished, behind}
+use Rattle.ion_value.specs.Reading.{Finished, items_then}
 use Rattle.ion_value.specs.Timestamp.{timestamp_of_text}
 use Rattle.ion_value.specs.Value as value
 use Rattle.ion_value.specs.Value.{Symbol, SymbolAt, Scalar, Value, Members, scalar, container, nothing, member, Top, version, tree}
@@ -17,7 +17,7 @@ use Rattle.ion_text_in.specs.Within.{TopsWithin}
 abbrev pub WhatIsReadIsWithin : Type 0
 WhatIsReadIsWithin =
     (limits : Limits) (bytes : List ℕ) (tops : List (Top SymbolAt ℕ)) (is : Stream bytes tops)
-    → reading limits bytes ≡ behind (path_items (closed tops)) Finished → TopsWithin limits is.spells
+    → reading limits bytes ≡ items_then (path_items (closed tops)) Finished → TopsWithin limits is.spells
 
 -- ---- values
 
@@ -67,4 +67,4 @@ TopIsWithin limits (tree first annotations place x) =
 abbrev pub ValuesReadAreWithin : Type 0
 ValuesReadAreWithin =
     (limits : Limits) (bytes : List ℕ) (tops : List (Top SymbolAt ℕ)) → Stream bytes tops
-    → reading limits bytes ≡ behind (path_items (closed tops)) Finished → AllByRecursion (TopIsWithin limits) tops
+    → reading limits bytes ≡ items_then (path_items (closed tops)) Finished → AllByRecursion (TopIsWithin limits) tops

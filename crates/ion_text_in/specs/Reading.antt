@@ -29,9 +29,9 @@ abbrev pub at_member : Option Kind → Wants
 at_member None = a_value None []
 at_member (Some k) = member_of k
 
--- behind a member a comma must come where there are commas, or the container's end
-abbrev pub behind_member : Option Kind → Wants
-behind_member k = if has_commas k then a_separator else a_value None []
+-- after a member a comma must come where there are commas, or the container's end
+abbrev pub after_member : Option Kind → Wants
+after_member k = if has_commas k then a_separator else a_value None []
 
 -- ---- which tokens may come
 
@@ -86,7 +86,7 @@ top_of (k ∷ kinds) top annotations place = top
 abbrev pub item_of : ℕ → Option SymbolAt → List SymbolAt → ℕ → Head SymbolAt → PlacedItem
 item_of top field annotations place head = record { field = field; annotations = annotations; head = head; place = place; top = top }
 
--- an item whose head begins at a place, and what must come behind it
+-- an item whose head begins at a place, and what must come after it
 abbrev pub item_step : List Kind → ℕ → Option SymbolAt → List SymbolAt → ℕ → Head SymbolAt → List Kind → Wants → Cursor → Step State
 item_step kinds top field annotations place head after wants c =
     Gives (item_of (top_of kinds top annotations place) field annotations place head)
@@ -96,7 +96,7 @@ item_step kinds top field annotations place head after wants c =
 abbrev pub scalar_step : List Kind → ℕ → Option SymbolAt → List SymbolAt → ℕ → Scalar SymbolAt → Cursor → Step State
 scalar_step kinds top field annotations place body c =
     item_step kinds top field annotations place (value.whole body) kinds
-    (behind_member (innermost kinds)) c
+    (after_member (innermost kinds)) c
 
 -- a step that gives no item; this must come from the cursor on
 abbrev pub onward_step : List Kind → ℕ → Wants → Cursor → Step State
@@ -131,31 +131,31 @@ is_marker (value.Id id) = false
 abbrev pub version_step : List Kind → ℕ → Option SymbolAt → List SymbolAt → SymbolAt → Cursor → Result (Step State) Reason
 version_step kinds top field annotations a c = do
   refuse (not (is_marker a.symbol)) BadVersion
-  Ok (item_step kinds top field annotations a.place value.marker kinds (behind_member (innermost kinds)) c)
+  Ok (item_step kinds top field annotations a.place value.marker kinds (after_member (innermost kinds)) c)
 
--- the step of a symbol with no two colons behind it: a version marker where the last argument says so, and else a value
+-- the step of a symbol with no two colons after it: a version marker where the last argument says so, and else a value
 abbrev pub value_or_version : List Kind → ℕ → Option SymbolAt → List SymbolAt → SymbolAt → Cursor → Bool → Result (Step State) Reason
 value_or_version kinds top field annotations a c true =
     version_step kinds top field annotations a c
 value_or_version kinds top field annotations a c false = Ok (scalar_step kinds top field annotations a.place (value.symbol a) c)
 
--- behind the two colons, where they are the next token
+-- after the two colons, where they are the next token
 abbrev pub colons_at : First → Cursor → Option Cursor
 colons_at two_colons c = Some (skip 2 c)
 colons_at _ c = None
 
--- behind two colons, where they are the next token behind blanks that end here
-abbrev pub colons_behind : Bool → Placed Cursor → Option Cursor
-colons_behind sexp (Ok c) = colons_at (first_at sexp c.rest) c
-colons_behind sexp (Err fault) = None
+-- after two colons, where they are the next token after blanks that end here
+abbrev pub colons_after : Bool → Placed Cursor → Option Cursor
+colons_after sexp (Ok c) = colons_at (first_at sexp c.rest) c
+colons_after sexp (Err fault) = None
 
--- behind two colons, where they are the next token from the cursor on; the first argument says whether in a sexp
-abbrev pub behind_colons : Bool → Cursor → Option Cursor
-behind_colons sexp c = colons_behind sexp (blanks c)
+-- after two colons, where they are the next token from the cursor on; the first argument says whether in a sexp
+abbrev pub after_colons : Bool → Cursor → Option Cursor
+after_colons sexp c = colons_after sexp (blanks c)
 
 -- an annotation where two colons follow, else the value or a version marker
 abbrev pub symbol_step : Limits → List Kind → ℕ → Option SymbolAt → List SymbolAt → Bool → SymbolAt → Cursor → Option Cursor → Result (Step State) Reason
-symbol_step limits kinds top field annotations quoted a c (Some behind) = with_annotation limits kinds top field annotations a behind
+symbol_step limits kinds top field annotations quoted a c (Some after) = with_annotation limits kinds top field annotations a after
 symbol_step limits kinds top field annotations quoted a c None =
     value_or_version kinds top field annotations a c (tells_version (innermost kinds) annotations quoted a.symbol)
 
@@ -173,9 +173,9 @@ abbrev pub end_step : List Kind → ℕ → Kind → ℕ → Cursor → Result (
 end_step [] top k place c = Err BadToken
 end_step (j ∷ kinds) top k place c = do
   refuse (not (is_same j k)) BadToken
-  Ok (Gives (item_of top None [] place value.end) (record { kinds = kinds; top = top; wants = behind_member (innermost kinds); cursor = c }))
+  Ok (Gives (item_of top None [] place value.end) (record { kinds = kinds; top = top; wants = after_member (innermost kinds); cursor = c }))
 
--- nothing closes behind a field or an annotation
+-- nothing closes after a field or an annotation
 abbrev pub bare_end_step : Option SymbolAt → List SymbolAt → List Kind → ℕ → Kind → ℕ → Cursor → Result (Step State) Reason
 bare_end_step None [] kinds top k place c = end_step kinds top k place c
 bare_end_step _ _ kinds top k place c = Err BadToken
@@ -186,17 +186,17 @@ begin_step limits kinds top field annotations k place c = do
   refuse (nat_le limits.depth (length kinds)) DepthLimit
   Ok (item_step kinds top field annotations place (value.begin k) (k ∷ kinds) (member_of k) c)
 
--- behind a field's name
+-- after a field's name
 abbrev pub colon_of : List Kind → ℕ → SymbolAt → Cursor → First → Placed (Step State)
 colon_of kinds top a c a_colon = Ok (onward_step kinds top (a_value (Some a) []) (skip 1 c))
 colon_of kinds top a c _ = Err (BadToken, c.place)
 
--- the step behind a field's name and blanks: a colon must be the next token
+-- the step after a field's name and blanks: a colon must be the next token
 abbrev pub colon_from : List Kind → ℕ → SymbolAt → Cursor → List ℕ → Placed (Step State)
 colon_from kinds top a c [] = Err (Truncated, c.place)
 colon_from kinds top a c (b ∷ bytes) = colon_of kinds top a c (first_at false (b ∷ bytes))
 
--- the step behind a field's name: blanks, and then the colon that must come
+-- the step after a field's name: blanks, and then the colon that must come
 abbrev pub field_step : List Kind → ℕ → SymbolAt → Cursor → Placed (Step State)
 field_step kinds top a c = do
   d ← blanks c
@@ -217,7 +217,7 @@ take limits kinds top (a_value field annotations) place (text bytes) c = Ok (sca
 take limits kinds top (a_value field annotations) place (operator bytes) c =
     Ok (scalar_step kinds top field annotations place (value.symbol (at (value.Text bytes) place)) c)
 take limits kinds top (a_value field annotations) place (name quoted symbol) c =
-    part place (symbol_step limits kinds top field annotations quoted (at symbol place) c (behind_colons (in_sexp (innermost kinds)) c))
+    part place (symbol_step limits kinds top field annotations quoted (at symbol place) c (after_colons (in_sexp (innermost kinds)) c))
 take limits kinds top (a_value field annotations) place (begin k) c = part place (begin_step limits kinds top field annotations k place c)
 take limits kinds top (a_value field annotations) place no_number c = Err (Float, place)
 take limits kinds top _ place _ c = Err (BadToken, place)
@@ -239,15 +239,15 @@ abbrev pub part_from : Limits → State → Cursor → First → Placed (Step St
 part_from limits s c first = next_part limits s c first (may_come s.wants first)
 
 -- the step where blanks end: at the end of the input, or by the token that begins there
-abbrev pub part_behind : Limits → State → Cursor → List ℕ → Placed (Step State)
-part_behind limits s c [] = final_step s.kinds s.wants c.place
-part_behind limits s c (b ∷ bytes) = part_from limits s c (first_at (in_sexp (innermost s.kinds)) (b ∷ bytes))
+abbrev pub part_after : Limits → State → Cursor → List ℕ → Placed (Step State)
+part_after limits s c [] = final_step s.kinds s.wants c.place
+part_after limits s c (b ∷ bytes) = part_from limits s c (first_at (in_sexp (innermost s.kinds)) (b ∷ bytes))
 
 -- what the reading does next at a state, or its fault and the place of that
 unfoldable pub part_at : Limits → State → Placed (Step State)
 part_at limits s = do
   c ← blanks s.cursor
-  part_behind limits s c c.rest
+  part_after limits s c c.rest
 
 -- ---- the stream
 

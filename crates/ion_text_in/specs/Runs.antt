@@ -16,7 +16,7 @@ use Rattle.ion_text_in.specs.Places.{run_of}
 use Rattle.ion_text_in.specs.Blanks.{is_white}
 use Rattle.ion_text_in.specs.Token.{in_run, in_word, in_operator}
 
--- what goes on with a token behind its first byte
+-- what goes on with a token after its first byte
 abbrev pub goes_on : Run → List ℕ → Bool
 goes_on Number bytes = in_run bytes
 goes_on Word bytes = in_word bytes
@@ -44,10 +44,10 @@ GoOn test bytes n =
     (more : List ℕ) → run_of test (bytes ++ more) ≡ (take n bytes ++ (run_of test (drop n bytes ++ more)).0, (run_of test (drop n bytes ++ more)).1)
 
 -- and no more
-abbrev pub EndBehind : (List ℕ → Bool) → List ℕ → ℕ → Type 0
-EndBehind test bytes n = (more : List ℕ) → run_of test (bytes ++ more) ≡ (take n bytes, drop n bytes ++ more)
+abbrev pub EndAfter : (List ℕ → Bool) → List ℕ → ℕ → Type 0
+EndAfter test bytes n = (more : List ℕ) → run_of test (bytes ++ more) ≡ (take n bytes, drop n bytes ++ more)
 
--- a byte, where there is one, behind a slash that begins a comment
+-- a byte, where there is one, after a slash that begins a comment
 abbrev pub opens_comment : Option ℕ → Bool
 opens_comment (Some b) = b == 47 || b == 42
 opens_comment None = false
@@ -59,9 +59,9 @@ IsOpen run rest = (rest ≡ []) ⊎ ((has_slashes run ≡ true) × (rest ≡ 47 
 -- how far a token goes on in a slice, and whether the slice shows that it goes no further
 pub record IsExtent (run : Run) (bytes : List ℕ) (extent : Extent) : Type 0 where
   pub within : extent.len ≤ length bytes
-  pub behind : extent.ended ≡ true → extent.len < length bytes
+  pub after : extent.ended ≡ true → extent.len < length bytes
   pub goes : GoOn (goes_on run) bytes extent.len
-  pub ends : extent.ended ≡ true → EndBehind (goes_on run) bytes extent.len
+  pub ends : extent.ended ≡ true → EndAfter (goes_on run) bytes extent.len
   pub unsure : extent.ended ≡ false → IsOpen run (drop extent.len bytes)
 
 -- so many bytes at the front of some go on
@@ -70,13 +70,13 @@ GoesOver test bytes n = run_of test bytes ≡ (take n bytes ++ (run_of test (dro
 
 -- ---- bytes that are gathered
 
--- some bytes behind others, of which a limit may say how many there may be in all, and what stands behind them
+-- some bytes after others, of which a limit may say how many there may be in all, and what stands after them
 abbrev pub joined : Option ℕ → List ℕ → List ℕ → Cursor → Result (List ℕ × Cursor) Reason
 joined limit before bytes c = do
   refuse (passes limit (length before + length bytes)) ScalarLimit
   Ok (before ++ bytes, skip (length bytes) c)
 
--- the bytes that go on with a token, behind those before them
+-- the bytes that go on with a token, after those before them
 abbrev pub with_run : Run → Option ℕ → List ℕ → Cursor → Result (List ℕ × Cursor) Reason
 with_run run limit before c = joined limit before (run_of (goes_on run) c.rest).0 c
 

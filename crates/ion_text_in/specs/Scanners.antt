@@ -6,7 +6,7 @@ use Rattle.ion_text_in.specs.declared.scanned.Scanned.{Scanned}
 use Rattle.ion_text_in.specs.declared.scanned.Scanned.TheVariants.{Whole, Fault, Cut}
 use Rattle.ion_text_in.specs.Meaning.{at}
 
--- reading gives the same from wherever the slice stands and whatever stands behind it
+-- reading gives the same from wherever the slice stands and whatever stands after it
 abbrev pub Shows : {T A : Type 0} → (T → A) → List ℕ → Scanned T → (Cursor → Result (A × Cursor) Reason) → Type 0
 Shows view bytes (Whole x n) reading =
     (n ≤ length bytes) × ((place : ℕ) (more : List ℕ) → reading (at place (bytes ++ more)) ≡ Ok (view x, at (place + n) (drop n bytes ++ more)))

@@ -1,4 +1,4 @@
--- What a reader in code does otherwise than the definitions: it starts behind blanks, it counts no pieces, and it takes plain bytes
+-- What a reader in code does otherwise than the definitions: it starts after blanks, it counts no pieces, and it takes plain bytes
 -- together.
 use Rattle.std.specs.Prelude.{◌≡◌, ℕ, suc, ◌+◌, ◌≤◌, Bool, true, false, not, ◌&&◌, ◌||◌, ◌==◌, nat_lt, if◌then◌else◌, List, [], ◌∷◌, ◌++◌, length, Option, Result, Ok, Err}
 use Rattle.ion_meter.specs.declared.fault.Reason.{Reason}
@@ -10,7 +10,7 @@ use Rattle.ion_value.specs.Parts.{refuse, ◌>>=◌, ◌>>◌}
 use Rattle.ion_text_in.specs.Limit.{passes}
 use Rattle.ion_text_in.specs.Blanks.{blanks}
 use Rattle.ion_text_in.specs.Quoted.{Quote, Piece, char, close, illegal, cut, is_raw, piece_at, with_piece, pieces_for, segment_at, next_segment, with_segments, segments_for}
-use Rattle.ion_text_in.specs.Lob.{group_of, group_bytes, behind_to, last_group, groups_for}
+use Rattle.ion_text_in.specs.Lob.{group_of, group_bytes, after_to, last_group, groups_for}
 use Rattle.ion_text_in.specs.Positions.{State}
 use Rattle.ion_text_in.specs.Reading.{step}
 use Rattle.ion_text_in.specs.Meaning.{at}
@@ -21,21 +21,21 @@ use Rattle.ion_text_in.specs.Meaning.{at}
 abbrev pub moved_to : Cursor → State → State
 moved_to c s = record { kinds = s.kinds; top = s.top; wants = s.wants; cursor = c }
 
--- a step from behind blanks is the step from before them
+-- a step from after blanks is the step from before them
 abbrev pub BlanksChangeNoStep : Type 0
 BlanksChangeNoStep = (limits : Limits) (s : State) (c : Cursor) → blanks s.cursor ≡ Ok c → step limits (moved_to c s) ≡ step limits s
 
 -- ---- texts and groups, where no number says how many there are at most
 
--- the bytes that a text or a blob spells, and what stands behind it
+-- the bytes that a text or a blob spells, and what stands after it
 abbrev pub Spelled : Type 0
 Spelled = Result (List ℕ × Cursor) Reason
 
--- the pieces from a cursor inside quotes to behind the closing ones, where so many bytes came before
+-- the pieces from a cursor inside quotes to after the closing ones, where so many bytes came before
 abbrev pub pieces : Quote → Option ℕ → ℕ → Cursor → Spelled
 pieces q limit count c = pieces_for (suc (length c.rest)) q limit count c
 
--- the segments from behind opening quotes on, where so many bytes came before
+-- the segments from after opening quotes on, where so many bytes came before
 abbrev pub segments : Quote → Option ℕ → ℕ → Cursor → Spelled
 segments q limit count c = segments_for (suc (length c.rest)) q limit count c
 
@@ -81,11 +81,11 @@ SegmentsInTurn =
 abbrev pub with_groups : (ℕ → Bool → Cursor → Spelled) → Option ℕ → ℕ → Bool → Cursor → Spelled
 with_groups later limit count padded c =
     let g = group_of 4 c.rest in
-    if nat_lt (length g.0) 4 then last_group g.0 (behind_to c g.1)
+    if nat_lt (length g.0) 4 then last_group g.0 (after_to c g.1)
     else (do
       bytes ← group_bytes padded g.0
       refuse (passes limit (count + length bytes)) ScalarLimit
-      others ← later (count + length bytes) (nat_lt (length bytes) 3) (behind_to c g.1)
+      others ← later (count + length bytes) (nat_lt (length bytes) 3) (after_to c g.1)
       Ok (bytes ++ others.0, others.1))
 
 -- one group after another

@@ -27,7 +27,7 @@ use Rattle.ion_text_in.specs.declared.reader.StepResult.TheVariants as step_resu
 use Rattle.ion_text_in.specs.declared.reader.TextReader.{TextReader}
 use Rattle.ion_text_in.specs.Blanks.{blanks}
 use Rattle.ion_text_in.specs.Positions.{State, innermost, at}
-use Rattle.ion_text_in.specs.Reading.{step, step_of, size, take, with_annotation, behind_member, final_step, field_step, item_step, part_from, tells_version, value_or_version}
+use Rattle.ion_text_in.specs.Reading.{step, step_of, size, take, with_annotation, after_member, final_step, field_step, item_step, part_from, tells_version, value_or_version}
 use Rattle.ion_text_in.specs.Token as tokens
 use Rattle.ion_text_in.specs.Tokens.{as_symbol, as_scalar, going, BodyInRange}
 use Rattle.ion_text_in.specs.Symbols.{as_field, as_annotations, AreKept}
@@ -150,12 +150,12 @@ abbrev pub to_come_in : {I A : Type 0} → InputOf I → TextReader I A → Read
 to_come_in device r = later r.limits (state_at (cursor device r.source) r)
 
 -- between two items
-abbrev pub state_behind : {I A : Type 0} → Cursor → TextReader I A → State
-state_behind c r = record { kinds = opened_in r; top = r.top; wants = wanted r.expected None []; cursor = c }
+abbrev pub state_after : {I A : Type 0} → Cursor → TextReader I A → State
+state_after c r = record { kinds = opened_in r; top = r.top; wants = wanted r.expected None []; cursor = c }
 
 -- all that is to come where the reader stands between two items, by what is left of the device
 abbrev pub to_come_by : {I A : Type 0} → InputOf I → TextReader I A → Reading
-to_come_by device r = unless_unfinished r.unfinished (later r.limits (state_behind (cursor device r.source) r))
+to_come_by device r = unless_unfinished r.unfinished (later r.limits (state_after (cursor device r.source) r))
 
 -- what a token makes of it
 abbrev pub taking : {I A : Type 0} → TextReader I A → ℕ → tokens.Token → Cursor → Reading
@@ -172,7 +172,7 @@ ending r start = unless_unfinished start (comes r.limits (final_step (opened_in 
 -- an item that is no container's
 abbrev pub giving : {I A : Type 0} → TextReader I A → ItemKind → ℕ → Cursor → Reading
 giving r what place c =
-    comes r.limits (Ok (item_step (opened_in r) r.top (field_in r) (annotations_in r) place (as_head r.text place what) (opened_in r) (behind_member (innermost (opened_in r))) c))
+    comes r.limits (Ok (item_step (opened_in r) r.top (field_in r) (annotations_in r) place (as_head r.text place what) (opened_in r) (after_member (innermost (opened_in r))) c))
 
 -- all that is to come where a symbol was read with two colons before the cursor: it is an annotation
 abbrev pub with_colons : {I A : Type 0} → TextReader I A → Symbol → ℕ → Cursor → Reading
@@ -240,7 +240,7 @@ pub record Stepped {I A : Type 0} (device : InputOf I) (took : Type 0) (fault : 
   pub causes : ReadCauses fault earlier later (device.failure_count old.source.device) (device.failure_count new.source.device) (Exceeds device old.source)
   pub charges : Charges earlier later (held_by old) (held_by new) (share_of old)
 
--- what a step does. `before` is what was to come where its token ended at a cursor: behind it blanks were passed over, up to where the source
+-- what a step does. `before` is what was to come where its token ended at a cursor: after it blanks were passed over, up to where the source
 -- stands, or all that is left where a comment begins at `start` that does not end. It takes so many counted bytes more, and 16 for each that it
 -- passes over
 pub record StepsTo {I A : Type 0} (device : InputOf I) (start : Option ℕ) (before : Cursor → Reading) (more : ℕ) (old new : TextReader I A) (earlier later : Counts) (result : Result StepResult Fault) : Type 0 where

@@ -35,7 +35,7 @@ abbrev pub AreWithin : ℕ → List Annotation → Type 0
 AreWithin n [] = ⊤
 AreWithin n (a ∷ annotations) = IsWithin n a × AreWithin n annotations
 
--- the texts of annotations stand one behind the other, and there are no others
+-- the texts of annotations stand one after the other, and there are no others
 pub record AreKept (annotations : List Annotation) (texts : List ℕ) : Type 0 where
   pub within : AreWithin (length texts) annotations
   pub costs : sum_by cost (as_annotations texts annotations) ≡ 16 * length annotations + length texts

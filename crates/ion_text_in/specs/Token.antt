@@ -38,7 +38,7 @@ pub data First : Type 0 where
   two_colons : First
   no_token : First
 
--- `+inf` or `-inf`, and no identifier goes on behind it
+-- `+inf` or `-inf`, and no identifier goes on after it
 abbrev pub is_infinity : List ℕ → Bool
 is_infinity bytes =
     (begins_with (codes "+inf") bytes || begins_with (codes "-inf") bytes) && not (first_is is_identifier_byte (drop 4 bytes))
@@ -94,18 +94,18 @@ abbrev pub bytes_of : (List ℕ → Bool) → List ℕ → List ℕ
 bytes_of test [] = []
 bytes_of test (b ∷ bytes) = b ∷ (run_of test bytes).0
 
--- a token of bytes, and what stands behind it, where a limit may say how long it may be
+-- a token of bytes, and what stands after it, where a limit may say how long it may be
 abbrev pub counted : Option ℕ → List ℕ → Cursor → Result (List ℕ × Cursor) Reason
 counted limit bytes c = do
   refuse (passes limit (length bytes)) ScalarLimit
   Ok (bytes, skip (length bytes) c)
 
--- the bytes of a word: behind `null` and a point, all up to the end of what could be an identifier
+-- the bytes of a word: after `null` and a point, all up to the end of what could be an identifier
 abbrev pub with_type : List ℕ → List ℕ → List ℕ
-with_type word behind =
-    if bytes_eq (codes "null") word && first_is (λ b. b == 46) behind then word ++ 46 ∷ (run_of in_word (drop 1 behind)).0 else word
+with_type word after =
+    if bytes_eq (codes "null") word && first_is (λ b. b == 46) after then word ++ 46 ∷ (run_of in_word (drop 1 after)).0 else word
 
--- the bytes of the word that these bytes begin with; a point behind `null` belongs to it, with what could name a type
+-- the bytes of the word that these bytes begin with; a point after `null` belongs to it, with what could name a type
 abbrev pub word_of : List ℕ → List ℕ
 word_of [] = []
 word_of (b ∷ bytes) = with_type (b ∷ (run_of in_word bytes).0) (run_of in_word bytes).1
@@ -126,7 +126,7 @@ pub data Token : Type 0 where
   colon : Token
   colons : Token
 
--- the null of this type, and BadToken where what stands behind `null.` names none
+-- the null of this type, and BadToken where what stands after `null.` names none
 abbrev pub null_token : Option IonType → Result Token Reason
 null_token (Some type) = Ok (plain (null type))
 null_token None = Err BadToken
@@ -191,17 +191,17 @@ token_of limit no_token c = Err BadToken
 abbrev pub token_at : Option ℕ → Bool → Cursor → Result (Token × Cursor) Reason
 token_at limit in_sexp c = token_of limit (first_at in_sexp c.rest) c
 
--- a token, the place of its first byte, and what stands behind it
+-- a token, the place of its first byte, and what stands after it
 pub record Cut : Type 0 where
   pub token : Token
   pub first : ℕ
-  pub behind : Cursor
+  pub after : Cursor
 
--- a token whose first byte is at the place `first`, and what stands behind it
+-- a token whose first byte is at the place `first`, and what stands after it
 abbrev pub cut : Token → ℕ → Cursor → Cut
-cut t first behind = record { token = t; first = first; behind = behind }
+cut t first after = record { token = t; first = first; after = after }
 
--- the next token behind blanks
+-- the next token after blanks
 unfoldable pub next_token : Option ℕ → Bool → Cursor → Placed Cut
 next_token limit in_sexp c = do
   b ← blanks c

@@ -81,7 +81,7 @@ TokenInRange code.Comma = ⊤
 TokenInRange code.Colon = ⊤
 TokenInRange code.Colons = ⊤
 
--- ---- blanks that were passed over behind a token
+-- ---- blanks that were passed over after a token
 
 -- where a comment begins among them that does not end
 abbrev pub overrun_of : Token → Option ℕ
@@ -103,14 +103,14 @@ going (Some start) c = Err (Truncated, start)
 
 -- ---- what a call answers and keeps
 
--- a token and where it ends, blanks behind it being passed over up to where the source stands
+-- a token and where it ends, blanks after it being passed over up to where the source stands
 abbrev pub TokenGives : List ℕ → ℕ → Result Token Fault → Cursor → Result (tokens.Token × Cursor) Reason → Type 0
-TokenGives text place (Ok token) behind given = (d : Cursor) × (given ≡ Ok (token_view text place token, d)) × (blanks d ≡ going (overrun_of token) behind)
-TokenGives text place (Err (Refused reason at)) behind given = (given ≡ Err reason) × (at ≡ place)
-TokenGives text place (Err Memory) behind given = Unit {0}
-TokenGives text place (Err ReadFault) behind given = Unit {0}
-TokenGives text place (Err WriteFault) behind given = Unit {0}
-TokenGives text place (Err InputLimit) behind given = Unit {0}
+TokenGives text place (Ok token) after given = (d : Cursor) × (given ≡ Ok (token_view text place token, d)) × (blanks d ≡ going (overrun_of token) after)
+TokenGives text place (Err (Refused reason at)) after given = (given ≡ Err reason) × (at ≡ place)
+TokenGives text place (Err Memory) after given = Unit {0}
+TokenGives text place (Err ReadFault) after given = Unit {0}
+TokenGives text place (Err WriteFault) after given = Unit {0}
+TokenGives text place (Err InputLimit) after given = Unit {0}
 
 -- whatever it answers
 pub record ReadsToken {I : Type 0} (device : InputOf I) (limits : Limits) (old new : Incoming I) (earlier later : Counts) (before after : List ℕ) (result : Result Token Fault) : Type 0 where

@@ -21,7 +21,7 @@ use Rattle.ion_text_in.specs.Runs.{joined}
 
 -- ---- tokens of bytes
 
--- the bytes of a token, of which a limit may say how many there may be, and what stands behind them
+-- the bytes of a token, of which a limit may say how many there may be, and what stands after them
 abbrev pub spelled : (List ℕ → List ℕ) → Option ℕ → Cursor → Result (List ℕ × Cursor) Reason
 spelled bytes limit c = counted limit (bytes c.rest) c
 
@@ -88,7 +88,7 @@ abbrev pub is_point : Option ℕ → Bool
 is_point (Some b) = b == 46
 is_point None = false
 
--- a word before a point, where one stands here, with the point and the name behind it
+-- a word before a point, where one stands here, with the point and the name after it
 abbrev pub with_name : Option ℕ → List ℕ → Cursor → Result (List ℕ × Cursor) Reason
 with_name limit before c =
     if first_is (λ b. b == 46) c.rest then joined limit before (46 ∷ (run_of in_word (drop 1 c.rest)).0) c else Ok (before, c)

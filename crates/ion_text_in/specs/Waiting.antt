@@ -7,7 +7,7 @@ use Rattle.ion_text_in.specs.declared.waiting.Part.TheVariants.{Item, Passed}
 use Rattle.ion_text_in.specs.Meaning.{at}
 use Rattle.ion_text_in.specs.Token.{Token, name, token_at}
 
--- fewer bytes stand behind a part that is passed
+-- fewer bytes stand after a part that is passed
 abbrev pub PassesSome : List ℕ → Part → Type 0
 PassesSome bytes Item = Unit {0}
 PassesSome bytes (Passed rest) = length rest.now < length bytes

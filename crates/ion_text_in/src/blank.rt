@@ -7,7 +7,7 @@ ghost use Rattle.ion_meter.specs.Sources.{cursor, Stands};
 ghost use Rattle.ion_value.specs.Calls.{Reads};
 ghost use Rattle.ion_value.specs.Digits.{first_is};
 ghost use Rattle.ion_text_in.specs.Blanks.{is_white, blanks};
-ghost use Rattle.ion_text_in.specs.Places.{behind_run};
+ghost use Rattle.ion_text_in.specs.Places.{after_run};
 ghost use Rattle.ion_text_in.specs.Overrun.{begun, cut_at, EndsWhite, ends_blanks, is_neither, stays_in, overrun, turned, IsRun};
 
 use ion_meter::device::Input;
@@ -93,8 +93,8 @@ pub(crate) fn pass_white<I: Input, A: Allocator + Copy>(
     source: &mut Source<I, A>,
 ) -> Result<(), Fault>
     requires stands { Stands source.old }
-    ensures behind { I.observable source.old.device → OnOk result (cursor I.Input source.new
-        ≡ behind_run (first_is is_white) (cursor I.Input source.old)) }
+    ensures after { I.observable source.old.device → OnOk result (cursor I.Input source.new
+        ≡ after_run (first_is is_white) (cursor I.Input source.old)) }
     ensures plain { (r : Reason) (p : ℕ) → result ≢ Err (Fault.Refused r p) }
     ensures reads { Reads I.Input source.old source.new result }
 {
@@ -108,8 +108,8 @@ fn pass_run<I: Input, A: Allocator + Copy>(
     comment: Comment,
 ) -> Result<(), Fault>
     requires stands { Stands source.old }
-    ensures behind { I.observable source.old.device → OnOk result (cursor I.Input source.new
-        ≡ behind_run (first_is (stays_in comment)) (cursor I.Input source.old)) }
+    ensures after { I.observable source.old.device → OnOk result (cursor I.Input source.new
+        ≡ after_run (first_is (stays_in comment)) (cursor I.Input source.old)) }
     ensures plain { (r : Reason) (p : ℕ) → result ≢ Err (Fault.Refused r p) }
     ensures reads { Reads I.Input source.old source.new result }
 {

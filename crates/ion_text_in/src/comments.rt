@@ -4,11 +4,11 @@ ghost use Rattle.ion_text_in.specs.Blanks.{blanks_at, in_block};
 ghost use Rattle.ion_text_in.specs.Feeding.{LeadsTo, PassesBlanks};
 
 use crate::blank::{run_without, white_run};
-use crate::slice::behind;
+use crate::slice::after;
 
 /// After blanks; nothing where the bytes show no end of them.
 #[inline(always)]
-pub(crate) fn behind_blanks(bytes: &[u8]) -> &[u8]
+pub(crate) fn after_blanks(bytes: &[u8]) -> &[u8]
     ensures { 0 < length result.now → PassesBlanks bytes.now result.now }
 {
     let white = white_run(bytes);
@@ -16,14 +16,14 @@ pub(crate) fn behind_blanks(bytes: &[u8]) -> &[u8]
         return &[];
     }
     if bytes[white] == b'/' {
-        return behind_comments(bytes);
+        return after_comments(bytes);
     }
-    behind(white, bytes)
+    after(white, bytes)
 }
 
 // After blanks among which a comment may begin; nothing where the bytes show no end of them.
 #[inline(never)]
-fn behind_comments(bytes: &[u8]) -> &[u8]
+fn after_comments(bytes: &[u8]) -> &[u8]
     ensures { 0 < length result.now → PassesBlanks bytes.now result.now }
 {
     let mut rest = bytes;
@@ -32,11 +32,11 @@ fn behind_comments(bytes: &[u8]) -> &[u8]
         if white == rest.len() {
             return &[];
         }
-        let next = behind(white, rest);
+        let next = after(white, rest);
         if next[0] != b'/' {
             return next;
         }
-        let last = behind_comment(next);
+        let last = after_comment(next);
         if last.is_empty() {
             return &[];
         }
@@ -46,7 +46,7 @@ fn behind_comments(bytes: &[u8]) -> &[u8]
 
 // After the comment that begins here; nothing where none does, or the bytes show no end of it.
 #[inline(always)]
-fn behind_comment(bytes: &[u8]) -> &[u8]
+fn after_comment(bytes: &[u8]) -> &[u8]
     ensures leads { 0 < length result.now
         → LeadsTo blanks_at blanks_at bytes.now result.now }
     ensures falls { 0 < length result.now → length result.now < length bytes.now }
@@ -55,34 +55,34 @@ fn behind_comment(bytes: &[u8]) -> &[u8]
         return &[];
     }
     if bytes[1] == b'/' {
-        let line = behind(2, bytes);
+        let line = after(2, bytes);
         let end = run_without(b'\n', b'\r', line);
         if end == line.len() {
             return &[];
         }
-        return behind(end + 1, line);
+        return after(end + 1, line);
     }
     if bytes[1] == b'*' {
-        return behind_block(behind(2, bytes));
+        return after_block(after(2, bytes));
     }
     &[]
 }
 
 // After the star and the slash that end a block; nothing where the bytes show none.
 #[inline(always)]
-fn behind_block(bytes: &[u8]) -> &[u8]
+fn after_block(bytes: &[u8]) -> &[u8]
     ensures { 0 < length result.now → (start : ℕ)
         → LeadsTo (in_block start) blanks_at bytes.now result.now }
 {
     let mut rest = bytes;
     'block: loop {
-        let star = behind(run_without(b'*', b'*', rest), rest);
+        let star = after(run_without(b'*', b'*', rest), rest);
         if star.len() < 2 {
             return &[];
         }
         if star[1] == b'/' {
-            return behind(2, star);
+            return after(2, star);
         }
-        rest = behind(1, star);
+        rest = after(1, star);
     }
 }

@@ -82,7 +82,7 @@ pub(crate) fn member_kind(inner: Option<Kind>) -> Kind
 
 // Where a member of the innermost container, if any, may begin.
 #[inline]
-pub(crate) fn behind_comma(kind: Option<Kind>) -> Expected
+pub(crate) fn after_comma(kind: Option<Kind>) -> Expected
     ensures is { wanted result None [] ≡ reading.at_member kind }
     ensures may { (opened : List kinds.Kind) → innermost opened ≡ kind
         → MayExpect result opened None [] }
@@ -95,8 +95,8 @@ pub(crate) fn behind_comma(kind: Option<Kind>) -> Expected
 
 // What comes after a member of the innermost container, if any.
 #[inline]
-pub(crate) fn behind_member(kind: Option<Kind>) -> Expected
-    ensures is { wanted result None [] ≡ reading.behind_member kind }
+pub(crate) fn after_member(kind: Option<Kind>) -> Expected
+    ensures is { wanted result None [] ≡ reading.after_member kind }
     ensures may { (opened : List kinds.Kind) → innermost opened ≡ kind
         → MayExpect result opened None [] }
 {

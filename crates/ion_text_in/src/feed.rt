@@ -18,7 +18,7 @@ mod texts;
 use crate::first::{First, told_first};
 use crate::quick::scan_quick;
 use crate::scanned::Scanned;
-use crate::slice::{behind, front};
+use crate::slice::{after, front};
 use crate::word::{Word, scan_simple};
 use any::{rare, rare_number};
 use close::close;
@@ -65,7 +65,7 @@ fn number<'a, W: ValueWriter<O, A>, O: Output, A: Allocator + Copy>(
         return rare_number(at, start, bounds, kinds, meter, writer, sink);
     };
     let text = front(quick.count, start.next.rest);
-    let rest = behind(quick.count, start.next.rest);
+    let rest = after(quick.count, start.next.rest);
     match quick.exponent {
         None => {
             let found = Found {

@@ -9,7 +9,7 @@ ghost use Rattle.ion_value.specs.Calls.{AnswersBy, CanRead, Reads, ReadsInto, pa
 ghost use Rattle.ion_value.specs.Shares.{GrowsWithin};
 ghost use Rattle.ion_text_in.specs.Lob.{are_cut_quotes, closed_at, group_of, lob_in};
 ghost use Rattle.ion_text_in.specs.Gathered.{CanGather, Continues, Gathers};
-ghost use Rattle.ion_text_in.specs.Lobs.{with_groups_behind, blob_from, closed_behind, TakesGroups};
+ghost use Rattle.ion_text_in.specs.Lobs.{with_groups_after, blob_from, closed_after, TakesGroups};
 ghost use Rattle.ion_text_in.specs.Scanning.{groups};
 ghost use Rattle.ion_text_in.specs.Token.{a_lob, plain, token_of};
 ghost use Rattle.ion_text_in.specs.Tokens.{as_scalar, BodyInRange};
@@ -159,8 +159,8 @@ fn take_blocks<I: Input, A: Allocator + Copy>(
 ) -> Result<bool, Fault>
     requires can_gather { CanGather limits source.old text.old meter.old }
     ensures gives { I.observable source.old.device → IfOk result (λ last.
-        with_groups_behind limits.scalar text.old padded (cursor I.Input source.old)
-        ≡ with_groups_behind limits.scalar text.new last (cursor I.Input source.new)) }
+        with_groups_after limits.scalar text.old padded (cursor I.Input source.old)
+        ≡ with_groups_after limits.scalar text.new last (cursor I.Input source.new)) }
     ensures plain { (r : Reason) (p : ℕ) → result ≢ Err (Fault.Refused r p) }
     ensures gathers { Gathers I.Input limits source.old source.new meter.old meter.new
         text.old text.new result }
@@ -246,7 +246,7 @@ fn take_group<I: Input, A: Allocator + Copy>(
 ) -> Result<Option<bool>, Fault>
     requires can_gather { CanGather limits source.old text.old meter.old }
     ensures gives { I.observable source.old.device → Continues result place
-        (with_groups_behind limits.scalar text.old padded (cursor I.Input source.old))
+        (with_groups_after limits.scalar text.old padded (cursor I.Input source.old))
         (blob_from limits.scalar text.new (cursor I.Input source.new)) }
     ensures taken { IfOk result (λ found. IfSome found (λ _.
         source.old.place < source.new.place)) }
@@ -278,7 +278,7 @@ fn end_groups<I: Input, A: Allocator + Copy>(
 ) -> Result<(), Fault>
     requires stands { Stands source.old }
     ensures gives { I.observable source.old.device → Continues result place
-        (closed_behind count (cursor I.Input source.old)) (λ _. Ok (cursor I.Input source.new)) }
+        (closed_after count (cursor I.Input source.old)) (λ _. Ok (cursor I.Input source.new)) }
     ensures reads { Reads I.Input source.old source.new result }
 {
     pass_braces(source, place)?;

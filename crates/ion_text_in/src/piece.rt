@@ -82,8 +82,8 @@ pub(crate) fn last_piece(quote: Quote, bytes: &[u8]) -> Piece
     }
     match bytes {
         [] => Piece::Cut,
-        [b'\\', behind @ ..] => escape(quote.in_clob(), behind),
-        [byte, behind @ ..] => raw(quote, *byte, behind),
+        [b'\\', after @ ..] => escape(quote.in_clob(), after),
+        [byte, after @ ..] => raw(quote, *byte, after),
     }
 }
 
@@ -101,11 +101,11 @@ fn closes(quote: Quote, bytes: &[u8]) -> bool
 
 // A byte that stands for itself, or an end of a line.
 #[inline]
-fn raw(quote: Quote, byte: u8, behind: &[u8]) -> Piece
-    ensures { piece_of result ≡ quoted.raw (quote_of quote) byte behind.now }
+fn raw(quote: Quote, byte: u8, after: &[u8]) -> Piece
+    ensures { piece_of result ≡ quoted.raw (quote_of quote) byte after.now }
 {
     if quote.is_long() && (byte == 10 || byte == 13) {
-        return Piece::Text(Meant::Byte(10), line_end_length(byte, behind));
+        return Piece::Text(Meant::Byte(10), line_end_length(byte, after));
     }
     let is_plain = byte >= b' ' || byte == 9 || byte == 11 || byte == 12;
     if is_plain && (!quote.in_clob() || byte < 128) {
@@ -117,11 +117,11 @@ fn raw(quote: Quote, byte: u8, behind: &[u8]) -> Piece
 
 // How many bytes an end of a line has: CR and LF are one.
 #[inline]
-fn line_end_length(byte: u8, behind: &[u8]) -> usize
-    ensures exact { result ≡ quoted.line_end_length byte behind.now }
+fn line_end_length(byte: u8, after: &[u8]) -> usize
+    ensures exact { result ≡ quoted.line_end_length byte after.now }
     ensures few { result ≤ 2 }
 {
-    if byte == 13 && matches!(behind, [10, ..]) {
+    if byte == 13 && matches!(after, [10, ..]) {
         2
     } else {
         1
@@ -135,13 +135,13 @@ fn escape(in_clob: bool, bytes: &[u8]) -> Piece
 {
     match bytes {
         [] => Piece::Cut,
-        [byte, behind @ ..] => {
+        [byte, after @ ..] => {
             if *byte == 10 || *byte == 13 {
-                return Piece::Text(Meant::Nothing, 1 + line_end_length(*byte, behind));
+                return Piece::Text(Meant::Nothing, 1 + line_end_length(*byte, after));
             }
             let meant = LETTERS[*byte as usize];
             if meant == NO_LETTER {
-                return coded(in_clob, *byte, behind);
+                return coded(in_clob, *byte, after);
             }
             Piece::Text(Meant::Byte(meant), 2)
         }
@@ -179,7 +179,7 @@ fn coded(in_clob: bool, letter: u8, digits: &[u8]) -> Piece
     match hex_digits(count, digits) {
         HexDigits::Number(number) if in_clob => Piece::Text(Meant::Byte(number as u8), 4),
         HexDigits::Number(number) if count == 4 && 0xd800 <= number && number <= 0xdbff => {
-            low_behind(number, &digits[4..])
+            low_after(number, &digits[4..])
         }
         HexDigits::Number(number) => by_code(number, count + 2),
         HexDigits::NoDigit => Piece::Illegal,
@@ -188,9 +188,9 @@ fn coded(in_clob: bool, letter: u8, digits: &[u8]) -> Piece
 }
 
 // What stands after the escape of a high surrogate: that of a low one.
-fn low_behind(high: u32, bytes: &[u8]) -> Piece
+fn low_after(high: u32, bytes: &[u8]) -> Piece
     requires { (0xD800 ≤ high) × (high ≤ 0xDBFF) }
-    ensures { piece_of result ≡ quoted.low_behind high bytes.now }
+    ensures { piece_of result ≡ quoted.low_after high bytes.now }
 {
     match bytes {
         [] | [b'\\'] => Piece::Cut,

@@ -19,7 +19,7 @@ ghost use Rattle.ion_text_in.specs.Steps.{annotations_in, as_head, ending, faile
 mod window;
 
 use crate::expected::{
-    Expected, at_member, behind_comma, behind_member, is_colons, is_same, may_come,
+    Expected, after_comma, after_member, at_member, is_colons, is_same, may_come,
 };
 use crate::first::{First, next_ahead};
 use crate::token::{
@@ -196,7 +196,7 @@ impl<I: Input, A: Allocator + Copy> TextReader<I, A> {
         self.place = place;
         self.what = what;
         self.unfinished = unfinished;
-        self.expected = behind_member(self.innermost());
+        self.expected = after_member(self.innermost());
         StepResult::Item
     }
 
@@ -367,7 +367,7 @@ impl<I: Input, A: Allocator + Copy> TextReader<I, A> {
         match (self.expected, token) {
             (_, Token::End(kind)) => self.close(kind, place, meter),
             (Expected::Separator, Token::Comma) => {
-                self.expected = behind_comma(self.innermost());
+                self.expected = after_comma(self.innermost());
                 Ok(StepResult::Passed)
             }
             (Expected::Field, Token::Symbol(symbol, _)) => self.named(symbol, place),
@@ -410,7 +410,7 @@ impl<I: Input, A: Allocator + Copy> TextReader<I, A> {
         let _closed = self.kinds.pop(meter);
         self.what = ItemKind::End;
         self.place = place;
-        self.expected = behind_member(self.innermost());
+        self.expected = after_member(self.innermost());
         Ok(StepResult::Item)
     }
 

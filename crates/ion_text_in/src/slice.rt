@@ -3,7 +3,7 @@ ghost use Rattle.std.specs.Prelude.{◌≡◌, ◌≤◌, length, take, drop};
 
 /// What stands after so many bytes.
 #[inline(always)]
-pub(crate) fn behind(count: usize, bytes: &[u8]) -> &[u8]
+pub(crate) fn after(count: usize, bytes: &[u8]) -> &[u8]
     requires { count ≤ length bytes.now }
     ensures { result.now ≡ drop count bytes.now }
 {

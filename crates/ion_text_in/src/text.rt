@@ -9,7 +9,7 @@ ghost use Rattle.ion_value.specs.Name.{begins_with};
 ghost use Rattle.ion_text_in.specs.Overrun.{overrun};
 ghost use Rattle.ion_text_in.specs.Quoted.{piece_at, text_at};
 ghost use Rattle.ion_text_in.specs.Quotes.{quote_of};
-ghost use Rattle.ion_text_in.specs.Pieces.{piece_of, bytes_of, behind_piece, Advances};
+ghost use Rattle.ion_text_in.specs.Pieces.{piece_of, bytes_of, after_piece, Advances};
 ghost use Rattle.ion_text_in.specs.Scanning.{PieceTakes};
 ghost use Rattle.ion_text_in.specs.Gathered.{CanGather, CanGrow, Continues, Gathers, Puts, onward, passed, with_segment, Overruns};
 
@@ -278,7 +278,7 @@ fn next_piece<I: Input, A: Allocator + Copy>(
     requires stands { Stands source.old }
     ensures gives { I.observable source.old.device → (limit : ℕ) (text : List ℕ)
         → IfOk result (λ piece. onward (quote_of quote) limit text (cursor I.Input source.old)
-        ≡ behind_piece (quote_of quote) limit text (cursor I.Input source.new) piece) }
+        ≡ after_piece (quote_of quote) limit text (cursor I.Input source.new) piece) }
     ensures further { IfOk result (Advances source.old.place source.new.place) }
     ensures plain { (r : Reason) (p : ℕ) → result ≢ Err (Fault.Refused r p) }
     ensures reads { Reads I.Input source.old source.new result }

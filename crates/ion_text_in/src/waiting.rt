@@ -4,7 +4,7 @@ ghost use Rattle.ion_text_in.specs.Firsts.{first_of, width};
 ghost use Rattle.ion_text_in.specs.Waiting.{NoneIsDeclared, PassesSome};
 
 use crate::blank::{run_without, white_run};
-use crate::comments::behind_blanks;
+use crate::comments::after_blanks;
 use crate::first::{First, scan_first};
 use crate::quoted::Quote;
 use crate::run::{Run, token_extent};
@@ -33,7 +33,7 @@ pub(crate) fn shows_item(inside: Option<Kind>, bytes: &[u8]) -> bool {
         match next_part(inside, rest) {
             None => return false,
             Some(Part::Item) => return true,
-            Some(Part::Passed(behind)) => rest = behind,
+            Some(Part::Passed(after)) => rest = after,
         }
     }
 }
@@ -43,7 +43,7 @@ fn next_part(inside: Option<Kind>, bytes: &[u8]) -> Option<Part<'_>>
     ensures { IfSome result (PassesSome bytes.now) }
 {
     let in_sexp = matches!(inside, Some(Kind::Sexp));
-    let (first, bytes) = first_behind(in_sexp, bytes)?;
+    let (first, bytes) = first_after(in_sexp, bytes)?;
     if inside.is_none() && may_be_declaration(bytes) {
         return None;
     }
@@ -55,24 +55,24 @@ fn next_part(inside: Option<Kind>, bytes: &[u8]) -> Option<Part<'_>>
         First::Word => match scan_word(u64::MAX, bytes) {
             Scanned::Cut => None,
             Scanned::Whole(Word::Name | Word::Id(_), count) => {
-                behind_name(in_sexp, &bytes[count..])
+                after_name(in_sexp, &bytes[count..])
             }
             _ => Some(Part::Item),
         },
-        First::QuotedSymbol => behind_name(in_sexp, behind_text(Quote::Symbol, &bytes[1..])?),
+        First::QuotedSymbol => after_name(in_sexp, after_text(Quote::Symbol, &bytes[1..])?),
         First::String => {
-            let behind = behind_text(Quote::Short, &bytes[1..])?;
+            let after = after_text(Quote::Short, &bytes[1..])?;
             match inside {
-                Some(Kind::Struct) => behind_name(in_sexp, behind),
+                Some(Kind::Struct) => after_name(in_sexp, after),
                 _ => Some(Part::Item),
             }
         }
         First::LongString => {
-            let behind = behind_text(Quote::Long, &bytes[3..])?;
-            match first_behind(in_sexp, behind)? {
+            let after = after_text(Quote::Long, &bytes[3..])?;
+            match first_after(in_sexp, after)? {
                 // A further segment.
                 (First::LongString, next) => Some(Part::Passed(next)),
-                _ => behind_name(in_sexp, behind),
+                _ => after_name(in_sexp, after),
             }
         }
         First::Lob => lob_part(&bytes[2..]),
@@ -98,27 +98,27 @@ fn may_be_declaration(bytes: &[u8]) -> bool
 
 // What stands after a symbol or a text: with a colon after it, it is a field's name or an
 // annotation.
-fn behind_name(in_sexp: bool, bytes: &[u8]) -> Option<Part<'_>>
+fn after_name(in_sexp: bool, bytes: &[u8]) -> Option<Part<'_>>
     ensures { IfSome result (PassesSome bytes.now) }
 {
-    match first_behind(in_sexp, bytes)? {
-        (First::Colon | First::Colons, behind) => Some(Part::Passed(&behind[1..])),
+    match first_after(in_sexp, bytes)? {
+        (First::Colon | First::Colons, after) => Some(Part::Passed(&after[1..])),
         _ => Some(Part::Item),
     }
 }
 
 // Which token begins after blanks, and the bytes from there on.
-fn first_behind(in_sexp: bool, bytes: &[u8]) -> Option<(First, &[u8])>
+fn first_after(in_sexp: bool, bytes: &[u8]) -> Option<(First, &[u8])>
     ensures wide { IfSome result (λ found. width (first_of found.0) ≤ length found.1.now) }
     ensures within { IfSome result (λ found. length found.1.now ≤ length bytes.now) }
 {
-    let rest = behind_blanks(bytes);
+    let rest = after_blanks(bytes);
     let first = scan_first(in_sexp, rest)?;
     Some((first, rest))
 }
 
 // What stands after the quotes that close a text.
-fn behind_text(quote: Quote, bytes: &[u8]) -> Option<&[u8]>
+fn after_text(quote: Quote, bytes: &[u8]) -> Option<&[u8]>
     ensures { IfSome result (λ rest. length rest.now < length bytes.now) }
 {
     let mut rest = bytes;
@@ -126,9 +126,9 @@ fn behind_text(quote: Quote, bytes: &[u8]) -> Option<&[u8]>
         let found = &rest[run_without(quote.mark(), b'\\', rest)..];
         match (quote, found) {
             (_, [] | [b'\\']) => return None,
-            (Quote::Long, [b'\'', b'\'', b'\'', behind @ ..]) => return Some(behind),
+            (Quote::Long, [b'\'', b'\'', b'\'', after @ ..]) => return Some(after),
             (_, [b'\\', _, others @ ..]) | (Quote::Long, [_, others @ ..]) => rest = others,
-            (_, [_, behind @ ..]) => return Some(behind),
+            (_, [_, after @ ..]) => return Some(after),
         }
     }
 }
@@ -139,8 +139,8 @@ fn lob_part(bytes: &[u8]) -> Option<Part<'_>>
 {
     let rest = match &bytes[white_run(bytes)..] {
         [b'"', text @ ..] => {
-            let behind = behind_text(Quote::Short, text)?;
-            &behind[white_run(behind)..]
+            let after = after_text(Quote::Short, text)?;
+            &after[white_run(after)..]
         }
         [b'\'', ..] => return None,
         groups => &groups[run_without(b'}', b'}', groups)..],

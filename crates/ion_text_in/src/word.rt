@@ -291,10 +291,10 @@ fn word_extent(bytes: &[u8]) -> Option<usize>
 
 // Whether the name of a type belongs to a word, with these bytes after it.
 #[inline(always)]
-fn has_type(word: &[u8], behind: &[u8]) -> bool
-    ensures { result ≡ (bytes_eq (codes "null") word.now && first_is (λ b. b == 46) behind.now) }
+fn has_type(word: &[u8], after: &[u8]) -> bool
+    ensures { result ≡ (bytes_eq (codes "null") word.now && first_is (λ b. b == 46) after.now) }
 {
-    is_null(word) && matches!(behind, [b'.', ..])
+    is_null(word) && matches!(after, [b'.', ..])
 }
 
 // Whether these bytes are a text.

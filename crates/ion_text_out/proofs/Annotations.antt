@@ -33,7 +33,7 @@ pub annotations-next : {O T : Type 0} {written : O → List ℕ} {observable : O
 annotations-next {O} {T} {written} {observable} {failures} {s} {m} {u} {x} {y} {result} xs i e p q =
     subst (λ r. HasPut {T = T} written observable failures s u r (annotations_text (take (i + 1) xs))) e (next_annotation-put {x = x} xs i p q)
 
--- the annotations behind some
+-- the annotations after some
 annotations-append : (xs ys : List SymbolAt) → annotations_text (xs ++ ys) ≡ annotations_text xs ++ annotations_text ys
 annotations-append [] ys = refl
 annotations-append (x ∷ xs) ys =

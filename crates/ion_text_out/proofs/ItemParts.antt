@@ -5,7 +5,7 @@ use Rattle.ion_meter.specs.Windows.{Outgoing}
 use Rattle.ion_meter.specs.declared.fault.Fault.{Fault}
 use Rattle.ion_value.specs.Value as v
 use Rattle.ion_value.specs.Value.{PlacedItem, SymbolAt, map_head}
-use Rattle.ion_text_out.specs.Text.{Open, before_item, behind_value, field_text, head_text, item_text, opener}
+use Rattle.ion_text_out.specs.Text.{Open, before_item, after_value, field_text, head_text, item_text, opener}
 use Rattle.ion_meter.specs.Sinks.{HasPut}
 use Rattle.ion_text_out.specs.Writing.{body_text, first_text, is_value, last_text, marked_text, middle_text, annotations_text, where_value}
 use Rattle.ion_value.specs.Value.{user_symbol_at, user_item}
@@ -15,9 +15,9 @@ head_parts : (cs : Open) (name annotations : List ℕ) (h : v.Head SymbolAt)
     → first_text cs h ++ (where_value (is_value h) (name ++ (annotations ++ body_text (map_head user_symbol_at h))) ++ last_text cs h) ≡ head_text cs (name ++ annotations) (map_head user_symbol_at h)
 head_parts cs name annotations (v.whole body) =
     ap (λ (l : List ℕ). before_item cs ++ l)
-    (append_assoc name (annotations ++ body_text (map_head user_symbol_at (v.whole body))) (behind_value cs)
-    ∙ (ap (λ (l : List ℕ). name ++ l) (append_assoc annotations (body_text (map_head user_symbol_at (v.whole body))) (behind_value cs))
-    ∙ sym (append_assoc name annotations (body_text (map_head user_symbol_at (v.whole body)) ++ behind_value cs))))
+    (append_assoc name (annotations ++ body_text (map_head user_symbol_at (v.whole body))) (after_value cs)
+    ∙ (ap (λ (l : List ℕ). name ++ l) (append_assoc annotations (body_text (map_head user_symbol_at (v.whole body))) (after_value cs))
+    ∙ sym (append_assoc name annotations (body_text (map_head user_symbol_at (v.whole body)) ++ after_value cs))))
 head_parts cs name annotations (v.begin kind) =
     ap (λ (l : List ℕ). before_item cs ++ l) (append-nil (name ++ (annotations ++ opener kind)) ∙ sym (append_assoc name annotations (opener kind)))
 head_parts [] name annotations v.end = refl

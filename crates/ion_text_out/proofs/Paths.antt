@@ -6,31 +6,31 @@ use Rattle.ion_value.specs.Value as v
 use Rattle.ion_value.specs.Value.{UserSymbol, Value, Members, scalar, container, nothing, member, Top, tree, Item, bare_item, member_items, one_top, top_items, value_items}
 use Rattle.ion_value.specs.Path.{Nest, outermost, inner, Path, closed, opened, nest_items, path_items, begin_item}
 use Rattle.ion_text_out.specs.Written.{items_append}
-use Rattle.ion_text_out.specs.Text.{Open, annotation_text, before_item, before_next, behind_value, closer, field_text, inner_kind, inner_members, is_empty, items_text, nest_text, path_text, members_text, open_after, open_behind, opener, scalar_text, text, top_text, value_text, with_member}
+use Rattle.ion_text_out.specs.Text.{Open, annotation_text, before_item, before_next, after_value, closer, field_text, inner_kind, inner_members, is_empty, items_text, nest_text, path_text, members_text, open_after, open_after_all, opener, scalar_text, text, top_text, value_text, with_member}
 
--- the open containers behind items and others
-behind_append : (cs : Open) (is js : List (Item UserSymbol ℕ)) → open_behind cs (is ++ js) ≡ open_behind (open_behind cs is) js
-behind_append cs [] js = refl
-behind_append cs (i ∷ is) js = behind_append (open_after cs i.head) is js
+-- the open containers after items and others
+items_then-append : (cs : Open) (is js : List (Item UserSymbol ℕ)) → open_after_all cs (is ++ js) ≡ open_after_all (open_after_all cs is) js
+items_then-append cs [] js = refl
+items_then-append cs (i ∷ is) js = items_then-append (open_after cs i.head) is js
 
-same_behind : (cs : Open) → behind_value (with_member cs) ≡ behind_value cs
-same_behind [] = refl
-same_behind (c ∷ cs) = refl
+same_after : (cs : Open) → after_value (with_member cs) ≡ after_value cs
+same_after [] = refl
+same_after (c ∷ cs) = refl
 
 -- a value leaves what was open before it, which then has a member
 mutual
-  value_behind : (x : Value UserSymbol ℕ) (top p : ℕ) (f : Option UserSymbol) (annotations : List UserSymbol) (cs : Open) → open_behind cs (value_items top f annotations p x) ≡ with_member cs
-  value_behind (scalar body) top p f annotations cs = refl
-  value_behind (container kind members last) top p f annotations cs =
-      behind_append ((kind, true) ∷ with_member cs) (member_items top members) (bare_item v.end last top ∷ [])
-      ∙ ap (λ c. open_behind c (bare_item v.end last top ∷ [])) (members_behind members kind top (with_member cs))
+  value_after : (x : Value UserSymbol ℕ) (top p : ℕ) (f : Option UserSymbol) (annotations : List UserSymbol) (cs : Open) → open_after_all cs (value_items top f annotations p x) ≡ with_member cs
+  value_after (scalar body) top p f annotations cs = refl
+  value_after (container kind members last) top p f annotations cs =
+      items_then-append ((kind, true) ∷ with_member cs) (member_items top members) (bare_item v.end last top ∷ [])
+      ∙ ap (λ c. open_after_all c (bare_item v.end last top ∷ [])) (members_after members kind top (with_member cs))
 
-  members_behind : (ms : Members UserSymbol ℕ) (kind : Kind) (top : ℕ) (cs : Open) → open_behind ((kind, true) ∷ cs) (member_items top ms) ≡ (kind, is_empty ms) ∷ cs
-  members_behind nothing kind top cs = refl
-  members_behind (member before f annotations p x) kind top cs =
-      behind_append ((kind, true) ∷ cs) (member_items top before) (value_items top f annotations p x)
-      ∙ (ap (λ c. open_behind c (value_items top f annotations p x)) (members_behind before kind top cs)
-      ∙ value_behind x top p f annotations ((kind, is_empty before) ∷ cs))
+  members_after : (ms : Members UserSymbol ℕ) (kind : Kind) (top : ℕ) (cs : Open) → open_after_all ((kind, true) ∷ cs) (member_items top ms) ≡ (kind, is_empty ms) ∷ cs
+  members_after nothing kind top cs = refl
+  members_after (member before f annotations p x) kind top cs =
+      items_then-append ((kind, true) ∷ cs) (member_items top before) (value_items top f annotations p x)
+      ∙ (ap (λ c. open_after_all c (value_items top f annotations p x)) (members_after before kind top cs)
+      ∙ value_after x top p f annotations ((kind, is_empty before) ∷ cs))
 
 -- the text of a container's items, put together
 container_text : (a b c d e g : List ℕ) → (a ++ (b ++ c)) ++ (d ++ (e ++ g)) ≡ a ++ (b ++ ((c ++ (d ++ e)) ++ g))
@@ -43,24 +43,24 @@ member_text a b c d e = simp (append_assoc, append-nil)
 mutual
   -- the text of a value's items
   value_text_of : (x : Value UserSymbol ℕ) (top p : ℕ) (f : Option UserSymbol) (annotations : List UserSymbol) (cs : Open)
-      → items_text cs (value_items top f annotations p x) ≡ before_item cs ++ ((field_text f ++ flat_map annotation_text annotations) ++ (value_text x ++ behind_value cs))
-  value_text_of (scalar body) top p f annotations cs = append-nil (before_item cs ++ ((field_text f ++ flat_map annotation_text annotations) ++ (scalar_text body ++ behind_value cs)))
+      → items_text cs (value_items top f annotations p x) ≡ before_item cs ++ ((field_text f ++ flat_map annotation_text annotations) ++ (value_text x ++ after_value cs))
+  value_text_of (scalar body) top p f annotations cs = append-nil (before_item cs ++ ((field_text f ++ flat_map annotation_text annotations) ++ (scalar_text body ++ after_value cs)))
   value_text_of (container kind members last) top p f annotations cs =
       let prefix = field_text f ++ flat_map annotation_text annotations in
       ap (λ t. (before_item cs ++ (prefix ++ opener kind)) ++ t)
       (items_append ((kind, true) ∷ with_member cs) (member_items top members) (bare_item v.end last top ∷ [])
-      ∙ (ap (λ t. t ++ items_text (open_behind ((kind, true) ∷ with_member cs) (member_items top members)) (bare_item v.end last top ∷ [])) (members_text_of members kind top (with_member cs))
-      ∙ (ap (λ c. members_text kind members ++ items_text c (bare_item v.end last top ∷ [])) (members_behind members kind top (with_member cs))
-      ∙ ap (λ t. members_text kind members ++ t) (append-nil (closer kind ++ behind_value (with_member cs)) ∙ ap (λ t. closer kind ++ t) (same_behind cs)))))
-      ∙ container_text (before_item cs) prefix (opener kind) (members_text kind members) (closer kind) (behind_value cs)
+      ∙ (ap (λ t. t ++ items_text (open_after_all ((kind, true) ∷ with_member cs) (member_items top members)) (bare_item v.end last top ∷ [])) (members_text_of members kind top (with_member cs))
+      ∙ (ap (λ c. members_text kind members ++ items_text c (bare_item v.end last top ∷ [])) (members_after members kind top (with_member cs))
+      ∙ ap (λ t. members_text kind members ++ t) (append-nil (closer kind ++ after_value (with_member cs)) ∙ ap (λ t. closer kind ++ t) (same_after cs)))))
+      ∙ container_text (before_item cs) prefix (opener kind) (members_text kind members) (closer kind) (after_value cs)
 
   -- the text of members' items
   members_text_of : (ms : Members UserSymbol ℕ) (kind : Kind) (top : ℕ) (cs : Open) → items_text ((kind, true) ∷ cs) (member_items top ms) ≡ members_text kind ms
   members_text_of nothing kind top cs = refl
   members_text_of (member before f annotations p x) kind top cs =
       items_append ((kind, true) ∷ cs) (member_items top before) (value_items top f annotations p x)
-      ∙ (ap (λ t. t ++ items_text (open_behind ((kind, true) ∷ cs) (member_items top before)) (value_items top f annotations p x)) (members_text_of before kind top cs)
-      ∙ (ap (λ c. members_text kind before ++ items_text c (value_items top f annotations p x)) (members_behind before kind top cs)
+      ∙ (ap (λ t. t ++ items_text (open_after_all ((kind, true) ∷ cs) (member_items top before)) (value_items top f annotations p x)) (members_text_of before kind top cs)
+      ∙ (ap (λ c. members_text kind before ++ items_text c (value_items top f annotations p x)) (members_after before kind top cs)
       ∙ (ap (λ t. members_text kind before ++ t) (value_text_of x top p f annotations ((kind, is_empty before) ∷ cs))
       ∙ member_text (members_text kind before) (before_next kind (is_empty before)) (field_text f) (flat_map annotation_text annotations) (value_text x))))
 
@@ -68,25 +68,25 @@ one_text : (t : Top UserSymbol ℕ) → items_text [] (one_top t) ≡ top_text t
 one_text (v.version place) = refl
 one_text (tree first annotations place x) = value_text_of x first place None annotations []
 
-one_behind : (t : Top UserSymbol ℕ) → open_behind [] (one_top t) ≡ []
-one_behind (v.version place) = refl
-one_behind (tree first annotations place x) = value_behind x first place None annotations []
+one_after : (t : Top UserSymbol ℕ) → open_after_all [] (one_top t) ≡ []
+one_after (v.version place) = refl
+one_after (tree first annotations place x) = value_after x first place None annotations []
 
 -- the text of whole values is that of their items
 pub text_of_items : (ts : List (Top UserSymbol ℕ)) → items_text [] (top_items ts) ≡ text ts
 text_of_items [] = refl
 text_of_items (t ∷ ts) =
     items_append [] (one_top t) (top_items ts)
-    ∙ (ap (λ a. a ++ items_text (open_behind [] (one_top t)) (top_items ts)) (one_text t)
-    ∙ (ap (λ c. top_text t ++ items_text c (top_items ts)) (one_behind t)
+    ∙ (ap (λ a. a ++ items_text (open_after_all [] (one_top t)) (top_items ts)) (one_text t)
+    ∙ (ap (λ c. top_text t ++ items_text c (top_items ts)) (one_after t)
     ∙ ap (λ a. top_text t ++ a) (text_of_items ts)))
 
 -- ---- paths
 
-tops_behind : (ts : List (Top UserSymbol ℕ)) → open_behind [] (top_items ts) ≡ []
-tops_behind [] = refl
-tops_behind (t ∷ ts) =
-    behind_append [] (one_top t) (top_items ts) ∙ (ap (λ c. open_behind c (top_items ts)) (one_behind t) ∙ tops_behind ts)
+tops_after : (ts : List (Top UserSymbol ℕ)) → open_after_all [] (top_items ts) ≡ []
+tops_after [] = refl
+tops_after (t ∷ ts) =
+    items_then-append [] (one_top t) (top_items ts) ∙ (ap (λ c. open_after_all c (top_items ts)) (one_after t) ∙ tops_after ts)
 
 -- the open containers around the innermost, whatever is open around the outermost
 abbrev around_of : Open → Nest UserSymbol ℕ → Open
@@ -94,14 +94,14 @@ around_of cs (outermost annotations place kind members) = with_member cs
 around_of cs (inner around field annotations place kind members) = (inner_kind around, false) ∷ around_of cs around
 
 open_begin : (cs : Open) (top p : ℕ) (f : Option UserSymbol) (annotations : List UserSymbol) (kind : Kind) (members : Members UserSymbol ℕ)
-    → open_behind cs (begin_item top f annotations p kind ∷ member_items top members) ≡ (kind, is_empty members) ∷ with_member cs
-open_begin cs top p f annotations kind members = members_behind members kind top (with_member cs)
+    → open_after_all cs (begin_item top f annotations p kind ∷ member_items top members) ≡ (kind, is_empty members) ∷ with_member cs
+open_begin cs top p f annotations kind members = members_after members kind top (with_member cs)
 
-nest_behind : (nest : Nest UserSymbol ℕ) (top : ℕ) (cs : Open) → open_behind cs (nest_items top nest) ≡ (inner_kind nest, is_empty (inner_members nest)) ∷ around_of cs nest
-nest_behind (outermost annotations place kind members) top cs = open_begin cs top place None annotations kind members
-nest_behind (inner around f annotations place kind members) top cs =
-    behind_append cs (nest_items top around) (begin_item top f annotations place kind ∷ member_items top members)
-    ∙ (ap (λ c. open_behind c (begin_item top f annotations place kind ∷ member_items top members)) (nest_behind around top cs)
+nest_after : (nest : Nest UserSymbol ℕ) (top : ℕ) (cs : Open) → open_after_all cs (nest_items top nest) ≡ (inner_kind nest, is_empty (inner_members nest)) ∷ around_of cs nest
+nest_after (outermost annotations place kind members) top cs = open_begin cs top place None annotations kind members
+nest_after (inner around f annotations place kind members) top cs =
+    items_then-append cs (nest_items top around) (begin_item top f annotations place kind ∷ member_items top members)
+    ∙ (ap (λ c. open_after_all c (begin_item top f annotations place kind ∷ member_items top members)) (nest_after around top cs)
     ∙ open_begin ((inner_kind around, is_empty (inner_members around)) ∷ around_of cs around) top place f annotations kind members)
 
 -- the text of a container's beginning and of its members
@@ -119,8 +119,8 @@ nest_text_of : (nest : Nest UserSymbol ℕ) (top : ℕ) → items_text [] (nest_
 nest_text_of (outermost annotations place kind members) top = begin_text_of [] top place None annotations kind members
 nest_text_of (inner around f annotations place kind members) top =
     items_append [] (nest_items top around) (begin_item top f annotations place kind ∷ member_items top members)
-    ∙ (ap (λ t. t ++ items_text (open_behind [] (nest_items top around)) (begin_item top f annotations place kind ∷ member_items top members)) (nest_text_of around top)
-    ∙ (ap (λ c. nest_text around ++ items_text c (begin_item top f annotations place kind ∷ member_items top members)) (nest_behind around top [])
+    ∙ (ap (λ t. t ++ items_text (open_after_all [] (nest_items top around)) (begin_item top f annotations place kind ∷ member_items top members)) (nest_text_of around top)
+    ∙ (ap (λ c. nest_text around ++ items_text c (begin_item top f annotations place kind ∷ member_items top members)) (nest_after around top [])
     ∙ ap (λ t. nest_text around ++ t)
     (begin_text_of ((inner_kind around, is_empty (inner_members around)) ∷ around_of [] around) top place f annotations kind members)))
 
@@ -129,6 +129,6 @@ pub path_text_of : (path : Path UserSymbol ℕ) → items_text [] (path_items pa
 path_text_of (closed tops) = text_of_items tops
 path_text_of (opened tops first nest) =
     items_append [] (top_items tops) (nest_items first nest)
-    ∙ (ap (λ t. t ++ items_text (open_behind [] (top_items tops)) (nest_items first nest)) (text_of_items tops)
-    ∙ (ap (λ c. text tops ++ items_text c (nest_items first nest)) (tops_behind tops)
+    ∙ (ap (λ t. t ++ items_text (open_after_all [] (top_items tops)) (nest_items first nest)) (text_of_items tops)
+    ∙ (ap (λ c. text tops ++ items_text c (nest_items first nest)) (tops_after tops)
     ∙ ap (λ t. text tops ++ t) (nest_text_of nest first)))

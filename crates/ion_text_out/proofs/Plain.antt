@@ -9,7 +9,7 @@ use Rattle.ion_value.specs.Name.{coded, IsQuotedAs, is_plain, is_simple}
 use Rattle.ion_value.specs.Value as v
 use Rattle.ion_value.specs.Value.{PlacedItem, SymbolAt, Symbol, map_head, map_scalar, user_symbol, user_symbol_at, user_item}
 use Rattle.ion_value.specs.Items.{raw_head}
-use Rattle.ion_value.specs.PlainItems.{IsOwnText, IsQuotedIn, IsRightlyQuoted, IsTextOf, StandsBehind, listed, placed_item, placed_text, with_second}
+use Rattle.ion_value.specs.PlainItems.{IsOwnText, IsQuotedIn, IsRightlyQuoted, IsTextOf, StandsAfter, listed, placed_item, placed_text, with_second}
 use Rattle.ion_value.specs.Digits.{all_are}
 use Rattle.ion_value.specs.declared.quoting.Quoting.TheVariants as quoting
 use Rattle.ion_value.specs.declared.ion_type.Kind.{Kind}
@@ -18,9 +18,9 @@ use Rattle.ion_value.specs.declared.plain_item.TextAt.{TextAt}
 use Rattle.ion_value.specs.declared.plain_item.PlainItem.{PlainItem}
 use Rattle.ion_text_out.proofs.Quoted.{shown_between}
 use Rattle.ion_text_out.specs.Escape.{between_quotes, byte_text, is_shown}
-use Rattle.ion_text_out.specs.Text.{Open, annotation_text, before_item, behind_value, field_text, head_text, item_text, scalar_text, symbol_text}
+use Rattle.ion_text_out.specs.Text.{Open, annotation_text, before_item, after_value, field_text, head_text, item_text, scalar_text, symbol_text}
 use Rattle.ion_meter.specs.declared.limits.Limits.{Limits}
-use Rattle.ion_text_out.specs.Writing.{behind_end, closing, shown, text_adds, Shows}
+use Rattle.ion_text_out.specs.Writing.{after_end, closing, shown, text_adds, Shows}
 use Rattle.ion_text_out.specs.Lane.{is_bare_in, marked, plain_front, plain_scalar, symbol_in, symbols_in, text_in}
 
 -- a simple text is plain
@@ -81,12 +81,12 @@ name_is : (field : Option TextAt) → field_text (option_map user_symbol_at (opt
 name_is None = refl
 name_is (Some t) = symbol_marked (codes ":") t.text.now
 
-notes_are : (annotation second : Option TextAt) → IfSome second (StandsBehind annotation)
+notes_are : (annotation second : Option TextAt) → IfSome second (StandsAfter annotation)
     → flat_map annotation_text (map user_symbol_at (with_second (listed (option_map placed_text annotation)) second)) ≡ marked (codes "::") (symbols_in annotation second)
-notes_are None None behind = refl
-notes_are (Some t) None behind = append-nil (symbol_text (v.Known t.text.now) ++ codes "::") ∙ symbol_marked (codes "::") t.text.now
-notes_are None (Some s) behind = absurd behind
-notes_are (Some t) (Some s) behind =
+notes_are None None after = refl
+notes_are (Some t) None after = append-nil (symbol_text (v.Known t.text.now) ++ codes "::") ∙ symbol_marked (codes "::") t.text.now
+notes_are None (Some s) after = absurd after
+notes_are (Some t) (Some s) after =
     let first = symbol_text (v.Known t.text.now) in
     let second = symbol_text (v.Known s.text.now) in
     ap (λ (l : List ℕ). (first ++ codes "::") ++ l) (append-nil (second ++ codes "::"))
@@ -94,15 +94,15 @@ notes_are (Some t) (Some s) behind =
     ∙ (sym (append_assoc first (codes "::" ++ second) (codes "::")) ∙ is_marked (codes "::") t.text.now (codes "::" ++ second)))
 
 -- what stands in front of its head
-front_is : (item : PlainItem) → IfSome item.second (StandsBehind item.annotation)
+front_is : (item : PlainItem) → IfSome item.second (StandsAfter item.annotation)
     → field_text (user_item (placed_item item)).field ++ flat_map annotation_text (user_item (placed_item item)).annotations ≡ plain_front (symbol_in item.field) (symbols_in item.annotation item.second)
-front_is item behind = rw (name_is item.field, notes_are item.annotation item.second behind) refl
+front_is item after = rw (name_is item.field, notes_are item.annotation item.second after) refl
 
 -- its head after these texts is the item
-pub item_put : (cs : Open) (item : PlainItem) (name notes : List ℕ) → IfSome item.second (StandsBehind item.annotation) → name ≡ symbol_in item.field → notes ≡ symbols_in item.annotation item.second
+pub item_put : (cs : Open) (item : PlainItem) (name notes : List ℕ) → IfSome item.second (StandsAfter item.annotation) → name ≡ symbol_in item.field → notes ≡ symbols_in item.annotation item.second
     → head_text cs (plain_front name notes) (map_head user_symbol_at (raw_head item.head)) ≡ item_text cs (user_item (placed_item item))
-item_put cs item name notes behind named noted =
-    rw (named, noted) (ap (λ (l : List ℕ). head_text cs l (map_head user_symbol_at (raw_head item.head))) (sym (front_is item behind)))
+item_put cs item name notes after named noted =
+    rw (named, noted) (ap (λ (l : List ℕ). head_text cs l (map_head user_symbol_at (raw_head item.head))) (sym (front_is item after)))
 
 -- a name and annotations that were spelled one after the other are the two parts of that, cut after the name
 pub parted : (before spelled name notes buffer first second : List ℕ) (cut : ℕ) → before ≡ [] → spelled ≡ before ++ name → buffer ≡ spelled ++ notes → cut ≡ length spelled → first ≡ take cut buffer → second ≡ drop cut buffer
@@ -111,7 +111,7 @@ parted before spelled name notes buffer first second cut empty named noted at fr
     let is : spelled ≡ name = named ∙ ap (λ (l : List ℕ). l ++ name) empty in
     (rw (front, at, noted) (take-append_seam spelled notes ∙ is), rw (back, at, noted) (drop-append_seam spelled notes))
 
--- ---- heads behind the texts of a name and an annotation
+-- ---- heads after the texts of a name and an annotation
 
 pub scalar_put : (cs : Open) (name note : List ℕ) (head : v.Head SymbolAt) (body : v.Scalar SymbolAt) (text : List ℕ) → head ≡ v.whole body → text ≡ scalar_text (map_scalar user_symbol_at body)
     → plain_scalar cs name note text ≡ head_text cs (plain_front name note) (map_head user_symbol_at head)
@@ -167,9 +167,9 @@ before-short ((kind.List, false) ∷ cs) = omega arith
 before-short ((kind.Sexp, false) ∷ cs) = omega arith
 before-short ((kind.Struct, false) ∷ cs) = omega arith
 
-pub behind-short : (cs : Open) → length (behind_value cs) ≤ 1
-behind-short [] = omega arith
-behind-short (c ∷ cs) = omega arith
+pub after-short : (cs : Open) → length (after_value cs) ≤ 1
+after-short [] = omega arith
+after-short (c ∷ cs) = omega arith
 
 pub closing-short : (cs : Open) → length (closing cs) ≤ 1
 closing-short [] = omega arith
@@ -181,13 +181,13 @@ pub minus-short : (negative : Bool) → length {A = ℕ} (if negative then 45 �
 minus-short true = omega arith
 minus-short false = omega arith
 
-pub behind_end-short : (cs : Open) → length (behind_end cs) ≤ 1
-behind_end-short [] = omega arith
-behind_end-short (c ∷ cs) = behind-short cs
+pub after_end-short : (cs : Open) → length (after_end cs) ≤ 1
+after_end-short [] = omega arith
+after_end-short (c ∷ cs) = after-short cs
 
 -- ---- the writer
 
--- what was put is what the item adds behind the path
+-- what was put is what the item adds after the path
 pub adds_here : (limits : Limits) (kinds : List Kind) (empty : Bool) (path : List PlacedItem) (item : PlainItem) (before after text : List ℕ)
     → Shows kinds empty path → after ≡ before ++ text → text ≡ item_text (shown kinds empty) (user_item (placed_item item)) → after ≡ before ++ text_adds limits path (placed_item item)
 adds_here limits kinds empty path item before after text shows put is =

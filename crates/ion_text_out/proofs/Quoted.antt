@@ -14,9 +14,9 @@ pub all_joined : (test : ℕ → Bool) (xs ys : List ℕ) → all_are test (xs +
 all_joined test [] ys = refl
 all_joined test (x ∷ xs) ys = elim (cases_Bool (test x)) [ inl e ↦ rw e (all_joined test xs ys) | inr e ↦ rw e refl ]
 
--- so many bytes, and so many behind them
-pub all_behind : (test : ℕ → Bool) (bytes : List ℕ) (n m : ℕ) → all_are test (take n bytes) ≡ true → all_are test (take m (drop n bytes)) ≡ true → all_are test (take (n + m) bytes) ≡ true
-all_behind test bytes n m first second = rw (take-add n m bytes, all_joined test (take n bytes) (take m (drop n bytes)), first, second) refl
+-- so many bytes, and so many after them
+pub all_after : (test : ℕ → Bool) (bytes : List ℕ) (n m : ℕ) → all_are test (take n bytes) ≡ true → all_are test (take m (drop n bytes)) ≡ true → all_are test (take (n + m) bytes) ≡ true
+all_after test bytes n m first second = rw (take-add n m bytes, all_joined test (take n bytes) (take m (drop n bytes)), first, second) refl
 
 -- ---- their text
 
@@ -34,7 +34,7 @@ shown_text quote top (b ∷ bytes) all =
 pub shown_between : (quote top : ℕ) (bytes : List ℕ) → all_are (is_shown quote top) bytes ≡ true → between_quotes quote top bytes ≡ quote ∷ (bytes ++ quote ∷ [])
 shown_between quote top bytes all = ap (λ (l : List ℕ). quote ∷ (l ++ quote ∷ [])) (shown_text quote top bytes all)
 
--- a run, and what stands behind it
+-- a run, and what stands after it
 pub run_then : (quote top : ℕ) (bytes : List ℕ) (n : ℕ) {run others : List ℕ} → all_are (is_shown quote top) (take n bytes) ≡ true → run ≡ take n bytes → others ≡ drop n bytes
     → flat_map (byte_text quote top) bytes ≡ run ++ flat_map (byte_text quote top) others
 run_then quote top bytes n shown prefix back =
@@ -43,11 +43,11 @@ run_then quote top bytes n shown prefix back =
     rw (prefix, back)
     (ap (flat_map f) (sym (take-append-drop n bytes)) ∙ (flat_map-append f (take n bytes) (drop n bytes) ∙ ap (λ xs. xs ++ flat_map f (drop n bytes)) text))
 
--- nothing stands behind the last run
+-- nothing stands after the last run
 pub run_last : (quote top : ℕ) (others : List ℕ) → length others ≡ 0 → flat_map (byte_text quote top) others ≡ []
 run_last quote top others e = rw (nil_from_length others e) refl
 
--- an escape, and what stands behind it
+-- an escape, and what stands after it
 first_escaped : (quote top b : ℕ) (tail : List ℕ) → is_shown quote top b ≡ false
     → flat_map (byte_text quote top) (b ∷ tail) ≡ escaped quote b ++ flat_map (byte_text quote top) tail
 first_escaped quote top b tail none = rw none refl

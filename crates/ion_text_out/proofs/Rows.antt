@@ -117,7 +117,7 @@ decimal : shown (scalar (v.decimal (record { negative = true; coefficient = 0; e
 unfolding digits
 decimal = refl
 
--- a path whose containers are open: `[1,{`, and nothing behind it
+-- a path whose containers are open: `[1,{`, and nothing after it
 abbrev begun : List (Item UserSymbol ℕ)
 begun =
     record { field = None; annotations = []; head = v.begin kind.List; place = 0; top = 0 }

@@ -12,7 +12,7 @@ use lib.Lanes.{zip2, chunk, mask_l, top, Each1}
 use lib.Count.{count_trailing_zeros}
 use Rattle.ion_value.specs.Digits.{first_is, all_are}
 use Rattle.ion_text_out.specs.Escape.{is_shown}
-use Rattle.ion_text_out.proofs.Quoted.{all_behind, all_joined}
+use Rattle.ion_text_out.proofs.Quoted.{all_after, all_joined}
 
 -- ---- a vector of bytes, tested lane by lane
 
@@ -131,7 +131,7 @@ module _ (p : ℕ → Bool) where
   passes_by true x xs n e r = subst (λ k. all_are p (take k (x ∷ xs)) ≡ true) (one_more n) (ap₂ (λ y z. y && z) e r)
   passes_by false x xs n e r = refl
 
-  -- the run passes, and what stands behind it does not
+  -- the run passes, and what stands after it does not
   pub run_passes : (xs : List ℕ) → all_are p (take (prefix_len p xs) xs) ≡ true
   run_passes [] = refl
   run_passes (x ∷ xs) = passes_by (p x) x xs (prefix_len p xs) refl (run_passes xs)
@@ -165,7 +165,7 @@ module _ (quote most : ℕ) (bytes : List ℕ) (at found : ℕ) (same : found �
 
   -- over a block that has no other
   pub over_block : found ≡ 0 → all_are shown (take (at + 16) bytes) ≡ true
-  over_block none = all_behind shown bytes at 16 before (all_pass shown (chunk at 16 bytes) (sym same ∙ none))
+  over_block none = all_after shown bytes at 16 before (all_pass shown (chunk at 16 bytes) (sym same ∙ none))
 
   -- up to the first other of a block
   pub to_hidden : at + 16 ≤ length bytes → found ≢ 0
@@ -179,7 +179,7 @@ module _ (quote most : ℕ) (bytes : List ℕ) (at found : ℕ) (same : found �
       let there : n < 16 = omega (arith, run.0, run.1, count) in
       let within : prefix_len shown (drop at bytes) < length (drop at bytes) = omega (arith, count, there, room, length-drop at bytes) in
       let end : first_is shown (drop n (drop at bytes)) ≡ false = subst (λ (k : ℕ). first_is shown (drop k (drop at bytes)) ≡ false) count (run_ends shown (drop at bytes) within) in
-      (there, all_behind shown bytes at n before passes, rw (drop-drop n at bytes) at end)
+      (there, all_after shown bytes at n before passes, rw (drop-drop n at bytes) at end)
 
 -- ---- a last block, and all before it
 
@@ -230,7 +230,7 @@ both_pass p bytes n short e =
     let at : ℕ = length bytes - n in
     let both = and_parts (all_are p (take n bytes)) (all_are p (drop at bytes)) (sym (all_joined p (take n bytes) (drop at bytes)) ∙ e) in
     subst (λ (l : List ℕ). all_are p l ≡ true) (take_all (at + n) bytes (omega arith))
-    (all_behind p bytes at n (all_prefix p at n bytes (omega (arith, short)) both.0) (all_taken p n (drop at bytes) both.1))
+    (all_after p bytes at n (all_prefix p at n bytes (omega (arith, short)) both.0) (all_taken p n (drop at bytes) both.1))
 
 pub ends_hidden : (quote most : ℕ) (bytes : List ℕ) (found n : ℕ) → found ≡ mask_l (map (λ b. not (is_shown quote most b)) (take n bytes ++ drop (length bytes - n) bytes)) → length bytes ≤ n + n
     → nat_eq found 0 ≡ all_are (is_shown quote most) bytes
@@ -246,7 +246,7 @@ ends_hidden quote most bytes found n same short =
           ne_eqb found 0 some ∙ sym e
     ]
 
--- nor do they where one stands behind a run
+-- nor do they where one stands after a run
 and_false : (a b : Bool) → b ≡ false → (a && b) ≡ false
 and_false true b e = e
 and_false false b e = refl

@@ -31,7 +31,7 @@ stays w moved counts empty can is =
 
 steps : {A O : Type 0} (w moved : TextWriter A) (counts : Counts) (old new : Outgoing O) (result : Bool) (name note text : List ℕ)
     → CanStep w counts → TakesScalar w moved old new result name note text → Stepped w moved counts counts
-steps w moved counts old new true name note text can taken = stays w moved counts false can (taken.behind refl)
+steps w moved counts old new true name note text can taken = stays w moved counts false can (taken.after refl)
 steps w moved counts old new false name note text can taken = stays w moved counts w.empty can (taken.declines refl).0
 
 -- a scalar that was taken is its head
@@ -43,7 +43,7 @@ scalar_taken {A} {O} {w} {moved} {counts} {old} {new} {result} {name} {note} {te
       declines = λ e. let same = taken.declines e in (same.0, same.1, refl);
       puts = λ e. puts_same old new _ _ (taken.puts e) (scalar_put (opened_in w) name note head body text is spelled);
       opens = λ e.
-          ap opened_in (taken.behind e)
+          ap opened_in (taken.after e)
           ∙ (member (reverse w.kinds) w.empty ∙ ap (λ (h : v.Head SymbolAt). open_after (opened_in w) (map_head user_symbol_at h)) (sym is));
       counted = refl;
       stepped = steps w moved counts old new result name note text can taken;

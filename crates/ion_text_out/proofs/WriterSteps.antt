@@ -9,7 +9,7 @@ use Rattle.ion_value.specs.Standing as standing
 use Rattle.ion_value.specs.Standing.{Continues, HasPlace, HeadInRange}
 use Rattle.ion_text_out.specs.declared.writer.TextWriter.{TextWriter}
 use Rattle.ion_text_out.specs.Steps.{MayCome}
-use Rattle.ion_text_out.specs.Text.{Open, open_after, open_behind, with_member}
+use Rattle.ion_text_out.specs.Text.{Open, open_after, open_after_all, with_member}
 use Rattle.ion_text_out.specs.Writing.{shown_in, HasRoom, Shows}
 use Rattle.ion_value.specs.Value.{user_symbol_at, user_items}
 
@@ -28,19 +28,19 @@ kinds-after [] v.end = refl
 kinds-after (c ∷ cs) v.end = refl
 kinds-after cs v.marker = refl
 
-kinds-behind : (cs : Open) (path : List PlacedItem) → kinds_in (open_behind cs (user_items path)) ≡ standing.open_behind (kinds_in cs) path
-kinds-behind cs [] = refl
-kinds-behind cs (i ∷ path) =
-    kinds-behind (open_after cs (map_head user_symbol_at i.head)) path ∙ ap (λ (l : List Kind). standing.open_behind l path) (kinds-after cs i.head)
+kinds-after-all : (cs : Open) (path : List PlacedItem) → kinds_in (open_after_all cs (user_items path)) ≡ standing.open_after_all (kinds_in cs) path
+kinds-after-all cs [] = refl
+kinds-after-all cs (i ∷ path) =
+    kinds-after-all (open_after cs (map_head user_symbol_at i.head)) path ∙ ap (λ (l : List Kind). standing.open_after_all l path) (kinds-after cs i.head)
 
 shown_in-length : (kinds : List Kind) (empty : Bool) → length (shown_in kinds empty) ≡ length kinds
 shown_in-length [] empty = refl
 shown_in-length (kind ∷ kinds) empty = ap (λ n. suc n) (length-map kinds (λ k. (k, false)))
 
-level : (kinds : List Kind) (empty : Bool) (path : List PlacedItem) → Shows kinds empty path → length (standing.open_behind [] path) ≡ length kinds
+level : (kinds : List Kind) (empty : Bool) (path : List PlacedItem) → Shows kinds empty path → length (standing.open_after_all [] path) ≡ length kinds
 level kinds empty path at =
-    ap (λ (l : List Kind). length l) (sym (kinds-behind [] path))
-    ∙ (length-map (open_behind [] (user_items path)) (λ c. c.0)
+    ap (λ (l : List Kind). length l) (sym (kinds-after-all [] path))
+    ∙ (length-map (open_after_all [] (user_items path)) (λ c. c.0)
     ∙ (ap (λ (cs : Open). length cs) at ∙ (shown_in-length (reverse kinds) empty ∙ length-reverse kinds)))
 
 room : (depth n : ℕ) (kinds : List Kind) (h : v.Head SymbolAt) → length kinds ≡ n → HasPlace depth kinds h → HasRoom depth n h
@@ -58,6 +58,6 @@ range depth kinds v.marker p = tt
 -- what may come here
 pub may_come : {A : Type 0} (w : TextWriter A) (path : List PlacedItem) (item : PlacedItem) → Shows w.kinds w.empty path → Continues w.limits path item → MayCome w item.head
 may_come w path item at next = record {
-  range = range w.limits.depth (standing.open_behind [] path) item.head next.fits.place;
-  fits = room w.limits.depth (length w.kinds) (standing.open_behind [] path) item.head (level w.kinds w.empty path at) next.fits.place;
+  range = range w.limits.depth (standing.open_after_all [] path) item.head next.fits.place;
+  fits = room w.limits.depth (length w.kinds) (standing.open_after_all [] path) item.head (level w.kinds w.empty path at) next.fits.place;
 }

@@ -2,7 +2,7 @@
 use Rattle.std.specs.Prelude.{ℕ, ◌==◌, Bool, true, List, [], ◌∷◌, ◌++◌, Option, Some, None, codes}
 use Rattle.ion_value.specs.Value.{Known}
 use Rattle.ion_value.specs.declared.plain_item.TextAt.{TextAt}
-use Rattle.ion_text_out.specs.Text.{Open, before_item, behind_value, symbol_text}
+use Rattle.ion_text_out.specs.Text.{Open, before_item, after_value, symbol_text}
 
 -- the text of a symbol that may be there, empty where there is none
 abbrev pub text_in : Option TextAt → List ℕ
@@ -35,7 +35,7 @@ plain_front name note = marked (codes ":") name ++ marked (codes "::") note
 
 -- what a scalar of a text adds after a name and annotations
 abbrev pub plain_scalar : Open → List ℕ → List ℕ → List ℕ → List ℕ
-plain_scalar cs name note text = before_item cs ++ (plain_front name note ++ (text ++ behind_value cs))
+plain_scalar cs name note text = before_item cs ++ (plain_front name note ++ (text ++ after_value cs))
 
 -- what the beginning of a container adds, by its bracket
 abbrev pub plain_begin : Open → List ℕ → List ℕ → List ℕ → List ℕ

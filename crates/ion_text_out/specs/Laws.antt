@@ -2,11 +2,11 @@
 use Rattle.std.specs.Prelude.{◌≡◌, ℕ, List, [], ◌∷◌, ◌++◌}
 use Rattle.ion_value.specs.Value.{UserSymbol, Top, Item, top_items}
 use Rattle.ion_value.specs.Path.{Path, path_items}
-use Rattle.ion_text_out.specs.Text.{item_text, items_text, open_behind, path_text, text}
+use Rattle.ion_text_out.specs.Text.{item_text, items_text, open_after_all, path_text, text}
 
 -- an item more adds its text
 abbrev pub ItemsAddTheirText : Type 0
-ItemsAddTheirText = (items : List (Item UserSymbol ℕ)) (item : Item UserSymbol ℕ) → items_text [] (items ++ item ∷ []) ≡ items_text [] items ++ item_text (open_behind [] items) item
+ItemsAddTheirText = (items : List (Item UserSymbol ℕ)) (item : Item UserSymbol ℕ) → items_text [] (items ++ item ∷ []) ≡ items_text [] items ++ item_text (open_after_all [] items) item
 
 -- the text of whole values is that of their items
 abbrev pub TextIsThatOfItems : Type 0

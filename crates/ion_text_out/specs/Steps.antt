@@ -94,7 +94,7 @@ pub record PutsText {O T : Type 0} (device : OutputOf O) (old new : Outgoing O) 
 pub record TakesScalar {A O : Type 0} (w moved : TextWriter A) (old new : Outgoing O) (result : Bool) (name note text : List ℕ) : Type 0 where
   pub declines : result ≡ false → (moved ≡ w) × (new ≡ old)
   pub puts : result ≡ true → new ≡ record old { pending = old.pending ++ plain_scalar (opened_in w) name note text }
-  pub behind : result ≡ true → moved ≡ record w { empty = false }
+  pub after : result ≡ true → moved ≡ record w { empty = false }
 
 -- where it answers true, this text was put, and these containers are open; else nothing is changed
 pub record TakesHead {A O : Type 0} (w moved : TextWriter A) (before after : Counts) (old new : Outgoing O) (result : Bool) (text : List ℕ) (opened : Open) : Type 0 where

@@ -103,7 +103,7 @@ abbrev pub inner_members : {S P : Type 0} → Nest S P → Members S P
 inner_members (outermost annotations place kind members) = members
 inner_members (inner around field annotations place kind members) = members
 
--- each open container with its members so far, behind what is around it, and no bracket closed
+-- each open container with its members so far, after what is around it, and no bracket closed
 abbrev pub nest_text : {P : Type 0} → Nest UserSymbol P → List ℕ
 nest_text (outermost annotations place kind members) = flat_map annotation_text annotations ++ (opener kind ++ members_text kind members)
 nest_text (inner around field annotations place kind members) =
@@ -111,7 +111,7 @@ nest_text (inner around field annotations place kind members) =
     ++ (before_next (inner_kind around) (is_empty (inner_members around))
     ++ (field_text field ++ (flat_map annotation_text annotations ++ (opener kind ++ members_text kind members))))
 
--- the text of a path: its whole values, and behind them what is open
+-- the text of a path: its whole values, and after them what is open
 abbrev pub path_text : {P : Type 0} → Path UserSymbol P → List ℕ
 path_text (closed tops) = text tops
 path_text (opened tops first nest) = text tops ++ nest_text nest
@@ -127,10 +127,10 @@ abbrev pub before_item : Open → List ℕ
 before_item [] = []
 before_item (c ∷ cs) = before_next c.0 c.1
 
--- what stands behind a whole value: the end of its line at top level
-abbrev pub behind_value : Open → List ℕ
-behind_value [] = codes "\n"
-behind_value (c ∷ cs) = []
+-- what stands after a whole value: the end of its line at top level
+abbrev pub after_value : Open → List ℕ
+after_value [] = codes "\n"
+after_value (c ∷ cs) = []
 
 -- the open containers, of which the innermost has a member now
 abbrev pub with_member : Open → Open
@@ -140,29 +140,29 @@ with_member (c ∷ cs) = (c.0, false) ∷ cs
 -- what a container's end adds: the bracket that closes the innermost, and the line's end where none is open around that
 abbrev pub end_text : Open → List ℕ
 end_text [] = []
-end_text (c ∷ cs) = closer c.0 ++ behind_value cs
+end_text (c ∷ cs) = closer c.0 ++ after_value cs
 
 -- what an item adds, by its head; `prefix` is the text of its field and annotations
 abbrev pub head_text : Open → List ℕ → Head UserSymbol → List ℕ
-head_text cs prefix (v.whole body) = before_item cs ++ (prefix ++ (scalar_text body ++ behind_value cs))
+head_text cs prefix (v.whole body) = before_item cs ++ (prefix ++ (scalar_text body ++ after_value cs))
 head_text cs prefix (v.begin kind) = before_item cs ++ (prefix ++ opener kind)
 head_text cs prefix v.end = end_text cs
 head_text cs prefix v.marker = []
 
--- what an item adds: a separator stands before it, and a line's end behind a value at top level
+-- what an item adds: a separator stands before it, and a line's end after a value at top level
 abbrev pub item_text : {P : Type 0} → Open → Item UserSymbol P → List ℕ
 item_text cs i = head_text cs (field_text i.field ++ flat_map annotation_text i.annotations) i.head
 
--- the open containers behind an item
+-- the open containers after an item
 abbrev pub open_after : Open → Head UserSymbol → Open
 open_after cs (v.whole body) = with_member cs
 open_after cs (v.begin kind) = (kind, true) ∷ with_member cs
 open_after cs v.end = drop 1 cs
 open_after cs v.marker = cs
 
--- the open containers behind items
-abbrev pub open_behind : {P : Type 0} → Open → List (Item UserSymbol P) → Open
-open_behind cs items = fold (λ c i. open_after c i.head) cs items
+-- the open containers after items
+abbrev pub open_after_all : {P : Type 0} → Open → List (Item UserSymbol P) → Open
+open_after_all cs items = fold (λ c i. open_after c i.head) cs items
 
 -- the text of the items of a path: of whole values at top level, and of those that are open, with no closing bracket
 abbrev pub items_text : {P : Type 0} → Open → List (Item UserSymbol P) → List ℕ

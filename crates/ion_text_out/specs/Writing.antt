@@ -7,17 +7,17 @@ use Rattle.ion_meter.specs.Limits.{AreChecked}
 use Rattle.ion_value.specs.declared.ion_type.Kind.{Kind}
 use Rattle.ion_value.specs.Value as v
 use Rattle.ion_value.specs.Value.{SymbolAt, UserSymbol, user_symbol, user_symbol_at, user_item, user_items, map_head, Head, PlacedItem}
-use Rattle.ion_text_out.specs.Text.{Open, annotation_text, before_item, behind_value, closer, item_text, items_text, open_behind, opener, scalar_text, symbol_text}
+use Rattle.ion_text_out.specs.Text.{Open, annotation_text, before_item, after_value, closer, item_text, items_text, open_after_all, opener, scalar_text, symbol_text}
 
 -- what is put for items
 abbrev pub text_puts : Limits → List PlacedItem → List ℕ
 text_puts limits path = items_text [] (user_items path)
 
--- what an item behind others adds
+-- what an item after others adds
 abbrev pub text_adds : Limits → List PlacedItem → PlacedItem → List ℕ
-text_adds limits path item = item_text (open_behind [] (user_items path)) (user_item item)
+text_adds limits path item = item_text (open_after_all [] (user_items path)) (user_item item)
 
--- the refusal of an item behind others: there is none
+-- the refusal of an item after others: there is none
 abbrev pub text_refusal : Limits → List PlacedItem → PlacedItem → Option (Reason × ℕ)
 text_refusal limits path item = None
 
@@ -50,16 +50,16 @@ first_text cs (v.begin kind) = before_item cs
 first_text cs v.end = closing cs
 first_text cs v.marker = []
 
--- what stands behind the bracket that closes
-abbrev pub behind_end : Open → List ℕ
-behind_end [] = []
-behind_end (c ∷ cs) = behind_value cs
+-- what stands after the bracket that closes
+abbrev pub after_end : Open → List ℕ
+after_end [] = []
+after_end (c ∷ cs) = after_value cs
 
--- the last part of an item's text: behind a whole value at top level the end of its line, and else nothing
+-- the last part of an item's text: after a whole value at top level the end of its line, and else nothing
 abbrev pub last_text : {S : Type 0} → Open → Head S → List ℕ
-last_text cs (v.whole body) = behind_value cs
+last_text cs (v.whole body) = after_value cs
 last_text cs (v.begin kind) = []
-last_text cs v.end = behind_end cs
+last_text cs v.end = after_end cs
 last_text cs v.marker = []
 
 -- the text of a scalar, or the bracket that opens a container; nothing of an end or a marker
@@ -114,4 +114,4 @@ HasRoom depth level v.marker = ⊤
 
 -- the containers that it has open are those of the path
 abbrev pub Shows : List Kind → Bool → List PlacedItem → Type 0
-Shows kinds empty path = open_behind [] (user_items path) ≡ shown kinds empty
+Shows kinds empty path = open_after_all [] (user_items path) ≡ shown kinds empty

@@ -1,7 +1,7 @@
 //! What stands between values.
 ghost use Rattle.std.specs.Prelude.{◌≡◌, Bool};
-ghost use Rattle.ion_text_out.specs.Text.{before_item, behind_value, opener};
-ghost use Rattle.ion_text_out.specs.Writing.{behind_end, closing, innermost, shown};
+ghost use Rattle.ion_text_out.specs.Text.{before_item, after_value, opener};
+ghost use Rattle.ion_text_out.specs.Writing.{after_end, closing, innermost, shown};
 
 use ion_value::ion_type::Kind;
 
@@ -40,8 +40,8 @@ pub fn before(kinds: &[Kind], empty: bool) -> &'static [u8]
 
 /// What stands after a value: at top level, the end of its line.
 #[inline]
-pub fn behind(kinds: &[Kind]) -> &'static [u8]
-    ensures { (empty : Bool) → result.now ≡ behind_value (shown kinds.now empty) }
+pub fn after(kinds: &[Kind]) -> &'static [u8]
+    ensures { (empty : Bool) → result.now ≡ after_value (shown kinds.now empty) }
 {
     if kinds.is_empty() { b"\n" } else { b"" }
 }
@@ -61,8 +61,8 @@ pub fn closing(kinds: &[Kind]) -> &'static [u8]
 
 /// What stands after that bracket.
 #[inline]
-pub fn behind_end(kinds: &[Kind]) -> &'static [u8]
-    ensures { (empty : Bool) → result.now ≡ behind_end (shown kinds.now empty) }
+pub fn after_end(kinds: &[Kind]) -> &'static [u8]
+    ensures { (empty : Bool) → result.now ≡ after_end (shown kinds.now empty) }
 {
     if kinds.len() == 1 { b"\n" } else { b"" }
 }

@@ -1,6 +1,6 @@
 //! Names and annotations of plain items, which are put where the window on the output has room.
 ghost use Rattle.std.specs.Prelude.{◌≡◌, ◌+◌, ◌≤◌, ◌++◌, ◌∷◌, ◌&&◌, [], true, length, codes, if◌then◌else◌, IfSome};
-ghost use Rattle.ion_value.specs.PlainItems.{IsRightlyQuoted, StandsBehind};
+ghost use Rattle.ion_value.specs.PlainItems.{IsRightlyQuoted, StandsAfter};
 ghost use Rattle.ion_value.specs.Value.{Known};
 ghost use Rattle.ion_text_out.specs.Lane.{is_bare_in, plain_front, symbol_in, symbols_in, text_in};
 ghost use Rattle.ion_text_out.specs.Text.{symbol_text};
@@ -156,7 +156,7 @@ pub fn spell_notes(
     second: Option<TextAt<'_>>,
 ) -> bool
     requires first { IfSome annotation IsRightlyQuoted }
-    requires second { IfSome second (StandsBehind annotation) }
+    requires second { IfSome second (StandsAfter annotation) }
     ensures { result ≡ true
         → front.new.items ≡ front.old.items ++ symbols_in annotation.entry second.entry }
 {

@@ -8,7 +8,7 @@ ghost use Rattle.ion_text_out.specs.Writing.{first_text, is_value, last_text, ma
 ghost use Rattle.ion_value.specs.Value.{user_item};
 ghost use Rattle.ion_value.specs.Standing.{HeadInRange};
 
-use crate::between::{before, behind, behind_end, closing};
+use crate::between::{after, after_end, before, closing};
 use crate::put::{put, put_mark};
 use crate::scalar::{put_body, put_symbol};
 use ion_meter::device::Output;
@@ -91,9 +91,9 @@ fn put_last<O: Output, A: Allocator + Copy>(
         (last_text (shown kinds.now empty) (raw_head head.now)) }
 {
     match *head {
-        Head::End => put_mark(sink, behind_end(kinds)),
+        Head::End => put_mark(sink, after_end(kinds)),
         Head::Begin(_) | Head::Marker => put(sink, b""),
-        _ => put_mark(sink, behind(kinds)),
+        _ => put_mark(sink, after(kinds)),
     }
 }
 

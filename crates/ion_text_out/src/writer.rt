@@ -21,7 +21,7 @@ ghost use Rattle.ion_text_out.specs.Steps.{CanStep, HasPutNothing, HasRoomFor, H
 ghost use Rattle.ion_text_out.specs.Written.{text_grows, text-within};
 
 use crate::bare::is_bare;
-use crate::between::{before, behind, behind_end, closing, opener};
+use crate::between::{after, after_end, before, closing, opener};
 use crate::front::{all, has_room, put_front, put_mark, spell, spell_notes, text_in};
 use crate::item::put_item;
 use crate::quote::{stands_in_string, stands_in_symbol};
@@ -174,7 +174,7 @@ impl<A: Allocator + Copy> TextWriter<A> {
         put_mark(sink, first);
         sink.put_within(text);
         put_mark(sink, last);
-        put_mark(sink, behind(self.kinds.as_slice()));
+        put_mark(sink, after(self.kinds.as_slice()));
         self.empty = false;
         true
     }
@@ -396,7 +396,7 @@ impl<A: Allocator + Copy> TextWriter<A> {
             return false;
         }
         put_mark(sink, closing(self.kinds.as_slice()));
-        put_mark(sink, behind_end(self.kinds.as_slice()));
+        put_mark(sink, after_end(self.kinds.as_slice()));
         self.kinds.pop(meter);
         self.empty = false;
         true

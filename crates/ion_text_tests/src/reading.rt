@@ -190,7 +190,7 @@ fn reads_rows(rt: HostRuntime) -> Result<(), Fail> {
         lobs::WHITE,
         blanks::BLANKS,
         drawn::TEXTS,
-        drawn::BEHIND,
+        drawn::AFTER,
         items::ITEMS,
         items::FAULTS,
     ] {

@@ -1,7 +1,7 @@
 //! What the writer puts for items, whole and as long as containers are open.
 ghost use Rattle.std.specs.Prelude.{◌≡◌, ◌+◌, ◌^◌, ◌<◌, List, [], true, false, OnOk, IfSome};
 ghost use Rattle.ion_value.specs.Items.{item_of, raw_head};
-ghost use Rattle.ion_value.specs.Standing.{open_after, open_behind, is_marker, Fits, HeadInRange};
+ghost use Rattle.ion_value.specs.Standing.{open_after, open_after_all, is_marker, Fits, HeadInRange};
 ghost use Rattle.ion_value.specs.Value.{PlacedItem};
 
 mod containers;
@@ -144,13 +144,13 @@ fn put_one<W: ValueWriter<O, Global>, O: Output, N: Names>(
 ) -> Result<(), Fault>
     requires sound { W.sound writer.old }
     requires stands { (path : List PlacedItem) × W.stands writer.old path
-        × (open_behind [] path ≡ kinds.old.items) }
+        × (open_after_all [] path ≡ kinds.old.items) }
     requires depth { (W.limits writer.old).depth ≡ 3 }
     requires held { meter.old.held ≡ 4096 + W.own writer.old }
     requires range { HeadInRange (item_of N.text item.now).head }
     ensures sound { W.sound writer.new }
     ensures stands { OnOk result ((path : List PlacedItem) × W.stands writer.new path
-        × (open_behind [] path ≡ kinds.new.items)) }
+        × (open_after_all [] path ≡ kinds.new.items)) }
     ensures depth { (W.limits writer.new).depth ≡ 3 }
     ensures held { meter.new.held ≡ 4096 + W.own writer.new }
 {

@@ -52,7 +52,7 @@ given_back limits kept old loaded new charges shrinks = (
   subst (λ (n : ℕ). n ≤ max old.peak (old.held + load_bound limits)) (sym shrinks.peak) charges.peak,
 )
 
--- a file of which a catalogue was loaded, behind the tables that were given back
+-- a file of which a catalogue was loaded, after the tables that were given back
 pub file_loaded : {S F : Type 0} (closes : Closing S F) (remaining : F → Option (List ℕ)) (limits : Limits) (file : F) (opened closed : S) (after : Counted F)
     (old loaded new : Counts) (result answer : Result (List Shared) Fault) → result ≡ answer → closes opened after closed
     → IsLoaded (file_input remaining) limits old loaded (just_opened file) after result → Shrinks loaded new (kept_in answer)

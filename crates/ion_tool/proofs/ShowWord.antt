@@ -54,7 +54,7 @@ pub check_has_none : fault_of ion_app (codes "check" ∷ codes "--to=binary" ∷
 unfolding clap_on_literals
 check_has_none = refl
 
--- behind it a word that is no form's asks for no run
+-- after it a word that is no form's asks for no run
 abbrev others : List Text
 others = codes "convert" ∷ codes "--to" ∷ codes "bin" ∷ []
 
@@ -81,7 +81,7 @@ pub catalog_is_named : Names (codes "show" ∷ codes "--catalog" ∷ codes "tabl
 unfolding clap_on_literals
 catalog_is_named = record { rows = _; faultless = refl; named = refl; formed = refl; limited = refl; catalogued = refl; filed = refl }
 
--- behind that option `-` is a name as any other
+-- after that option `-` is a name as any other
 pub dash_is_named : Names (codes "show" ∷ codes "--catalog" ∷ codes "-" ∷ []) Show default_limits (Some (codes "-")) None
 unfolding clap_on_literals
 dash_is_named = record { rows = _; faultless = refl; named = refl; formed = refl; limited = refl; catalogued = refl; filed = refl }

@@ -58,7 +58,7 @@ gets_cut device first second old new count a = record {
   still_observable = a.still_observable;
 }
 
--- the count of failures behind a call that failed, and behind one that succeeded
+-- the count of failures after a call that failed, and after one that succeeded
 pub failed : {T F : Type 0} (r : Result T F) (old new : ℕ) → is_err r ≡ true → MatchResult r (λ _. new ≡ old) (λ _. new ≡ old + 1) → new ≡ old + 1
 failed (Ok x) old new e count = absurd (cc e)
 failed (Err x) old new e count = count

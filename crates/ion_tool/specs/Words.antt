@@ -30,7 +30,7 @@ form_rule = record (new_rule (codes "to")) { long = Some (codes "to"); value_nam
 abbrev pub catalog_rule : Rule
 catalog_rule = record (new_rule (codes "catalog")) { long = Some (codes "catalog"); value_names = 1 }
 
--- the options for the limits behind what a subcommand has already
+-- the options for the limits after what a subcommand has already
 abbrev pub with_limits : App → App
 with_limits app =
     with_rule (with_rule (with_rule (with_rule app
@@ -39,7 +39,7 @@ with_limits app =
     (limit_rule (codes "symbols") 1073741824))
     (limit_rule (codes "value") 1073741824)
 
--- a subcommand behind what it has of its own: `[--catalog FILE] [--depth N] [--scalar N] [--symbols N] [--value N] [FILE]`
+-- a subcommand after what it has of its own: `[--catalog FILE] [--depth N] [--scalar N] [--symbols N] [--value N] [FILE]`
 abbrev pub action_app : App → App
 action_app app = with_rule (with_limits (with_rule app catalog_rule)) (new_rule (codes "FILE"))
 

@@ -2,9 +2,9 @@
 use Rattle.std.proofs.Common.{◌≡◌, ℕ, List, [], ◌∷◌, ◌++◌, length, Option, None, Some, refl, ap, sym, ◌∙◌, subst₂, append_assoc, append-nil}
 use Rattle.ion_meter.specs.declared.fault.Reason.{Reason}
 use Rattle.ion_meter.specs.declared.limits.Limits.{Limits}
-use Rattle.ion_value.specs.Outcome.{Accepted, values_in, verdict_with, verdict_behind, output_with, output_behind}
+use Rattle.ion_value.specs.Outcome.{Accepted, values_in, verdict_with, verdict_after, output_with, output_after}
 use Rattle.ion_value.specs.Path.{closed, path_items}
-use Rattle.ion_value.specs.Reading.{Finished, behind}
+use Rattle.ion_value.specs.Reading.{Finished, items_then}
 use Rattle.ion_value.specs.Value.{SymbolAt, UserSymbol, Top, Item, PlacedItem, top_items, user_items}
 use Rattle.ion_symbols.specs.Laws.{UsersAreRead}
 use Rattle.ion_symbols.specs.Resolved.{WhatIsResolvedIsAccepted}
@@ -28,11 +28,11 @@ use Rattle.ion_transcode.specs.Outputs.{outputs_of, resolved}
 use Rattle.ion_transcode.specs.Verdict.{HasVerdict}
 use Rattle.ion_transcode.proofs.Counting.{values-of_tops}
 
--- items behind others, of which a target refuses none
+-- items after others, of which a target refuses none
 abbrev Free : (List PlacedItem → PlacedItem → Option (Reason × ℕ)) → List PlacedItem → List PlacedItem → Type 0
 Free refusal path items = (before rest : List PlacedItem) (item : PlacedItem) → items ≡ before ++ item ∷ rest → refusal (path ++ before) item ≡ None
 
--- behind one of them the others
+-- after one of them the others
 free-next : (refusal : List PlacedItem → PlacedItem → Option (Reason × ℕ)) (path items : List PlacedItem) (item : PlacedItem) → Free refusal path (item ∷ items)
     → Free refusal (path ++ item ∷ []) items
 free-next refusal path items item free before rest other is =
@@ -45,18 +45,18 @@ free-first refusal path items item free = ap (λ (l : List PlacedItem). refusal 
 
 -- so all of them are counted, and put
 verdict-free : (refusal : List PlacedItem → PlacedItem → Option (Reason × ℕ)) (path items : List PlacedItem) → Free refusal path items
-    → verdict_behind refusal path (behind items Finished) ≡ Accepted (values_in [] (path ++ items))
+    → verdict_after refusal path (items_then items Finished) ≡ Accepted (values_in [] (path ++ items))
 verdict-free refusal path [] free = ap (λ (l : List PlacedItem). Accepted (values_in [] l)) (sym (append-nil path))
 verdict-free refusal path (item ∷ items) free =
-    ap (λ why. verdict_with why (verdict_behind refusal (path ++ item ∷ []) (behind items Finished))) (free-first refusal path items item free)
+    ap (λ why. verdict_with why (verdict_after refusal (path ++ item ∷ []) (items_then items Finished))) (free-first refusal path items item free)
     ∙ (verdict-free refusal (path ++ item ∷ []) items (free-next refusal path items item free)
     ∙ ap (λ (l : List PlacedItem). Accepted (values_in [] l)) (append_assoc path (item ∷ []) items))
 
 output-free : (puts : List PlacedItem → List ℕ) (refusal : List PlacedItem → PlacedItem → Option (Reason × ℕ)) (path items : List PlacedItem) → Free refusal path items
-    → output_behind puts refusal path (behind items Finished) ≡ puts (path ++ items)
+    → output_after puts refusal path (items_then items Finished) ≡ puts (path ++ items)
 output-free puts refusal path [] free = ap puts (sym (append-nil path))
 output-free puts refusal path (item ∷ items) free =
-    ap (λ why. output_with why (puts path) (output_behind puts refusal (path ++ item ∷ []) (behind items Finished))) (free-first refusal path items item free)
+    ap (λ why. output_with why (puts path) (output_after puts refusal (path ++ item ∷ []) (items_then items Finished))) (free-first refusal path items item free)
     ∙ (output-free puts refusal (path ++ item ∷ []) items (free-next refusal path items item free) ∙ ap puts (append_assoc path (item ∷ []) items))
 
 some-same : (us vs : List (Top UserSymbol ℕ)) → Some us ≡ Some vs → us ≡ vs
@@ -85,23 +85,23 @@ module _ (streams : StreamsAreRead) (users_read : UsersAreRead) (taken_in : What
       let values = users_read catalog limits.symbols tops mine given.1 in
       let same : values.0 ≡ us = some-same values.0 us (sym values.1 ∙ users_are) in
       let items : user_items mine ≡ top_items us = values.2 ∙ ap top_items same in
-      let all : users catalog limits.symbols at_start (reading_of f limits bytes) ≡ behind mine Finished = ap (users catalog limits.symbols at_start) read ∙ given.1 in
+      let all : users catalog limits.symbols at_start (reading_of f limits bytes) ≡ items_then mine Finished = ap (users catalog limits.symbols at_start) read ∙ given.1 in
       let free : Free (by_item t limits).refusal [] mine = none-refused t limits mine us items taken in
       let v : verdict_as (resolved f to) f catalog limits bytes ≡ Accepted (length us) =
       ap (λ (r : Option Target). verdict_as r f catalog limits bytes) to_is
-      ∙ (ap (verdict_behind (by_item t limits).refusal []) all
+      ∙ (ap (verdict_after (by_item t limits).refusal []) all
       ∙ (verdict-free (by_item t limits).refusal [] mine free ∙ ap Accepted (values-of_tops mine us items)))
       in
       let out : output_as (resolved f to) f catalog limits bytes ≡ (outputs_of t limits).whole_output us =
       ap (λ (r : Option Target). output_as r f catalog limits bytes) to_is
-      ∙ (ap (output_behind (by_item t limits).open_output (by_item t limits).refusal []) all
+      ∙ (ap (output_after (by_item t limits).open_output (by_item t limits).refusal []) all
       ∙ (output-free (by_item t limits).open_output (by_item t limits).refusal [] mine free ∙ whole-output t limits mine us items))
       in
       subst₂ (λ w o. HasVerdict catalog limits to bytes w o) v out (streams catalog limits to bytes)
 
 -- a stream that passes no limit is read to its end
 is-read : binary_laws.WithinLimitsAreRead → text_laws.WithinLimitsAreRead → (f : Form) (limits : Limits) (bytes : List ℕ) (tops : List (Top SymbolAt ℕ))
-    → (encoding_of f).Stream bytes tops → PassesNoLimit f limits bytes → reading_of f limits bytes ≡ behind (path_items (closed tops)) Finished
+    → (encoding_of f).Stream bytes tops → PassesNoLimit f limits bytes → reading_of f limits bytes ≡ items_then (path_items (closed tops)) Finished
 is-read binary_read text_read form.Binary limits bytes tops stream none = binary_read limits bytes tops stream none
 is-read binary_read text_read form.Text limits bytes tops stream none = text_read limits bytes tops stream none
 

@@ -4,7 +4,7 @@ use Rattle.std.specs.List.{AllByRecursion}
 use Rattle.ion_meter.specs.declared.limits.Limits.{Limits}
 use Rattle.ion_value.specs.Outcome.{Accepted}
 use Rattle.ion_value.specs.Path.{closed, path_items}
-use Rattle.ion_value.specs.Reading.{Finished, behind}
+use Rattle.ion_value.specs.Reading.{Finished, items_then}
 use Rattle.ion_value.specs.Value.{UserSymbol, Top, unplaced_top}
 use Rattle.ion_symbols.specs.Table.{Shared, system}
 use Rattle.ion_symbols.specs.Tree.{user_tops}
@@ -35,7 +35,7 @@ again : WhatIsReadIsAccepted → (catalog : List Shared) (limits : Limits) (us :
     → IsReadWithin catalog limits us → HasVerdict catalog limits asked (text us) (Accepted (length us)) out
 again accepted catalog limits us asked t out to_is taken written r =
     let resolved_as = ap (λ (f : Form). resolved f asked) r.form ∙ to_is in
-    let read : reading_of (form_of (text us)) limits (text us) ≡ behind (path_items (closed r.raw)) Finished =
+    let read : reading_of (form_of (text us)) limits (text us) ≡ items_then (path_items (closed r.raw)) Finished =
     ap (λ (f : Form). reading_of f limits (text us)) r.form ∙ r.read in
     subst₂ (λ (n : ℕ) (o : List ℕ). HasVerdict catalog limits asked (text us) (Accepted n) o) (same-length r.users us r.same)
     (written r.users r.same)

@@ -43,7 +43,7 @@ module _ (why : WhyRefused) (said : WhatIsDeclared) where
     abbrev ground : Ground
     ground = record { catalog = catalog; limit = limit; old = t }
 
-    -- behind a declaration all is resolved by its table
+    -- after a declaration all is resolved by its table
     table-resolved : (annotations : List SymbolAt) (first : ℕ) (members : Members SymbolAt ℕ) (o : Option Table) → next_table catalog (text_at t) t members ≡ o
         → IsInOrder ground annotations members → IsSomeAnd o (λ u. TreesAreInOrder catalog limit u tops)
         → IsOkAnd (declared ground first members) (λ u. AreResolved catalog limit u tops)

@@ -11,21 +11,21 @@ use Rattle.ion_value.specs.declared.ion_type.Kind.{Kind}
 use Rattle.ion_value.specs.Value.{SymbolAt, Head, PlacedItem}
 use Rattle.ion_value.specs.Outcome.{one_if_closed}
 use Rattle.ion_value.specs.Shares.{Charges, ReadCauses, MemoryCauses, WriteCauses}
-use Rattle.ion_value.specs.Standing.{Continues, Fits, is_marker, open_after, open_behind}
+use Rattle.ion_value.specs.Standing.{Continues, Fits, is_marker, open_after, open_after_all}
 use Rattle.ion_symbols.specs.User.{MayCome}
 use Rattle.ion_transcode.specs.Calls.{Causes}
 
 -- ---- where an item may stand
 
--- what may come in the reader may come behind the path that was put
+-- what may come in the reader may come after the path that was put
 pub continues_with : {limits now : Limits} {depth depth_now : ℕ} {opened kinds : List Kind} {path : List PlacedItem} {item own : PlacedItem}
-    → now ≡ limits → limits.depth ≡ depth → depth_now ≡ depth → open_behind [] path ≡ opened → own ≡ item → MayCome depth_now opened kinds item → Continues now path own
+    → now ≡ limits → limits.depth ≡ depth → depth_now ≡ depth → open_after_all [] path ≡ opened → own ≡ item → MayCome depth_now opened kinds item → Continues now path own
 continues_with {limits} {now} {depth} {depth_now} {opened} {kinds} {path} {item} {own} same depth_of depth_is opened_is own_is may =
     let deep : depth_now ≡ now.depth = depth_is ∙ sym (ap (λ (l : Limits). l.depth) same ∙ depth_of) in
     let as_item : Fits depth_now opened own = subst (λ (i : PlacedItem). Fits depth_now opened i) (sym own_is) may.fits in
-    let as_path : Fits depth_now (open_behind [] path) own = subst (λ (k : List Kind). Fits depth_now k own) (sym opened_is) as_item in
+    let as_path : Fits depth_now (open_after_all [] path) own = subst (λ (k : List Kind). Fits depth_now k own) (sym opened_is) as_item in
     record {
-      fits = subst (λ (n : ℕ). Fits n (open_behind [] path) own) deep as_path;
+      fits = subst (λ (n : ℕ). Fits n (open_after_all [] path) own) deep as_path;
       value = ap (λ (i : PlacedItem). is_marker i.head) own_is ∙ may.value;
     }
 
@@ -33,7 +33,7 @@ continues_with {limits} {now} {depth} {depth_now} {opened} {kinds} {path} {item}
 pub taken_as : (P : Limits → PlacedItem → Type 0) {limits now : Limits} {item own : PlacedItem} → now ≡ limits → own ≡ item → P now own → P limits item
 taken_as P {limits} {now} {item} {own} same own_is p = subst (λ (i : PlacedItem). P limits i) own_is (subst (λ (l : Limits). P l own) same p)
 
--- how many containers are open behind the head of the item
+-- how many containers are open after the head of the item
 pub level_with : (kinds then : List Kind) (head : Head SymbolAt) (item own : PlacedItem) (level : ℕ)
     → then ≡ open_after kinds item.head → own ≡ item → head ≡ own.head → length (open_after kinds head) ≡ level → length then ≡ level
 level_with kinds then head item own level opens own_is head_is long =

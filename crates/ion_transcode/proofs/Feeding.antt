@@ -49,7 +49,7 @@ pub walk-feeds : {W O A : Type 0} (w : WriterOf W O A) (limits : Limits) (reads 
 walk-feeds w limits reads writes all before written base old new grows same feeds walk =
     (walked w limits reads writes all before written base old new grows (record { walk = walk; limits_of = same }) feeds).walk
 
--- and so does a writer that stands behind the items in front of what is to come
+-- and so does a writer that stands after the items in front of what is to come
 pub followed-feeds : {W O A : Type 0} (w : WriterOf W O A) (reads : Type 0) (all : Reading) (old new : Joint W)
     → Feeds w (λ item. item) reads old new → Followed (w.stands old.writer) reads old.opened all old.coming → Followed (w.stands new.writer) reads new.opened all new.coming
 followed-feeds w reads all old _ nothing f = f

@@ -3,8 +3,8 @@ use Rattle.std.proofs.Common.{◌≡◌, ℕ, zero, suc, ◌<◌, List, [], ◌�
 use Rattle.ion_meter.specs.declared.limits.Limits.{Limits}
 use Rattle.ion_value.specs.Value.{SymbolAt, PlacedItem}
 use Rattle.ion_value.specs.Path.{Path, closed, path_items}
-use Rattle.ion_value.specs.Reading.{Reading, Finished, More, Step, Ends, Stops, Gives, GoesOn, Leaves, behind, behind_item, behind_nothing, next_reading}
-use Rattle.ion_value.specs.Outcome.{verdict_with, verdict_behind, output_with, output_behind}
+use Rattle.ion_value.specs.Reading.{Reading, Finished, More, Step, Ends, Stops, Gives, GoesOn, Leaves, items_then, after_item, after_nothing, next_reading}
+use Rattle.ion_value.specs.Outcome.{verdict_with, verdict_after, output_with, output_after}
 use Rattle.ion_symbols.specs.Table.{Shared}
 use Rattle.ion_symbols.specs.Users as users
 use Rattle.ion_symbols.specs.Users.{at_start, by_step, user_step}
@@ -13,25 +13,26 @@ use Rattle.ion_transcode.specs.Encoding.{Encoding, Follows, IsSound}
 use Rattle.ion_transcode.specs.Outputs.{Outputs}
 use Rattle.ion_transcode.specs.ByItem.{verdict, output}
 use Rattle.ion_transcode.proofs.Agreeing.{AreAlike}
-use Rattle.ion_transcode.proofs.Faultless.{behind_append, raw_in, user_in}
+use Rattle.ion_transcode.proofs.Faultless.{raw_in, user_in}
 use Rattle.ion_transcode.proofs.NoEnd.{user_step-no_end}
 use Rattle.ion_transcode.proofs.UserPaths.{users-along}
+use Rattle.ion_value.proofs.Readings.{items_then-append}
 
 module _ (users_read : UsersAreRead) (open_users_read : OpenUsersAreRead) (e : Encoding) (IsOf : List ℕ → Type 0) (reading : Limits → List ℕ → Reading)
     (sound : IsSound e IsOf reading) (a b : Outputs) (alike : AreAlike a b) (catalog : List Shared) (limits : Limits) (bytes : List ℕ) (is_of : IsOf bytes) where
-  -- the verdict and the output of a reading behind user items
+  -- the verdict and the output of a reading after user items
   abbrev Same : List PlacedItem → Reading → Type 0
   Same mine r =
-      (verdict_behind a.refusal mine r ≡ verdict_behind b.refusal mine r)
-      × (output_behind a.open_output a.refusal mine r ≡ output_behind b.open_output b.refusal mine r)
+      (verdict_after a.refusal mine r ≡ verdict_after b.refusal mine r)
+      × (output_after a.open_output a.refusal mine r ≡ output_after b.open_output b.refusal mine r)
 
-  -- these are the user items of a path, whatever stands behind them
+  -- these are the user items of a path, whatever stands after them
   abbrev Has : Path SymbolAt ℕ → users.State → List PlacedItem → Type 0
   Has path u mine =
       (rest : Reading)
-      → users.users catalog limits.symbols at_start (behind (path_items path) rest) ≡ behind mine (users.users catalog limits.symbols u rest)
+      → users.users catalog limits.symbols at_start (items_then (path_items path) rest) ≡ items_then mine (users.users catalog limits.symbols u rest)
 
-  -- what is to come behind so many steps
+  -- what is to come after so many steps
   abbrev coming : ℕ → e.State → users.State → Reading
   coming n s u = user_in e b catalog limits n s u
 
@@ -47,13 +48,13 @@ module _ (users_read : UsersAreRead) (open_users_read : OpenUsersAreRead) (e : E
       let further = users-along users_read open_users_read catalog limits.symbols next (mine ++ own ∷ []) (later Finished) in
       alike.refuses along.user_path further.user_path mine own along.items further.items
 
-  -- a user item, and what comes behind it
+  -- a user item, and what comes after it
   more-same : (path next : Path SymbolAt ℕ) (u v : users.State) (mine : List PlacedItem) (own : PlacedItem) (r : Reading)
       → Has path u mine → Has next v (mine ++ own ∷ []) → Same (mine ++ own ∷ []) r → Same mine (More own r)
   more-same path next u v mine own r has later rest =
       let q = refusal-same path next u v mine own has later in (
         ap₂ verdict_with q rest.0,
-        ap (λ why. output_with why (a.open_output mine) (output_behind a.open_output a.refusal (mine ++ own ∷ []) r)) q
+        ap (λ why. output_with why (a.open_output mine) (output_after a.open_output a.refusal (mine ++ own ∷ []) r)) q
             ∙ ap₂ (output_with (b.refusal mine own)) (puts-same path u mine has) rest.1,
       )
 
@@ -61,20 +62,20 @@ module _ (users_read : UsersAreRead) (open_users_read : OpenUsersAreRead) (e : E
   has-taken : (path next : Path SymbolAt ℕ) (u v : users.State) (mine : List PlacedItem) (item : PlacedItem) → Has path u mine
       → path_items next ≡ path_items path ++ item ∷ [] → user_step catalog limits.symbols u item ≡ GoesOn v → Has next v mine
   has-taken path next u v mine item has items is rest =
-      ap (λ l. users.users catalog limits.symbols at_start (behind l rest)) items
-      ∙ (ap (users.users catalog limits.symbols at_start) (behind_append (path_items path) (item ∷ []) rest)
-      ∙ (has (More item rest) ∙ ap (λ o. behind mine (by_step o (λ w. users.users catalog limits.symbols w rest))) is))
+      ap (λ l. users.users catalog limits.symbols at_start (items_then l rest)) items
+      ∙ (ap (users.users catalog limits.symbols at_start) (items_then-append (path_items path) (item ∷ []) rest)
+      ∙ (has (More item rest) ∙ ap (λ o. items_then mine (by_step o (λ w. users.users catalog limits.symbols w rest))) is))
 
   has-user : (path next : Path SymbolAt ℕ) (u v : users.State) (mine : List PlacedItem) (item own : PlacedItem) → Has path u mine
       → path_items next ≡ path_items path ++ item ∷ [] → user_step catalog limits.symbols u item ≡ Gives own v → Has next v (mine ++ own ∷ [])
   has-user path next u v mine item own has items is rest =
-      ap (λ l. users.users catalog limits.symbols at_start (behind l rest)) items
-      ∙ (ap (users.users catalog limits.symbols at_start) (behind_append (path_items path) (item ∷ []) rest)
+      ap (λ l. users.users catalog limits.symbols at_start (items_then l rest)) items
+      ∙ (ap (users.users catalog limits.symbols at_start) (items_then-append (path_items path) (item ∷ []) rest)
       ∙ (has (More item rest)
-      ∙ (ap (λ o. behind mine (by_step o (λ w. users.users catalog limits.symbols w rest))) is
-      ∙ sym (behind_append mine (own ∷ []) (users.users catalog limits.symbols v rest)))))
+      ∙ (ap (λ o. items_then mine (by_step o (λ w. users.users catalog limits.symbols w rest))) is
+      ∙ sym (items_then-append mine (own ∷ []) (users.users catalog limits.symbols v rest)))))
 
-  -- what is to come is the same from each state behind a step
+  -- what is to come is the same from each state after a step
   abbrev Later : ℕ → Step e.State → Type 0
   Later n o =
       (t : e.State) (v : users.State) (next : Path SymbolAt ℕ) (own : List PlacedItem) → Leaves o t → e.At bytes next t → Has next v own → Same own (coming n t v)
@@ -86,9 +87,9 @@ module _ (users_read : UsersAreRead) (open_users_read : OpenUsersAreRead) (e : E
   item-same n path next t u mine item (Stops reason place) has after items later is = (refl, puts-same path u mine has)
   item-same n path next t u mine item (Gives own v) has after items later is =
       let further : Has next v (mine ++ own ∷ []) = has-user path next u v mine item own has items is in
-      more-same path next u v mine own (coming n t v) has further (later t v next (mine ++ own ∷ []) (behind_item item t) after further)
+      more-same path next u v mine own (coming n t v) has further (later t v next (mine ++ own ∷ []) (after_item item t) after further)
   item-same n path next t u mine item (GoesOn v) has after items later is =
-      later t v next mine (behind_item item t) after (has-taken path next u v mine item has items is)
+      later t v next mine (after_item item t) after (has-taken path next u v mine item has items is)
 
   step-same : (n : ℕ) (path : Path SymbolAt ℕ) (u : users.State) (mine : List PlacedItem) (o : Step e.State)
       → Has path u mine → Follows e bytes path o → Later n o
@@ -97,7 +98,7 @@ module _ (users_read : UsersAreRead) (open_users_read : OpenUsersAreRead) (e : E
   step-same n path u mine (Stops reason place) has follow later = (refl, puts-same path u mine has)
   step-same n path u mine (Gives item t) has follow later =
       item-same n path follow.0 t u mine item (user_step catalog limits.symbols u item) has follow.1 follow.2 later refl
-  step-same n path u mine (GoesOn t) has follow later = later t u path mine (behind_nothing t) follow has
+  step-same n path u mine (GoesOn t) has follow later = later t u path mine (after_nothing t) follow has
 
   rest-same : (n : ℕ) (path : Path SymbolAt ℕ) (s : e.State) (u : users.State) (mine : List PlacedItem)
       → e.At bytes path s → Has path u mine → sound.size s < n → Same mine (coming n s u)

@@ -16,7 +16,7 @@ mod Feeding
 mod Copying
 mod LoadParts
 mod TableStreams
-mod BehindValues
+mod AfterValues
 mod QuotedBytes
 mod Utf8Bytes
 mod SymbolTokens

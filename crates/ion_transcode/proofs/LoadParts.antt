@@ -5,7 +5,7 @@ use Rattle.ion_meter.specs.declared.fault.Fault.{Fault}
 use Rattle.ion_meter.specs.declared.limits.Limits.{Limits}
 use Rattle.ion_value.specs.Value.{user_items}
 use Rattle.ion_value.specs.Reading.{Reading, items_of}
-use Rattle.ion_value.specs.Outcome.{Verdict, Accepted, verdict_behind}
+use Rattle.ion_value.specs.Outcome.{Verdict, Accepted, verdict_after}
 use Rattle.ion_symbols.specs.Table.{Shared}
 use Rattle.ion_symbols.specs.Users.{at_start, users}
 use Rattle.ion_symbols.specs.CatalogItems.{Loading, loaded, catalog_refusal}
@@ -15,14 +15,14 @@ use Rattle.ion_transcode.specs.Catalogues.{Loads, SaysCatalog, catalog_reading, 
 
 -- the verdict by a catalogue that is empty, and by limits that are the same
 pub verdict-by : (limits given : Limits) (raw : Reading) (empty : List Shared) (v : Verdict) → given ≡ limits → empty ≡ []
-    → verdict_behind (catalog_refusal given) [] (users empty limits.symbols at_start raw) ≡ v → catalog_verdict limits raw ≡ v
+    → verdict_after (catalog_refusal given) [] (users empty limits.symbols at_start raw) ≡ v → catalog_verdict limits raw ≡ v
 verdict-by limits given raw empty v same none is =
-    sym (ap (λ (l : Limits). verdict_behind (catalog_refusal l) [] (users empty limits.symbols at_start raw)) same
-    ∙ ap (λ (k : List Shared). verdict_behind (catalog_refusal limits) [] (users k limits.symbols at_start raw)) none) ∙ is
+    sym (ap (λ (l : Limits). verdict_after (catalog_refusal l) [] (users empty limits.symbols at_start raw)) same
+    ∙ ap (λ (k : List Shared). verdict_after (catalog_refusal limits) [] (users k limits.symbols at_start raw)) none) ∙ is
 
 -- the items that were read are those of the tables
 pub loads-by : (limits given kept : Limits) (raw : Reading) (empty : List Shared) (n : ℕ) (left : Loading) (tables : List Shared) → given ≡ limits → kept ≡ given → empty ≡ []
-    → verdict_behind (catalog_refusal given) [] (users empty limits.symbols at_start raw) ≡ Accepted n
+    → verdict_after (catalog_refusal given) [] (users empty limits.symbols at_start raw) ≡ Accepted n
     → loaded kept.symbols (user_items (items_of (users empty limits.symbols at_start raw))) ≡ Ok left → left.draft.tables ≡ tables → Loads limits raw tables
 loads-by limits given kept raw empty n left tables same stays none is read tables_are = record {
   count = n;

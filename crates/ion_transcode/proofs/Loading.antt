@@ -3,15 +3,15 @@ use Rattle.std.proofs.Common.{◌≡◌, ℕ, suc, ◌+◌, ◌≤◌, List, [],
 use Rattle.ion_meter.specs.declared.fault.Reason.{Reason}
 use Rattle.ion_meter.specs.declared.limits.Limits.{Limits}
 use Rattle.ion_value.specs.Value.{SymbolAt, UserSymbol, Top, PlacedItem, user_items, top_items}
-use Rattle.ion_value.specs.Reading.{Reading, Finished, Stopped, More, items_of, behind, Ends}
-use Rattle.ion_value.specs.Outcome.{Verdict, Accepted, output_with, output_behind}
-use Rattle.ion_value.proofs.Readings.{reading_for-enough, items_of-behind}
+use Rattle.ion_value.specs.Reading.{Reading, Finished, Stopped, More, items_of, items_then, Ends}
+use Rattle.ion_value.specs.Outcome.{Verdict, Accepted, output_with, output_after}
+use Rattle.ion_value.proofs.Readings.{reading_for-enough, items_of-items_then}
 use Rattle.ion_symbols.specs.declared.catalog_builder.Stage.TheVariants as stage
 use Rattle.ion_symbols.specs.Table.{Shared, catalog_cost}
 use Rattle.ion_symbols.specs.Users as users
 use Rattle.ion_symbols.specs.Users.{at_start}
 use Rattle.ion_symbols.specs.Laws.{UsersAreRead}
-use Rattle.ion_symbols.specs.CatalogItems.{Drafted, Loading, Loaded, behind_tables, at, then_load, loaded}
+use Rattle.ion_symbols.specs.CatalogItems.{Drafted, Loading, Loaded, after_tables, at, then_load, loaded}
 use Rattle.ion_symbols.specs.CatalogTrees.{tables_of, tops_drafted, drafted_tables}
 use Rattle.ion_symbols.specs.CatalogLaws.{CatalogsAreRead, CatalogsAreTables}
 use Rattle.ion_text_in.specs.Reading as text
@@ -36,7 +36,7 @@ output_with-nothing : (o : Option (Reason × ℕ)) (rest : List ℕ) → rest �
 output_with-nothing None rest e = e
 output_with-nothing (Some why) rest e = refl
 
-nothing_written : (refusal : List PlacedItem → PlacedItem → Option (Reason × ℕ)) (path : List PlacedItem) (r : Reading) → output_behind (λ mine. []) refusal path r ≡ []
+nothing_written : (refusal : List PlacedItem → PlacedItem → Option (Reason × ℕ)) (path : List PlacedItem) (r : Reading) → output_after (λ mine. []) refusal path r ≡ []
 nothing_written refusal path Finished = refl
 nothing_written refusal path (Stopped reason place) = refl
 nothing_written refusal path (More item rest) = output_with-nothing (refusal path item) _ (nothing_written refusal (path ++ item ∷ []) rest)
@@ -75,7 +75,7 @@ drafted (Err why) left is = cc
 values-meant : CatalogsAreRead → CatalogsAreTables → (limit : ℕ) (mine : List PlacedItem) (us : List (Top UserSymbol ℕ)) (left : Loading) → user_items mine ≡ top_items us
     → Leads (loaded limit (user_items mine)) left → (tables_of us ≡ Some left.draft.tables) × (catalog_cost left.draft.tables ≤ limit)
 values-meant read meant limit mine us left same is =
-    (meant limit us left.draft.tables).0 (drafted (tops_drafted limit us (behind_tables [])) left (sym (read limit us) ∙ (sym (ap (loaded limit) same) ∙ is)))
+    (meant limit us left.draft.tables).0 (drafted (tops_drafted limit us (after_tables [])) left (sym (read limit us) ∙ (sym (ap (loaded limit) same) ∙ is)))
 
 module _ (users_read : UsersAreRead) (e : Encoding) (IsOf : List ℕ → Type 0) (reading : Limits → List ℕ → Reading) (sound : IsSound e IsOf reading)
     (limits : Limits) (bytes : List ℕ) (is_of : IsOf bytes) where
@@ -93,9 +93,9 @@ module _ (users_read : UsersAreRead) (e : Encoding) (IsOf : List ℕ → Type 0)
       let fuel = suc (sound.size (e.start bytes)) in
       let enough : reading limits bytes ≡ raw_in e (as_catalog limits) [] limits (prefix.steps + fuel) (e.start bytes) =
       sound.reads limits bytes ∙ reading_for-enough (e.step limits) sound.size (sound.falls limits) fuel (prefix.steps + fuel) (e.start bytes) (omega arith) (omega arith) in
-      let all : catalog_users limits (reading limits bytes) ≡ behind w.mine Finished =
-      ap (catalog_users limits) enough ∙ (prefix.own fuel ∙ ap (behind w.mine) (user-step e (as_catalog limits) [] limits (sound.size (e.start bytes)) w.s w.u Ends w.ends)) in
-      ap items_of all ∙ (items_of-behind w.mine Finished ∙ append-nil w.mine)
+      let all : catalog_users limits (reading limits bytes) ≡ items_then w.mine Finished =
+      ap (catalog_users limits) enough ∙ (prefix.own fuel ∙ ap (items_then w.mine) (user-step e (as_catalog limits) [] limits (sound.size (e.start bytes)) w.s w.u Ends w.ends)) in
+      ap items_of all ∙ (items_of-items_then w.mine Finished ∙ append-nil w.mine)
 
   of-whole : CatalogsAreRead → CatalogsAreTables → (tables : List Shared) → Loads limits (reading limits bytes) tables → WholeOf e (as_catalog limits) limits bytes → IsCatalogIn e limits bytes tables
   of-whole read meant tables loads w =

@@ -5,7 +5,7 @@ use Rattle.ion_meter.specs.declared.limits.Limits.{Limits}
 use Rattle.ion_value.specs.Reading.{Finished, items_of, Step, Ends, Stops, Gives, GoesOn, next_reading, reading_for}
 use Rattle.ion_value.specs.Value as value
 use Rattle.ion_value.specs.Value.{SymbolAt, UserSymbol, Value, Members, scalar, container, nothing, member, Top, version, tree, Item, PlacedItem, bare_item, value_items, member_items, top_items, map_value, map_members}
-use Rattle.ion_value.proofs.Readings.{items_of-behind}
+use Rattle.ion_value.proofs.Readings.{items_of-items_then}
 use Rattle.ion_symbols.specs.Table.{Shared, Table, system, text_at}
 use Rattle.ion_symbols.specs.Tree.{declares_table, next_table, user_at, user_tops}
 use Rattle.ion_binary.specs.Reading as binary
@@ -158,7 +158,7 @@ reading-shallow form.Text limits bytes =
 pub what-is-read-is-no-deeper : WhatIsReadIsNoDeeper
 what-is-read-is-no-deeper f catalog limits bytes tops us read are =
     let items : items_of (reading_of f limits bytes) ≡ top_items tops =
-    ap items_of read ∙ (items_of-behind (top_items tops) Finished ∙ append-nil (top_items tops)) in
+    ap items_of read ∙ (items_of-items_then (top_items tops) Finished ∙ append-nil (top_items tops)) in
     let shallow = subst (λ (is : List PlacedItem). Shallow limits.depth 0 is) items (reading-shallow f limits bytes) in
     let all = tops-no_deeper limits.depth tops shallow in (
       all,

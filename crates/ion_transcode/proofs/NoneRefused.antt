@@ -9,7 +9,7 @@ use Rattle.ion_symbols.specs.Laws.{UsersAreRead}
 use Rattle.ion_symbols.specs.Table.{Shared, system}
 use Rattle.ion_symbols.specs.Tree.{user_tops}
 use Rattle.ion_symbols.specs.Users as users
-use Rattle.ion_binary.specs.Refusals.{refused_behind, ItemsAreRefusedAsInTrees, NoneIsRefused, AreWithin, NoneIsRefusedWithin}
+use Rattle.ion_binary.specs.Refusals.{refused_after, ItemsAreRefusedAsInTrees, NoneIsRefused, AreWithin, NoneIsRefusedWithin}
 use Rattle.ion_binary.specs.Writing.{binary_refusal}
 use Rattle.ion_text_in.specs.Laws.{OneStream}
 use Rattle.ion_transcode.specs.declared.to.Form.TheVariants as form
@@ -122,7 +122,7 @@ module _ (sound : TextIsSound) (along : FaultlessPathsAreRead) (trees : ItemsAre
       let a = user-along items mine s u prev in
       let b = user-along (items ++ item ∷ []) (mine ++ own ∷ []) t v (user items mine item own s t u v prev step gives fine) in
       let in_trees = trees limits a.0 mine own a.1 (with-next a.0 b.0 mine own a.1 b.1) in
-      let path = ap (λ (p : Path UserSymbol ℕ). refused_behind limits p own) (sym (path-is a.0 mine a.1)) in
+      let path = ap (λ (p : Path UserSymbol ℕ). refused_after limits p own) (sym (path-is a.0 mine a.1)) in
       none-more limits mine own (none-refused items mine s u prev) (in_trees ∙ (path ∙ fine))
 
   -- ---- an accepted run

@@ -31,7 +31,7 @@ HasRoom most n (value.begin kind) = n < most
 HasRoom most n value.end = Unit {0}
 HasRoom most n value.marker = Unit {0}
 
--- how many containers are open behind the head of an item
+-- how many containers are open after the head of an item
 abbrev pub open_after : {S : Type 0} → ℕ → Head S → ℕ
 open_after n (value.whole body) = n
 open_after n (value.begin kind) = suc n
@@ -153,7 +153,7 @@ take-fine limits kinds top (a_value field annotations) p (plain v) c = (tt, refl
 take-fine limits kinds top (a_value field annotations) p (tokens.text t) c = (tt, refl)
 take-fine limits kinds top (a_value field annotations) p (operator t) c = (tt, refl)
 take-fine limits kinds top (a_value field annotations) p (name quoted symbol) c =
-    symbol-fine limits kinds top field annotations quoted (at symbol p) p c (text.behind_colons (in_sexp (innermost kinds)) c)
+    symbol-fine limits kinds top field annotations quoted (at symbol p) p c (text.after_colons (in_sexp (innermost kinds)) c)
 take-fine limits kinds top (a_value field annotations) p (tokens.begin k) c = begin-fine limits kinds top field annotations k p c
 take-fine limits kinds top (a_value field annotations) p no_number c = tt
 take-fine limits kinds top (a_value field annotations) p comma c = tt
@@ -179,15 +179,15 @@ final-fine limits n [] a_field p = tt
 final-fine limits n [] a_separator p = tt
 final-fine limits n (k ∷ kinds) wants p = tt
 
-behind-fine : (limits : Limits) (s : State) (c : Cursor) (rest : List ℕ)
-    → Fine limits (length s.kinds) (text.part_behind limits s c rest)
-behind-fine limits s c [] = final-fine limits (length s.kinds) s.kinds s.wants c.place
-behind-fine limits s c (b ∷ rest) =
+after-fine : (limits : Limits) (s : State) (c : Cursor) (rest : List ℕ)
+    → Fine limits (length s.kinds) (text.part_after limits s c rest)
+after-fine limits s c [] = final-fine limits (length s.kinds) s.kinds s.wants c.place
+after-fine limits s c (b ∷ rest) =
     let first = first_at (in_sexp (innermost s.kinds)) (b ∷ rest) in next-fine limits s c first (text.may_come s.wants first)
 
 part-fine : (limits : Limits) (s : State) (o : Placed Cursor)
-    → Fine limits (length s.kinds) (o >>= (λ c. text.part_behind limits s c c.rest))
-part-fine limits s (Ok c) = behind-fine limits s c c.rest
+    → Fine limits (length s.kinds) (o >>= (λ c. text.part_after limits s c c.rest))
+part-fine limits s (Ok c) = after-fine limits s c c.rest
 part-fine limits s (Err fault) = tt
 
 pub text-opens : (limits : Limits) (s : State) → Opens limits.depth open_in_text (open_in_text s) (text.step limits s)

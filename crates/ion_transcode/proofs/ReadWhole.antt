@@ -4,7 +4,7 @@ use Rattle.ion_meter.specs.declared.limits.Limits.{Limits}
 use Rattle.ion_value.proofs.Readings.{reading_for-enough}
 use Rattle.ion_value.specs.Outcome.{Verdict, Accepted}
 use Rattle.ion_value.specs.Path.{closed, path_items}
-use Rattle.ion_value.specs.Reading.{Reading, Finished, behind, next_reading, Ends}
+use Rattle.ion_value.specs.Reading.{Reading, Finished, items_then, next_reading, Ends}
 use Rattle.ion_value.specs.Value.{SymbolAt, UserSymbol, Top, PlacedItem, top_items}
 use Rattle.ion_symbols.specs.Laws.{UsersAreRead}
 use Rattle.ion_symbols.specs.Resolved.{AreResolved, WhatIsAcceptedIsResolved}
@@ -39,7 +39,7 @@ record IsWhole (e : Encoding) (outputs : Outputs) (catalog : List Shared) (limit
   tops : List (Top SymbolAt ℕ)
   us : List (Top UserSymbol ℕ)
   stream : e.Stream bytes tops
-  read : reading limits bytes ≡ behind (path_items (closed tops)) Finished
+  read : reading limits bytes ≡ items_then (path_items (closed tops)) Finished
   resolved_are : AreResolved catalog limits.symbols system tops
   users_are : user_tops catalog system tops ≡ Some us
   count : n ≡ length us
@@ -49,20 +49,20 @@ module _ (e : Encoding) (IsOf : List ℕ → Type 0) (reading : Limits → List 
   -- items that are faultless up to the end are all that is read, and the user items among them are all of these
   all-read : (tops : List (Top SymbolAt ℕ)) (mine : List PlacedItem) (s : e.State) (u : users.State) → Faultless e outputs catalog limits bytes (top_items tops) s u mine
       → e.step limits s ≡ Ends
-      → (reading limits bytes ≡ behind (top_items tops) Finished)
-      × (users.users catalog limits.symbols at_start (behind (top_items tops) Finished) ≡ behind mine Finished)
+      → (reading limits bytes ≡ items_then (top_items tops) Finished)
+      × (users.users catalog limits.symbols at_start (items_then (top_items tops) Finished) ≡ items_then mine Finished)
   all-read tops mine s u faultless ends =
       let prefix = faultless-prefixes e outputs catalog limits bytes (top_items tops) s u mine faultless in
       let fuel : ℕ = suc (sound.size (e.start bytes)) in
       let enough : reading limits bytes ≡ raw_in e outputs catalog limits (prefix.steps + fuel) (e.start bytes) =
       sound.reads limits bytes ∙ reading_for-enough (e.step limits) sound.size (sound.falls limits) fuel (prefix.steps + fuel) (e.start bytes) (omega arith) (omega arith)
       in
-      let raw : raw_in e outputs catalog limits (prefix.steps + fuel) (e.start bytes) ≡ behind (top_items tops) Finished =
-      prefix.raw fuel ∙ ap (λ o. behind (top_items tops) (next_reading (λ t. raw_in e outputs catalog limits (sound.size (e.start bytes)) t) o)) ends
+      let raw : raw_in e outputs catalog limits (prefix.steps + fuel) (e.start bytes) ≡ items_then (top_items tops) Finished =
+      prefix.raw fuel ∙ ap (λ o. items_then (top_items tops) (next_reading (λ t. raw_in e outputs catalog limits (sound.size (e.start bytes)) t) o)) ends
       in (
         enough ∙ raw,
         ap (users.users catalog limits.symbols at_start) (sym raw)
-            ∙ (prefix.own fuel ∙ ap (behind mine) (user-step e outputs catalog limits (sound.size (e.start bytes)) s u Ends ends)),
+            ∙ (prefix.own fuel ∙ ap (items_then mine) (user-step e outputs catalog limits (sound.size (e.start bytes)) s u Ends ends)),
       )
 
   whole-by : WhatIsAcceptedIsResolved → (v : Verdict) (out : List ℕ) (n : ℕ) → v ≡ Accepted n → HasVerdictFrom e outputs catalog limits bytes v out

@@ -22,7 +22,7 @@ use Rattle.ion_text_in.specs.Token.{plain, text}
 use Rattle.ion_text_out.specs.Escape.{byte_text}
 use Rattle.ion_text_out.specs.Text.{scalar_text}
 use Rattle.ion_transcode.specs.ShownAgain.{ScalarFits}
-use Rattle.ion_transcode.proofs.BehindValues.{Behind, BehindSymbol, ends-number, ends-identifier, ends-null}
+use Rattle.ion_transcode.proofs.AfterValues.{After, AfterSymbol, ends-number, ends-identifier, ends-null}
 use Rattle.ion_transcode.proofs.QuotedBytes.{Quotes, chars-are}
 use Rattle.ion_transcode.proofs.ShortTexts.{null-short, bool-short, int-short, decimal-short, timestamp-short}
 use Rattle.ion_transcode.proofs.SymbolTokens.{TextLaws, IsToken, means-token, SymbolIs, symbol-is}
@@ -36,13 +36,13 @@ Counted body raw =
 
 -- what a scalar's text is in the grammar: the token of a plain value, a string, or a symbol
 pub data ScalarIs : Scalar UserSymbol → Type 0 where
-  a_plain : {body : Scalar UserSymbol} (raw : Scalar SymbolAt) → IsToken Behind (scalar_text body) (plain raw)
+  a_plain : {body : Scalar UserSymbol} (raw : Scalar SymbolAt) → IsToken After (scalar_text body) (plain raw)
       → ((t : Table) → map_scalar (user_at t) raw ≡ body) → ScalarStands system raw → Counted body raw → ScalarIs body
-  a_string : (bytes : List ℕ) → IsToken Behind (scalar_text (value.string bytes)) (text bytes) → ScalarIs (value.string bytes)
+  a_string : (bytes : List ℕ) → IsToken After (scalar_text (value.string bytes)) (text bytes) → ScalarIs (value.string bytes)
   a_symbol : (s : UserSymbol) → SymbolIs s → ScalarIs (value.symbol s)
 
-behind-anything : (rest : List ℕ) → Behind rest → Anything rest
-behind-anything rest b = tt
+after-anything : (rest : List ℕ) → After rest → Anything rest
+after-anything rest b = tt
 
 -- ---- base64 has no white space
 
@@ -93,10 +93,10 @@ all-from [] h = All-nil (λ octet. octet < 256)
 all-from (b ∷ bytes) h = All-cons (λ octet. octet < 256) b bytes h.0 (all-from bytes h.1)
 
 plain-is : (body : Scalar UserSymbol) (raw : Scalar SymbolAt) (count : ℕ) (Ends : List ℕ → Type 0)
-    → ((rest : List ℕ) → Behind rest → Ends rest) → Means count Ends (scalar_text body) (plain raw)
+    → ((rest : List ℕ) → After rest → Ends rest) → Means count Ends (scalar_text body) (plain raw)
     → ((t : Table) → map_scalar (user_at t) raw ≡ body) → ScalarStands system raw → Counted body raw → ScalarIs body
 plain-is body raw count Ends ends means same stand counted =
-    a_plain raw (means-token count Ends Behind _ _ refl ends means) same stand counted
+    a_plain raw (means-token count Ends After _ _ refl ends means) same stand counted
 
 short-counted : (limit p n : ℕ) → 64 ≤ limit → n ≤ 64 → p + n - p ≤ limit
 short-counted limit p n wide short = omega (arith, wide, short)
@@ -104,34 +104,34 @@ short-counted limit p n wide short = omega (arith, wide, short)
 pub scalar-is : TextLaws → (body : Scalar UserSymbol) → InRange body → HasText body → HasBytes body
     → AllByRecursion IsText (scalar_symbols body) → ScalarIs body
 scalar-is laws (value.null t) range utf8 small texts =
-    let ends = λ (rest : List ℕ) (b : Behind rest). ends-null laws.identifiers_end t rest b in
+    let ends = λ (rest : List ℕ) (b : After rest). ends-null laws.identifiers_end t rest b in
     plain-is _ (value.null t) _ (EndsNull t) ends (laws.nulls t) (λ u. refl) tt
     (λ limits wide fits p. short-counted limits.scalar p _ wide (null-short t))
 scalar-is laws (value.bool truth) range utf8 small texts =
-    let ends = λ (rest : List ℕ) (b : Behind rest). ends-identifier laws.identifiers_end rest (BehindSymbol.of_value b) in
+    let ends = λ (rest : List ℕ) (b : After rest). ends-identifier laws.identifiers_end rest (AfterSymbol.of_value b) in
     plain-is _ (value.bool truth) _ EndsIdentifier ends (laws.bools truth) (λ u. refl) tt
     (λ limits wide fits p. short-counted limits.scalar p _ wide (bool-short truth))
 scalar-is laws (value.int i) range utf8 small texts =
-    let ends = λ (rest : List ℕ) (b : Behind rest). ends-number laws.numbers_end rest b in
+    let ends = λ (rest : List ℕ) (b : After rest). ends-number laws.numbers_end rest b in
     plain-is _ (value.int i) _ EndsNumber ends (laws.ints i range) (λ u. refl) tt
     (λ limits wide fits p. short-counted limits.scalar p _ wide (int-short i range))
 scalar-is laws (value.decimal d) range utf8 small texts =
-    let ends = λ (rest : List ℕ) (b : Behind rest). ends-number laws.numbers_end rest b in
+    let ends = λ (rest : List ℕ) (b : After rest). ends-number laws.numbers_end rest b in
     plain-is _ (value.decimal d) _ EndsNumber ends (laws.decimals d range) (λ u. refl) tt
     (λ limits wide fits p. short-counted limits.scalar p _ wide (decimal-short d range))
 scalar-is laws (value.timestamp t) range utf8 small texts =
-    let ends = λ (rest : List ℕ) (b : Behind rest). ends-number laws.numbers_end rest b in
+    let ends = λ (rest : List ℕ) (b : After rest). ends-number laws.numbers_end rest b in
     plain-is _ (value.timestamp t) _ EndsNumber ends (laws.timestamps t range) (λ u. refl) tt
     (λ limits wide fits p. short-counted limits.scalar p _ wide (timestamp-short t range))
 scalar-is laws (value.symbol s) range utf8 small texts = a_symbol s (symbol-is laws s texts.0)
 scalar-is laws (value.string bytes) range utf8 small texts =
     let chars = chars-are 34 false bytes Quotes.double (utf8-bytes bytes utf8) in
     let means = laws.strings (flat_map (byte_text 34 256) bytes) bytes chars (is_utf8-from_IsUtf8 bytes utf8) in
-    a_string bytes (means-token _ Anything Behind _ _ refl behind-anything means)
+    a_string bytes (means-token _ Anything After _ _ refl after-anything means)
 scalar-is laws (value.clob bytes) range utf8 small texts =
     let chars = chars-are 34 true bytes Quotes.double small in
     let means = laws.clobs [] (flat_map (byte_text 34 128) bytes) [] bytes refl chars refl in
-    plain-is _ (value.clob bytes) _ Anything behind-anything means (λ u. refl) tt (λ limits wide fits p. fits)
+    plain-is _ (value.clob bytes) _ Anything after-anything means (λ u. refl) tt (λ limits wide fits p. fits)
 scalar-is laws (value.blob bytes) range utf8 small texts =
     let means = laws.blobs (encode_of standard bytes) bytes (all-from bytes small) (solid-code bytes small) in
-    plain-is _ (value.blob bytes) _ Anything behind-anything means (λ u. refl) tt (λ limits wide fits p. fits)
+    plain-is _ (value.blob bytes) _ Anything after-anything means (λ u. refl) tt (λ limits wide fits p. fits)

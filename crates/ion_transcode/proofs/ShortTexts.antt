@@ -141,8 +141,8 @@ to-short precision.Second t keeps =
 to-short (precision.Fraction n) t keeps =
     let fraction : List ℕ = 46 ∷ fixed_digits n t.fraction in
     let all = length-append (second_text t) (fraction ++ offset_text t.offset) in
-    let behind = length-append fraction (offset_text t.offset) in
-    omega (arith, all, behind, length-fixed_digits n t.fraction, second-long t, offset-short t.offset, keeps)
+    let after = length-append fraction (offset_text t.offset) in
+    omega (arith, all, after, length-fixed_digits n t.fraction, second-long t, offset-short t.offset, keeps)
 
 pub timestamp-short : (t : Timestamp) → IsTimestamp t → length (timestamp_text t) ≤ 64
 unfolding timestamp_text

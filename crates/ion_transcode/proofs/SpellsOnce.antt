@@ -16,7 +16,7 @@ binary-once one_path one_stream = record {
 pub text-once : text.OnePath → text.OneStream → SpellsOnce text_encoding
 text-once one_path one_stream = record {
   path = λ bytes a b s t at is.
-      one_path bytes at.behind.place is.behind.place a b (text_sound.at-path bytes a s at) (text_sound.at-path bytes b t is);
+      one_path bytes at.after.place is.after.place a b (text_sound.at-path bytes a s at) (text_sound.at-path bytes b t is);
   stream = λ bytes a b is other. one_stream bytes a b is other;
 }
 

@@ -1,4 +1,4 @@
--- The text of each scalar and symbol is a token, wherever it stands before what may stand behind a value.
+-- The text of each scalar and symbol is a token, wherever it stands before what may stand after a value.
 use Rattle.std.proofs.Common.{◌≡◌, ℕ, ◌+◌, ◌≤◌, inl, inr, Bool, true, false, not, ◌&&◌, if◌then◌else◌, List, [], ◌∷◌, ◌++◌, length, codes, Option, None, Ok, IsUtf8, is_none, refl, ap, sym, ◌∙◌, subst, arith}
 use Rattle.std.specs.List.{AllByRecursion, flat_map}
 use Rattle.std.proofs.lemmas.Bool.{false≢true, cases_Bool, and_parts, not-true}
@@ -23,7 +23,7 @@ use Rattle.ion_text_in.proofs.NumberEnds.{one_of-is}
 use Rattle.ion_text_out.specs.Escape.{byte_text, between_quotes}
 use Rattle.ion_text_out.specs.Text.{symbol_text}
 use Rattle.ion_transcode.specs.ShownAgain.{SymbolFits, cost}
-use Rattle.ion_transcode.proofs.BehindValues.{got, same-token, is_start, starts, BehindSymbol, ends-identifier, no-quote}
+use Rattle.ion_transcode.proofs.AfterValues.{got, same-token, is_start, starts, AfterSymbol, ends-identifier, no-quote}
 use Rattle.ion_transcode.proofs.Utf8Bytes.{utf8-bytes}
 use Rattle.ion_transcode.proofs.QuotedBytes.{Quotes, chars-are}
 
@@ -113,7 +113,7 @@ token-starts t p (b ∷ bytes) d s e = elim (cases_Bool (is_start b)) [
       absurd (quiet-speaks (first_at false (b ∷ bytes)) (at p (b ∷ bytes)) d t begins s e)
 ]
 
--- ---- tokens that stand before what may stand behind them
+-- ---- tokens that stand before what may stand after them
 
 -- a text is read as a token that is a value, a symbol or a text, from any place on
 pub record IsToken (After : List ℕ → Type 0) (bytes : List ℕ) (t : Token) : Type 0 where
@@ -137,7 +137,7 @@ token-begins After bytes t is rest after = token-starts t 0 (bytes ++ rest) _ is
 pub record SymbolIs (s : UserSymbol) : Type 0 where
   pub quoted : Bool
   pub symbol : Symbol
-  pub token : IsToken BehindSymbol (symbol_text s) (name quoted symbol)
+  pub token : IsToken AfterSymbol (symbol_text s) (name quoted symbol)
   pub user : (t : Table) (place : ℕ) → user_at t (positions.at symbol place) ≡ s
   pub no_version : (k : Option Kind) (annotations : List SymbolAt) → IsVersionWord k annotations quoted symbol → ⊥
   pub stands : SymbolStands system symbol
@@ -149,14 +149,14 @@ in-quotes : (s : List ℕ) → AreBytes s → Chars 39 false (flat_map (byte_tex
 in-quotes s small = chars-are 39 false s Quotes.single small
 
 quoted-token : TextLaws → (s : List ℕ) → IsUtf8 s → AreBytes s
-    → IsToken BehindSymbol (between_quotes 39 256 s) (name true (Text s))
+    → IsToken AfterSymbol (between_quotes 39 256 s) (name true (Text s))
 quoted-token laws s utf8 small =
-    means-token _ (EndsSymbol s) BehindSymbol _ _ refl (λ rest after e. no-quote rest after)
+    means-token _ (EndsSymbol s) AfterSymbol _ _ refl (λ rest after e. no-quote rest after)
     (laws.quoted_symbols (flat_map (byte_text 39 256) s) s (in-quotes s small) (is_utf8-from_IsUtf8 s utf8))
 
-plain-token : TextLaws → (s : List ℕ) → is_plain s ≡ true → IsToken BehindSymbol s (name false (Text s))
+plain-token : TextLaws → (s : List ℕ) → is_plain s ≡ true → IsToken AfterSymbol s (name false (Text s))
 plain-token laws s is =
-    means-token _ EndsIdentifier BehindSymbol _ _ refl (λ rest after. ends-identifier laws.identifiers_end rest after)
+    means-token _ EndsIdentifier AfterSymbol _ _ refl (λ rest after. ends-identifier laws.identifiers_end rest after)
     (laws.plain_symbols s is)
 
 plain-version : (s : List ℕ) → is_plain s ≡ true → is_version s ≡ false
@@ -172,7 +172,7 @@ known-by : TextLaws → (s : List ℕ) → IsUtf8 s → AreBytes s → (b : Bool
 known-by laws s utf8 small true is f e g = record {
   quoted = false;
   symbol = Text s;
-  token = subst (λ (x : List ℕ). IsToken BehindSymbol x (name false (Text s))) (sym (g ∙ e)) (plain-token laws s is);
+  token = subst (λ (x : List ℕ). IsToken AfterSymbol x (name false (Text s))) (sym (g ∙ e)) (plain-token laws s is);
   user = λ t place. refl;
   no_version = λ k annotations v. version k annotations v;
   stands = tt;
@@ -185,7 +185,7 @@ known-by laws s utf8 small true is f e g = record {
 known-by laws s utf8 small false is f e g = record {
   quoted = true;
   symbol = Text s;
-  token = subst (λ (x : List ℕ). IsToken BehindSymbol x (name true (Text s))) (sym (g ∙ e)) (quoted-token laws s utf8 small);
+  token = subst (λ (x : List ℕ). IsToken AfterSymbol x (name true (Text s))) (sym (g ∙ e)) (quoted-token laws s utf8 small);
   user = λ t place. refl;
   no_version = λ k annotations v. no-quoted-version k annotations (Text s) v;
   stands = tt;
@@ -201,7 +201,7 @@ unknown-is : TextLaws → SymbolIs Unknown
 unknown-is laws = record {
   quoted = false;
   symbol = Id 0;
-  token = means-token _ EndsIdentifier BehindSymbol _ _ refl (λ rest after. ends-identifier laws.identifiers_end rest after)
+  token = means-token _ EndsIdentifier AfterSymbol _ _ refl (λ rest after. ends-identifier laws.identifiers_end rest after)
       (laws.ids (codes "$0") refl);
   user = λ t place. refl;
   no_version = λ k annotations v. none k annotations v;

@@ -10,7 +10,7 @@ use Rattle.ion_symbols.specs.Table.{Shared, catalog_cost, system}
 use Rattle.ion_symbols.specs.Tree.{user_tops}
 use Rattle.ion_symbols.specs.Users as users
 use Rattle.ion_symbols.specs.Laws.{UsersAreRead}
-use Rattle.ion_symbols.specs.CatalogItems.{Drafted, Loading, Loaded, entry_view, behind_tables, at, then_load, and_load, load_step, load_from, loaded, nothing_loaded, why_not}
+use Rattle.ion_symbols.specs.CatalogItems.{Drafted, Loading, Loaded, entry_view, after_tables, at, then_load, and_load, load_step, load_from, loaded, nothing_loaded, why_not}
 use Rattle.ion_symbols.specs.CatalogTrees.{tables_of, tops_drafted, drafted_tables}
 use Rattle.ion_symbols.specs.CatalogLaws.{CatalogsAreRead, CatalogsAreTables}
 use Rattle.ion_transcode.specs.declared.to.Form.{Form}
@@ -68,7 +68,7 @@ drafted-leads (Err why) tables is = cc
 values-loaded : CatalogsAreRead → CatalogsAreTables → (limit : ℕ) (us : List (Top UserSymbol ℕ)) (tables : List Shared) → tables_of us ≡ Some tables
     → catalog_cost tables ≤ limit → (t : Loading) × Leads (loaded limit (top_items us)) t
 values-loaded read meant limit us tables are cheap =
-    let is = drafted-leads (tops_drafted limit us (behind_tables [])) tables ((meant limit us tables).1 (are, cheap)) in
+    let is = drafted-leads (tops_drafted limit us (after_tables [])) tables ((meant limit us tables).1 (are, cheap)) in
     (is.0, read limit us ∙ is.1)
 
 abbrev Are : Option (List (Top UserSymbol ℕ)) → List (Top UserSymbol ℕ) → Type 0

@@ -30,7 +30,7 @@ use Rattle.ion_transcode.specs.Forms.{form_of, form_by}
 use Rattle.ion_transcode.specs.Depth.{IsNoDeeper}
 use Rattle.ion_transcode.specs.RoundTrip.{TextIsRead}
 use Rattle.ion_transcode.specs.ShownAgain.{FitsText, TextIsReadWithin}
-use Rattle.ion_transcode.proofs.BehindValues.{is_start, starts, Behind, no-blanks, one-line, one-space}
+use Rattle.ion_transcode.proofs.AfterValues.{is_start, starts, After, no-blanks, one-line, one-space}
 use Rattle.ion_transcode.proofs.TokensInText.{Gap, no_gap, a_line}
 use Rattle.ion_transcode.proofs.SymbolTokens.{TextLaws}
 use Rattle.ion_transcode.proofs.Utf8Bytes.{all-left, all-right}
@@ -106,7 +106,7 @@ tops-start : TextLaws → (tops : List (Top UserSymbol ℕ)) → AreUsers tops �
 tops-start laws [] users = refl
 tops-start laws (version place ∷ ts) users = absurd users.0.0
 tops-start laws (tree first annotations place x ∷ ts) users =
-    let line : Behind (10 ∷ text ts) = Behind.at_line (tops-start laws ts (users.0.1, users.1.1)) in
+    let line : After (10 ∷ text ts) = After.at_line (tops-start laws ts (users.0.1, users.1.1)) in
     subst (λ (xs : List ℕ). starts xs ≡ true) (sym (line-join (annotations_text annotations) (value_text x) (text ts)))
     (top-starts laws annotations x users.0.0.1.0 users.0.0.0 users.1.0 (10 ∷ text ts) line)
 
@@ -158,7 +158,7 @@ one-more : TextLaws → (catalog : List Shared) (start : Cursor) (done : List (T
     → Sofar catalog start done (annotations_text annotations ++ (value_text x ++ (10 ∷ rest)))
     → Sofar catalog start (done ++ tree first annotations place x ∷ []) rest
 one-more laws catalog start done first place annotations x rest users begins s =
-    let line : Behind (10 ∷ rest) = Behind.at_line begins in
+    let line : After (10 ∷ rest) = After.at_line begins in
     let is = users.0.0 in
     let v = value-read laws None None annotations x s.gap s.is_gap s.place (10 ∷ rest) is.1.0 is.0 users.1.0 line in
     let p : ℕ = first_place v.own v.place in
@@ -174,7 +174,7 @@ one-more laws catalog start done first place annotations x rest users begins s =
       users = s.users ++ user ∷ [];
       gap = 10 ∷ [];
       is_gap = a_line;
-      place = v.behind;
+      place = v.after;
       spells = Tops.with_value s.spells v.spells;
       leads = λ more. ap (user_tops catalog system) (append_assoc s.raw (top ∷ []) more)
           ∙ (s.leads (top ∷ more)

@@ -1,4 +1,4 @@
--- Tokens where canonical text has them: symbols and scalars behind a space, a line's end or nothing, and punctuation.
+-- Tokens where canonical text has them: symbols and scalars after a space, a line's end or nothing, and punctuation.
 use Rattle.std.proofs.Common.{◌≡◌, ℕ, suc, ◌+◌, ◌≤◌, Bool, true, false, ◌==◌, if◌then◌else◌, List, [], ◌∷◌, ◌++◌, length, codes, None, Result, Ok, Err, refl, ap, sym, ◌∙◌, subst, arith}
 use Rattle.std.proofs.lemmas.Bool.{false≢true, eqb-true}
 use Rattle.std.proofs.lemmas.Bool.Decides.{nat_tests}
@@ -16,7 +16,7 @@ use Rattle.ion_text_in.specs.Lob.{lob_at}
 use Rattle.ion_text_in.specs.Meaning.{at, counts}
 use Rattle.ion_text_in.specs.Token.{First, a_lob, a_begin, first_at, Token, plain, name, begin, end, comma, colon, colons, token_of, token_at, next_token}
 use Rattle.ion_text_out.specs.Text.{symbol_text, opener, closer}
-use Rattle.ion_transcode.proofs.BehindValues.{got, same-token, starts, BehindSymbol, no-blanks, one-space, one-line}
+use Rattle.ion_transcode.proofs.AfterValues.{got, same-token, starts, AfterSymbol, no-blanks, one-space, one-line}
 use Rattle.ion_transcode.proofs.SymbolTokens.{IsToken, token-begins, SymbolIs}
 
 -- what stands between two tokens: nothing, a space or a line's end
@@ -25,23 +25,23 @@ pub data Gap : List ℕ → Type 0 where
   a_space : Gap (32 ∷ [])
   a_line : Gap (10 ∷ [])
 
--- a token of so many bytes at a place, and what is behind it
+-- a token of so many bytes at a place, and what is after it
 pub record Stands (sexp : Bool) (c : Cursor) (t : Token) (long : ℕ) (rest : List ℕ) : Type 0 where
   pub first : ℕ
-  pub behind : ℕ
-  pub tok : Tok sexp c t first (at behind rest)
-  pub behind_is : behind ≡ first + long
+  pub after : ℕ
+  pub tok : Tok sexp c t first (at after rest)
+  pub after_is : after ≡ first + long
 
-stands-behind : (sexp : Bool) (c : Cursor) (t : Token) (p long : ℕ) (bytes rest : List ℕ) → blanks c ≡ Ok (at p bytes)
+stands-after : (sexp : Bool) (c : Cursor) (t : Token) (p long : ℕ) (bytes rest : List ℕ) → blanks c ≡ Ok (at p bytes)
     → token_at None sexp (at p bytes) ≡ got t (at (p + long) rest) → Stands sexp c t long rest
 unfolding next_token
-stands-behind sexp c t p long bytes rest blank token =
-    record { first = p; behind = p + long; tok = rw (blank, token) refl; behind_is = refl }
+stands-after sexp c t p long bytes rest blank token =
+    record { first = p; after = p + long; tok = rw (blank, token) refl; after_is = refl }
 
 -- such a token counts what it would at any place
 pub counts-there : {sexp : Bool} {c : Cursor} {t : Token} {long : ℕ} {rest : List ℕ} (w : Stands sexp c t long rest) (most : ℕ)
-    → ((p : ℕ) → counts t p (p + long) ≤ most) → counts t w.first w.behind ≤ most
-counts-there {t = t} w most few = subst (λ (q : ℕ). counts t w.first q ≤ most) (sym w.behind_is) (few w.first)
+    → ((p : ℕ) → counts t p (p + long) ≤ most) → counts t w.first w.after ≤ most
+counts-there {t = t} w most few = subst (λ (q : ℕ). counts t w.first q ≤ most) (sym w.after_is) (few w.first)
 
 record Blank (c : Cursor) (bytes : List ℕ) : Type 0 where
   place : ℕ
@@ -58,7 +58,7 @@ pub stands : (After : List ℕ → Type 0) (bytes : List ℕ) (t : Token) → Is
     → Gap gap → (p : ℕ) (rest : List ℕ) → After rest → Stands sexp (at p (gap ++ (bytes ++ rest))) t (length bytes) rest
 stands After bytes t is sexp gap g p rest after =
     let b = gap-blank gap g p (bytes ++ rest) (token-begins After bytes t is rest after) in
-    stands-behind sexp _ t b.place (length bytes) (bytes ++ rest) rest b.blank (is.read sexp b.place rest after)
+    stands-after sexp _ t b.place (length bytes) (bytes ++ rest) rest b.blank (is.read sexp b.place rest after)
 
 -- ---- punctuation
 
@@ -69,7 +69,7 @@ comma-token false p rest = refl
 
 pub comma-stands : (sexp : Bool) (p : ℕ) (rest : List ℕ) → Stands sexp (at p (44 ∷ rest)) comma 1 rest
 comma-stands sexp p rest =
-    stands-behind sexp _ comma p 1 (44 ∷ rest) rest (no-blanks p (44 ∷ rest) refl) (comma-token sexp p rest)
+    stands-after sexp _ comma p 1 (44 ∷ rest) rest (no-blanks p (44 ∷ rest) refl) (comma-token sexp p rest)
 
 colons-token : (sexp : Bool) (p : ℕ) (rest : List ℕ) → token_at None sexp (at p (58 ∷ 58 ∷ rest)) ≡ got colons (at (p + 2) rest)
 unfolding first_at token_of
@@ -82,7 +82,7 @@ at-colon p rest = refl
 
 pub colons-stand : (sexp : Bool) (p : ℕ) (rest : List ℕ) → Stands sexp (at p (58 ∷ 58 ∷ rest)) colons 2 rest
 colons-stand sexp p rest =
-    stands-behind sexp _ colons p 2 (58 ∷ 58 ∷ rest) rest (at-colon p (58 ∷ rest)) (colons-token sexp p rest)
+    stands-after sexp _ colons p 2 (58 ∷ 58 ∷ rest) rest (at-colon p (58 ∷ rest)) (colons-token sexp p rest)
 
 single-colon : (rest : List ℕ) → starts rest ≡ true → first_is (λ c. c == 58) rest ≡ false
 single-colon [] s = refl
@@ -95,7 +95,7 @@ colon-token p rest e = rw (first_at, e) refl
 
 pub colon-stands : (p : ℕ) (rest : List ℕ) → starts rest ≡ true → Stands false (at p (58 ∷ rest)) colon 1 rest
 colon-stands p rest s =
-    stands-behind false _ colon p 1 (58 ∷ rest) rest (at-colon p rest) (colon-token p rest (single-colon rest s))
+    stands-after false _ colon p 1 (58 ∷ rest) rest (at-colon p rest) (colon-token p rest (single-colon rest s))
 
 end-token : (j : Kind) (sexp : Bool) (p : ℕ) (rest : List ℕ)
     → token_at None sexp (at p (closer j ++ rest)) ≡ got (end j) (at (p + 1) rest)
@@ -115,9 +115,9 @@ closer-starts kind.Struct rest = refl
 pub end-stands : (j : Kind) (sexp : Bool) (p : ℕ) (rest : List ℕ) → Stands sexp (at p (closer j ++ rest)) (end j) 1 rest
 end-stands j sexp p rest =
     let blank = no-blanks p (closer j ++ rest) (closer-starts j rest) in
-    stands-behind sexp _ (end j) p 1 (closer j ++ rest) rest blank (end-token j sexp p rest)
+    stands-after sexp _ (end j) p 1 (closer j ++ rest) rest blank (end-token j sexp p rest)
 
--- behind the brace of a struct no other brace stands
+-- after the brace of a struct no other brace stands
 abbrev pub Opens : Kind → List ℕ → Type 0
 Opens kind.List rest = Unit {0}
 Opens kind.Sexp rest = Unit {0}
@@ -151,7 +151,7 @@ pub begin-stands : (j : Kind) (sexp : Bool) (gap : List ℕ) → Gap gap → (p 
     → Stands sexp (at p (gap ++ (opener j ++ rest))) (begin j) 1 rest
 begin-stands j sexp gap g p rest o =
     let b = gap-blank gap g p (opener j ++ rest) (opener-starts j rest) in
-    stands-behind sexp _ (begin j) b.place 1 (opener j ++ rest) rest b.blank (begin-token j sexp b.place rest o)
+    stands-after sexp _ (begin j) b.place 1 (opener j ++ rest) rest b.blank (begin-token j sexp b.place rest o)
 
 -- a symbol begins with no brace
 abbrev names : Token → Bool
@@ -196,6 +196,6 @@ no-brace-at (b ∷ bytes) quoted symbol d e = by (b == 123) refl
         let first = ap (λ (f : First). token_of None f (at 0 (123 ∷ bytes))) (sym (brace-first bytes)) in
         absurd (brace-by (begins_with (codes "{{") (123 ∷ bytes)) quoted symbol (at 0 (123 ∷ bytes)) d (first ∙ f))
 
-pub no-brace : (s : UserSymbol) → SymbolIs s → (rest : List ℕ) → BehindSymbol rest
+pub no-brace : (s : UserSymbol) → SymbolIs s → (rest : List ℕ) → AfterSymbol rest
     → first_is (λ c. c == 123) (symbol_text s ++ rest) ≡ false
-no-brace s is rest behind = no-brace-at (symbol_text s ++ rest) is.quoted is.symbol _ (is.token.read false 0 rest behind)
+no-brace s is rest after = no-brace-at (symbol_text s ++ rest) is.quoted is.symbol _ (is.token.read false 0 rest after)

@@ -16,7 +16,7 @@ use Rattle.ion_value.specs.Outcome.{Verdict, Accepted, Rejected}
 use Rattle.ion_symbols.specs.Table.{Shared}
 use Rattle.ion_text_in.specs.Places.{run_of}
 use Rattle.ion_text_in.specs.Blanks.{blanks_at, in_line, opening, in_block, closing}
-use Rattle.ion_text_in.specs.Quoted.{hex_behind, piece_at, pieces_for, segment_at, segments_for}
+use Rattle.ion_text_in.specs.Quoted.{hex_after, piece_at, pieces_for, segment_at, segments_for}
 use Rattle.ion_text_in.specs.Lob.{group_of, groups_for, lob_at}
 use Rattle.ion_text_in.specs.Token.{first_at, word_token, token_of}
 use Rattle.ion_text_in.specs.Reading as text
@@ -36,7 +36,7 @@ usual = record { depth = 64; scalar = 1048576; symbols = 1048576; value = 167772
 
 -- what a run writes of these bytes, and its verdict
 unfoldable pub told : List Shared → Limits → To → List ℕ → List ℕ × Verdict
-unfolding is_utf8 chars digits encode cut_at fixed_digits digits_within int_of_text decimal_of_text parts_of timestamp_of_text timestamp_text minute_number utc_of local_of scalar_of_run run_of blanks_at in_line opening in_block closing hex_behind piece_at pieces_for segment_at segments_for group_of groups_for lob_at first_at word_token token_of may_come tells_version take part_at text.step text.reading octet_at var_at var_uint_at length_at shape_of marker_at bare_at nop_pad_at body_at scalar_at begin_at container_at sorted_at read_by_descriptor typed_value_at wrapper_at ids_at plain_at inner_at annotated_at value_at member_at binary.step binary.reading scalar_of_body decimal_of_bytes var_cut fields_cut timestamp_of_bytes decimal_body timestamp_body id_in with_symbol declaration is_over
+unfolding is_utf8 chars digits encode cut_at fixed_digits digits_within int_of_text decimal_of_text parts_of timestamp_of_text timestamp_text minute_number utc_of local_of scalar_of_run run_of blanks_at in_line opening in_block closing hex_after piece_at pieces_for segment_at segments_for group_of groups_for lob_at first_at word_token token_of may_come tells_version take part_at text.step text.reading octet_at var_at var_uint_at length_at shape_of marker_at bare_at nop_pad_at body_at scalar_at begin_at container_at sorted_at read_by_descriptor typed_value_at wrapper_at ids_at plain_at inner_at annotated_at value_at member_at binary.step binary.reading scalar_of_body decimal_of_bytes var_cut fields_cut timestamp_of_bytes decimal_body timestamp_body id_in with_symbol declaration is_over
 told catalog limits to bytes = (output_for catalog limits to bytes, verdict_for catalog limits to bytes)
 
 -- octets by their hexadecimal digits, with a space between two of them
@@ -52,7 +52,7 @@ octets_of (a ∷ b ∷ space ∷ more) = (16 * hex_value a + hex_value b) ∷ oc
 abbrev pub octets : String → List ℕ
 octets s = octets_of (codes s)
 
--- the same behind a version marker
+-- the same after a version marker
 abbrev pub marked : String → List ℕ
 marked s = 0xE0 ∷ 0x01 ∷ 0x00 ∷ 0xEA ∷ octets s
 

@@ -5,15 +5,15 @@ use Rattle.ion_meter.specs.declared.fault.Reason.{Reason}
 use Rattle.ion_meter.specs.declared.limits.Limits.{Limits}
 use Rattle.ion_value.specs.Value.{SymbolAt, UserSymbol, Members, Top, PlacedItem, top_items, user_items}
 use Rattle.ion_value.specs.Path.{Path, Nest, closed, opened, path_items}
-use Rattle.ion_value.specs.Reading.{Reading, Finished, More, behind, Step, Ends, Stops, Gives, GoesOn}
+use Rattle.ion_value.specs.Reading.{Reading, Finished, More, items_then, Step, Ends, Stops, Gives, GoesOn}
 use Rattle.ion_value.specs.Outcome.{Verdict, Accepted, Rejected}
 use Rattle.ion_symbols.specs.Table.{Shared, Table, system}
 use Rattle.ion_symbols.specs.Users as users
 use Rattle.ion_symbols.specs.Users.{at_start, by_step, user_step}
 use Rattle.ion_symbols.specs.Tree.{user_at, user_tops}
-use Rattle.ion_symbols.specs.Laws.{UsersAreRead, OpenUsersAreRead, table_behind, map_nest, open_declaration}
+use Rattle.ion_symbols.specs.Laws.{UsersAreRead, OpenUsersAreRead, table_after, map_nest, open_declaration}
 use Rattle.ion_binary.specs.Canonical.{binary}
-use Rattle.ion_binary.specs.Refusals.{refused_behind}
+use Rattle.ion_binary.specs.Refusals.{refused_after}
 use Rattle.ion_text_out.specs.Laws.{PathTextIsThatOfItems}
 use Rattle.ion_text_out.specs.Text.{items_text}
 use Rattle.ion_transcode.specs.declared.to.Form.{Form}
@@ -25,45 +25,45 @@ use Rattle.ion_transcode.specs.Forms.{form_of, encoding_of}
 use Rattle.ion_transcode.specs.Verdict.{Faultless, nothing, goes_on, taken_in, user, step_fault, next_fault, HasVerdictFrom, whole, refused, HasVerdictAs}
 use Rattle.ion_transcode.specs.UserPaths.{none_open, value_open, declaration_open, UsersAlong, FaultlessPathsAreRead, IsRefusedOutput, RefusedOutputIsThatOfAPath, path_output, path_refusal}
 use Rattle.ion_transcode.proofs.Agreeing.{path-is}
-use Rattle.ion_transcode.proofs.Faultless.{behind_append}
+use Rattle.ion_value.proofs.Readings.{items_then-append}
 
--- what is read of users in items that are faultless, whatever stands behind them
+-- what is read of users in items that are faultless, whatever stands after them
 faultless-users : (e : Encoding) (target : Outputs) (catalog : List Shared) (limits : Limits) (bytes : List ℕ) (items : List PlacedItem) (s : e.State)
     (u : users.State) (mine : List PlacedItem) → Faultless e target catalog limits bytes items s u mine → (rest : Reading)
-    → users.users catalog limits.symbols at_start (behind items rest) ≡ behind mine (users.users catalog limits.symbols u rest)
+    → users.users catalog limits.symbols at_start (items_then items rest) ≡ items_then mine (users.users catalog limits.symbols u rest)
 faultless-users e target catalog limits bytes _ _ _ _ nothing rest = refl
 faultless-users e target catalog limits bytes _ _ _ _ (goes_on items mine s t u f is) rest = faultless-users e target catalog limits bytes items s u mine f rest
 faultless-users e target catalog limits bytes _ _ _ _ (taken_in items mine item s t u v f is g) rest =
-    ap (users.users catalog limits.symbols at_start) (behind_append items (item ∷ []) rest)
+    ap (users.users catalog limits.symbols at_start) (items_then-append items (item ∷ []) rest)
     ∙ (faultless-users e target catalog limits bytes items s u mine f (More item rest)
-    ∙ ap (λ o. behind mine (by_step o (λ w. users.users catalog limits.symbols w rest))) g)
+    ∙ ap (λ o. items_then mine (by_step o (λ w. users.users catalog limits.symbols w rest))) g)
 faultless-users e target catalog limits bytes _ _ _ _ (user items mine item own s t u v f is g fine) rest =
-    ap (users.users catalog limits.symbols at_start) (behind_append items (item ∷ []) rest)
+    ap (users.users catalog limits.symbols at_start) (items_then-append items (item ∷ []) rest)
     ∙ (faultless-users e target catalog limits bytes items s u mine f (More item rest)
-    ∙ (ap (λ o. behind mine (by_step o (λ w. users.users catalog limits.symbols w rest))) g
-    ∙ sym (behind_append mine (own ∷ []) (users.users catalog limits.symbols v rest))))
+    ∙ (ap (λ o. items_then mine (by_step o (λ w. users.users catalog limits.symbols w rest))) g
+    ∙ sym (items_then-append mine (own ∷ []) (users.users catalog limits.symbols v rest))))
 
 -- where containers are open
 users-open : (catalog : List Shared) (tops : List (Top SymbolAt ℕ)) (us : List (Top UserSymbol ℕ)) (t : Table) (first : ℕ) (nest : Nest SymbolAt ℕ) (mine : List PlacedItem)
-    → user_tops catalog system tops ≡ Some us → table_behind catalog system tops ≡ Some t
+    → user_tops catalog system tops ≡ Some us → table_after catalog system tops ≡ Some t
     → (open_declaration t nest ≡ None → user_items mine ≡ path_items (opened us first (map_nest (user_at t) nest)))
     → ((members : Members SymbolAt ℕ) → open_declaration t nest ≡ Some members → user_items mine ≡ top_items us)
     → (d : Option (Members SymbolAt ℕ)) → open_declaration t nest ≡ d → UsersAlong catalog (opened tops first nest) mine
-users-open catalog tops us t first nest mine says behind_is value declaration None is = record {
+users-open catalog tops us t first nest mine says after_is value declaration None is = record {
   user_path = opened us first (map_nest (user_at t) nest);
-  is_user_path = value_open tops us t first nest says behind_is is;
+  is_user_path = value_open tops us t first nest says after_is is;
   items = value is;
 }
-users-open catalog tops us t first nest mine says behind_is value declaration (Some members) is = record {
+users-open catalog tops us t first nest mine says after_is value declaration (Some members) is = record {
   user_path = closed us;
-  is_user_path = declaration_open tops us t first nest members says behind_is is;
+  is_user_path = declaration_open tops us t first nest members says after_is is;
   items = declaration members is;
 }
 
 module _ (users_read : UsersAreRead) (open_users_read : OpenUsersAreRead) where
   -- what is read of users along a path, to its end
   pub users-along : (catalog : List Shared) (limit : ℕ) (path : Path SymbolAt ℕ) (mine : List PlacedItem)
-      → users.users catalog limit at_start (behind (path_items path) Finished) ≡ behind mine Finished → UsersAlong catalog path mine
+      → users.users catalog limit at_start (items_then (path_items path) Finished) ≡ items_then mine Finished → UsersAlong catalog path mine
   users-along catalog limit (closed tops) mine e =
       let r = users_read catalog limit tops mine e in
       record { user_path = closed r.0; is_user_path = none_open tops r.0 r.1; items = r.2 }
@@ -78,7 +78,7 @@ module _ (users_read : UsersAreRead) (open_users_read : OpenUsersAreRead) where
 
 -- ---- what is refused
 
--- what is written of user items, and refused behind them, is that of their path
+-- what is written of user items, and refused after them, is that of their path
 output-is : PathTextIsThatOfItems → (to : Target) (limits : Limits) (path : Path UserSymbol ℕ) (mine : List PlacedItem) → user_items mine ≡ path_items path
     → (outputs_of to limits).open_output mine ≡ path_output to limits path
 output-is texts target.Text limits path mine e = ap (items_text []) e ∙ texts path
@@ -88,7 +88,7 @@ output-is texts target.Nothing limits path mine e = refl
 refusal-is : (to : Target) (limits : Limits) (path : Path UserSymbol ℕ) (mine : List PlacedItem) (own : PlacedItem) → user_items mine ≡ path_items path
     → path_refusal to limits path own ≡ (outputs_of to limits).refusal mine own
 refusal-is target.Text limits path mine own e = refl
-refusal-is target.Binary limits path mine own e = ap (λ (p : Path UserSymbol ℕ). refused_behind limits p own) (sym (path-is path mine e))
+refusal-is target.Binary limits path mine own e = ap (λ (p : Path UserSymbol ℕ). refused_after limits p own) (sym (path-is path mine e))
 refusal-is target.Nothing limits path mine own e = refl
 
 -- where two writers refuse the same, an item has the same first fault
@@ -108,12 +108,12 @@ module _ (read : FaultlessPathsAreRead) (texts : PathTextIsThatOfItems) (form : 
   abbrev e : Encoding
   e = encoding_of form
 
-  -- what there is behind a path that is faultless
-  refused-behind : (path : Path SymbolAt ℕ) (mine : List PlacedItem) (s : e.State) (u : users.State) (reason : Reason) (place : ℕ)
+  -- what there is after a path that is faultless
+  refused-after : (path : Path SymbolAt ℕ) (mine : List PlacedItem) (s : e.State) (u : users.State) (reason : Reason) (place : ℕ)
       → e.At bytes path s → Faultless e (outputs_of to limits) catalog limits bytes (path_items path) s u mine
       → next_fault e ((outputs_of to limits).refusal mine) catalog limits s u ≡ Some (reason, place)
       → IsRefusedOutput e to catalog limits bytes reason place ((outputs_of to limits).open_output mine)
-  refused-behind path mine s u reason place at faultless fault =
+  refused-after path mine s u reason place at faultless fault =
       let along = read form to catalog limits bytes path mine s u faultless in
       record {
         path = path;
@@ -135,7 +135,7 @@ module _ (read : FaultlessPathsAreRead) (texts : PathTextIsThatOfItems) (form : 
 
   refused-as : (v : Verdict) (out : List ℕ) → HasVerdictFrom e (outputs_of to limits) catalog limits bytes v out → RefusedAs v out
   refused-as _ _ (whole tops us mine s u stream faultless ends told) = tt
-  refused-as _ _ (refused path mine s u reason place at faultless fault) = refused-behind path mine s u reason place at faultless fault
+  refused-as _ _ (refused path mine s u reason place at faultless fault) = refused-after path mine s u reason place at faultless fault
 
 pub refused_output_is_that_of_a_path : FaultlessPathsAreRead → PathTextIsThatOfItems → RefusedOutputIsThatOfAPath
 refused_output_is_that_of_a_path read texts catalog limits to bytes target reason place out is has =

@@ -27,7 +27,7 @@ use Rattle.ion_text_in.specs.Within.{NamesWithin, AnnotationsWithin, FieldWithin
 use Rattle.ion_text_out.specs.Text.{symbol_text, scalar_text, field_text, annotation_text, opener, closer, before_next, is_empty, value_text, members_text}
 use Rattle.ion_transcode.specs.Depth.{ValueIsNoDeeper, MembersAreNoDeeper}
 use Rattle.ion_transcode.specs.ShownAgain.{SymbolFits, ScalarFits, cost, AnnotationsFit, FieldFits, ValueFits, MembersFit}
-use Rattle.ion_transcode.proofs.BehindValues.{starts, Behind, BehindSymbol, no-colons}
+use Rattle.ion_transcode.proofs.AfterValues.{starts, After, AfterSymbol, no-colons}
 use Rattle.ion_transcode.proofs.TokensInText.{Gap, no_gap, a_space, counts-there, stands, comma-stands, colons-stand, colon-stands, end-stands, begin-stands, opener-starts, Opens, no-brace}
 use Rattle.ion_transcode.proofs.SymbolTokens.{TextLaws, token-begins, symbol-is}
 use Rattle.ion_transcode.proofs.ScalarTokens.{ScalarIs, a_plain, a_string, a_symbol, scalar-is}
@@ -48,8 +48,8 @@ own-field f annotations (container k ms last) h =
 own-annotations : (f : Option UserSymbol) (annotations : List UserSymbol) (x : Value UserSymbol ℕ)
     → Texts (value_symbols f annotations x) → Texts annotations
 own-annotations f annotations (scalar body) h =
-    let behind = all-right IsText (field_symbols f) (annotations ++ scalar_symbols body) h in
-    all-left IsText annotations (scalar_symbols body) behind
+    let after = all-right IsText (field_symbols f) (annotations ++ scalar_symbols body) h in
+    all-left IsText annotations (scalar_symbols body) after
 own-annotations f annotations (container k ms last) h =
     let front = all-left IsText (field_symbols f ++ (annotations ++ [])) (members_symbols ms) h in
     all-left IsText annotations [] (all-right IsText (field_symbols f) (annotations ++ []) front)
@@ -57,8 +57,8 @@ own-annotations f annotations (container k ms last) h =
 own-scalar : (f : Option UserSymbol) (annotations : List UserSymbol) (body : Scalar UserSymbol)
     → Texts (value_symbols {P = ℕ} f annotations (scalar body)) → Texts (scalar_symbols body)
 own-scalar f annotations body h =
-    let behind = all-right IsText (field_symbols f) (annotations ++ scalar_symbols body) h in
-    all-right IsText annotations (scalar_symbols body) behind
+    let after = all-right IsText (field_symbols f) (annotations ++ scalar_symbols body) h in
+    all-right IsText annotations (scalar_symbols body) after
 
 own-members : (f : Option UserSymbol) (annotations : List UserSymbol) (j : Kind) (ms : Members UserSymbol ℕ) (last : ℕ)
     → Texts (value_symbols f annotations (container j ms last)) → Texts (members_symbols ms)
@@ -95,7 +95,7 @@ NotesFit ss limits = (64 ≤ limits.scalar) × AnnotationsFit limits ss
 notes-fit : (ss : List UserSymbol) (limits : Limits) → NotesFit ss limits → EachFits limits ss
 notes-fit ss limits fits = (fits.0, each-fits limits ss fits.1)
 
--- annotations behind others, and what stands between them and what follows
+-- annotations after others, and what stands between them and what follows
 record AnnotationsRead (Fit : Limits → Type 0) (sexp : Bool) (c : Cursor) (done : List SymbolAt) (ss : List UserSymbol)
     (rest : List ℕ) : Type 0 where
   own : List SymbolAt
@@ -130,13 +130,13 @@ annotations-read laws Fit sexp c done [] texts fits gap g p rest prev = record {
 annotations-read laws Fit sexp c done (s ∷ ss) texts fits gap g p rest prev =
     let more : List ℕ = annotations_text ss ++ rest in
     let is = symbol-is laws s texts.0 in
-    let colons : BehindSymbol (58 ∷ 58 ∷ more) = BehindSymbol.at_colon in
-    let word = stands BehindSymbol (symbol_text s) (name is.quoted is.symbol) is.token sexp gap g p (58 ∷ 58 ∷ more) colons in
-    let two = colons-stand sexp word.behind more in
+    let colons : AfterSymbol (58 ∷ 58 ∷ more) = AfterSymbol.at_colon in
+    let word = stands AfterSymbol (symbol_text s) (name is.quoted is.symbol) is.token sexp gap g p (58 ∷ 58 ∷ more) colons in
+    let two = colons-stand sexp word.after more in
     let moved : NamesRead Fit sexp c done (at p (gap ++ (symbol_text s ++ (58 ∷ 58 ∷ more)))) =
     subst (λ (xs : List ℕ). NamesRead Fit sexp c done (at p xs)) (annotation-join s ss gap rest) prev in
     let own : SymbolAt = positions.at is.symbol word.first in
-    let then : NamesRead Fit sexp c (done ++ own ∷ []) (at two.behind more) = record {
+    let then : NamesRead Fit sexp c (done ++ own ∷ []) (at two.after more) = record {
       spells = Annotations.then moved.spells word.tok two.tok;
       within = λ limits fit.
           let each = fits limits fit in
@@ -144,7 +144,7 @@ annotations-read laws Fit sexp c done (s ∷ ss) texts fits gap g p rest prev =
     } in
     let others : (limits : Limits) → Fit limits → EachFits limits ss =
     λ limits fit. ((fits limits fit).0, (fits limits fit).1.1) in
-    let next = annotations-read laws Fit sexp c (done ++ own ∷ []) ss texts.1 others [] no_gap two.behind rest then in
+    let next = annotations-read laws Fit sexp c (done ++ own ∷ []) ss texts.1 others [] no_gap two.after rest then in
     record {
       own = own ∷ next.own;
       gap = next.gap;
@@ -166,18 +166,18 @@ notes-within limits ss sexp c own d names costs wide fit = (omega (arith, costs,
 
 -- ---- what a value begins with
 
-scalar-starts : (body : Scalar UserSymbol) → ScalarIs body → (rest : List ℕ) → Behind rest
+scalar-starts : (body : Scalar UserSymbol) → ScalarIs body → (rest : List ℕ) → After rest
     → starts (scalar_text body ++ rest) ≡ true
-scalar-starts body (a_plain raw is same stand counted) rest behind = token-begins Behind _ _ is rest behind
-scalar-starts _ (a_string bytes is) rest behind = token-begins Behind _ _ is rest behind
-scalar-starts _ (a_symbol s is) rest behind = token-begins BehindSymbol _ _ is.token rest (BehindSymbol.of_value behind)
+scalar-starts body (a_plain raw is same stand counted) rest after = token-begins After _ _ is rest after
+scalar-starts _ (a_string bytes is) rest after = token-begins After _ _ is rest after
+scalar-starts _ (a_symbol s is) rest after = token-begins AfterSymbol _ _ is.token rest (AfterSymbol.of_value after)
 
 value-starts : TextLaws → (f : Option UserSymbol) (annotations : List UserSymbol) (x : Value UserSymbol ℕ)
-    → Texts (value_symbols f annotations x) → IsWritable x → ValueHasBytes x → (rest : List ℕ) → Behind rest
+    → Texts (value_symbols f annotations x) → IsWritable x → ValueHasBytes x → (rest : List ℕ) → After rest
     → starts (value_text x ++ rest) ≡ true
-value-starts laws f annotations (scalar body) texts writable small rest behind =
-    scalar-starts body (scalar-is laws body writable.0 writable.1 small (own-scalar f annotations body texts)) rest behind
-value-starts laws f annotations (container j ms last) texts writable small rest behind =
+value-starts laws f annotations (scalar body) texts writable small rest after =
+    scalar-starts body (scalar-is laws body writable.0 writable.1 small (own-scalar f annotations body texts)) rest after
+value-starts laws f annotations (container j ms last) texts writable small rest after =
     subst (λ (xs : List ℕ). starts xs ≡ true) (sym (append_assoc (opener j) (members_text j ms ++ closer j) rest))
     (opener-starts j ((members_text j ms ++ closer j) ++ rest))
 
@@ -187,7 +187,7 @@ annotated-starts laws [] texts rest s = s
 annotated-starts laws (a ∷ ss) texts rest s =
     let more : List ℕ = 58 ∷ 58 ∷ (annotations_text ss ++ rest) in
     subst (λ (xs : List ℕ). starts xs ≡ true) (sym (annotation-join a ss [] rest))
-    (token-begins BehindSymbol _ _ (symbol-is laws a texts.0).token more BehindSymbol.at_colon)
+    (token-begins AfterSymbol _ _ (symbol-is laws a texts.0).token more AfterSymbol.at_colon)
 
 field-join : (s : UserSymbol) (rest : List ℕ) → field_text (Some s) ++ rest ≡ symbol_text s ++ (58 ∷ rest)
 field-join s rest = append_assoc (symbol_text s) (codes ":") rest
@@ -197,7 +197,7 @@ member-starts : TextLaws → (f : Option UserSymbol) → Texts (field_symbols f)
 member-starts laws None texts rest s = s
 member-starts laws (Some f) texts rest s =
     subst (λ (xs : List ℕ). starts xs ≡ true) (sym (field-join f rest))
-    (token-begins BehindSymbol _ _ (symbol-is laws f texts.0).token (58 ∷ rest) BehindSymbol.at_colon)
+    (token-begins AfterSymbol _ _ (symbol-is laws f texts.0).token (58 ∷ rest) AfterSymbol.at_colon)
 
 -- ---- values
 
@@ -220,8 +220,8 @@ pub record ValueRead (k : Option Kind) (c : Cursor) (notes : List UserSymbol) (x
   pub own : List SymbolAt
   pub place : ℕ
   pub raw : Value SymbolAt ℕ
-  pub behind : ℕ
-  pub spells : Txt k c own place raw (at behind rest)
+  pub after : ℕ
+  pub spells : Txt k c own place raw (at after rest)
   pub annotations_are : (t : Table) → map (user_at t) own ≡ notes
   pub value_is : (t : Table) → seen t raw ≡ unplaced x
   pub annotations_stand : AllByRecursion (symbols.Stands system) own
@@ -229,7 +229,7 @@ pub record ValueRead (k : Option Kind) (c : Cursor) (notes : List UserSymbol) (x
   pub within : (limits : Limits) (depth : ℕ) → 64 ≤ limits.scalar → AnnotationsFit limits notes → ValueFits limits x
       → ValueIsNoDeeper limits.depth depth x → TxtWithin limits depth spells
 
--- whether a separator is due behind members
+-- whether a separator is due after members
 abbrev full_of : Kind → Members UserSymbol ℕ → Bool
 full_of k nothing = false
 full_of k (member before f annotations place x) = has_commas (Some k)
@@ -243,13 +243,13 @@ Allowed ms spells =
 
 record MembersRead (k : Kind) (c : Cursor) (ms : Members UserSymbol ℕ) (full : Bool) (rest : List ℕ) : Type 0 where
   raw : Members SymbolAt ℕ
-  behind : ℕ
-  spells : Inside k c raw full (at behind rest)
+  after : ℕ
+  spells : Inside k c raw full (at after rest)
   are : (t : Table) → seen_members t raw ≡ unplaced_members ms
   stand : symbols.MembersStand system raw
   within : Allowed ms spells
 
--- behind members and what separates them from the next
+-- after members and what separates them from the next
 record Opened (k : Kind) (c : Cursor) (ms : Members UserSymbol ℕ) (rest : List ℕ) : Type 0 where
   raw : Members SymbolAt ℕ
   gap : List ℕ
@@ -260,28 +260,28 @@ record Opened (k : Kind) (c : Cursor) (ms : Members UserSymbol ℕ) (rest : List
   stand : symbols.MembersStand system raw
   within : Allowed ms spells
 
-behind-comma : (k : Kind) (c : Cursor) (tail : List ℕ) (ms : Members UserSymbol ℕ) → MembersRead k c ms true (44 ∷ tail)
+after-comma : (k : Kind) (c : Cursor) (tail : List ℕ) (ms : Members UserSymbol ℕ) → MembersRead k c ms true (44 ∷ tail)
     → Opened k c ms tail
-behind-comma k c tail ms r =
-    let comma = comma-stands (is_sexp k) r.behind tail in
+after-comma k c tail ms r =
+    let comma = comma-stands (is_sexp k) r.after tail in
     record {
       raw = r.raw;
       gap = [];
       is_gap = no_gap;
-      place = comma.behind;
+      place = comma.after;
       spells = Inside.with_comma r.spells comma.tok;
       are = r.are;
       stand = r.stand;
       within = r.within;
     }
 
-behind-other : (k : Kind) (c : Cursor) (gap tail : List ℕ) (ms : Members UserSymbol ℕ) → Gap gap
+after-other : (k : Kind) (c : Cursor) (gap tail : List ℕ) (ms : Members UserSymbol ℕ) → Gap gap
     → MembersRead k c ms false (gap ++ tail) → Opened k c ms tail
-behind-other k c gap tail ms g r = record {
+after-other k c gap tail ms g r = record {
   raw = r.raw;
   gap = gap;
   is_gap = g;
-  place = r.behind;
+  place = r.after;
   spells = r.spells;
   are = r.are;
   stand = r.stand;
@@ -290,20 +290,20 @@ behind-other k c gap tail ms g r = record {
 
 opened : (k : Kind) (c : Cursor) (before : Members UserSymbol ℕ) (tail : List ℕ)
     → MembersRead k c before (full_of k before) (before_next k (is_empty before) ++ tail) → Opened k c before tail
-opened k c nothing tail r = behind-other k c [] tail nothing no_gap r
+opened k c nothing tail r = after-other k c [] tail nothing no_gap r
 opened kind.List c (member before f annotations place x) tail r =
-    behind-comma kind.List c tail (member before f annotations place x) r
+    after-comma kind.List c tail (member before f annotations place x) r
 opened kind.Struct c (member before f annotations place x) tail r =
-    behind-comma kind.Struct c tail (member before f annotations place x) r
+    after-comma kind.Struct c tail (member before f annotations place x) r
 opened kind.Sexp c (member before f annotations place x) tail r =
-    behind-other kind.Sexp c (32 ∷ []) tail (member before f annotations place x) a_space r
+    after-other kind.Sexp c (32 ∷ []) tail (member before f annotations place x) a_space r
 
-next-behind : (k : Kind) (before : Members UserSymbol ℕ) (tail : List ℕ) → starts tail ≡ true → is_empty before ≡ false
-    → Behind (before_next k (is_empty before) ++ tail)
-next-behind k nothing tail s e = absurd (true≢false e)
-next-behind kind.List (member before f annotations place x) tail s e = Behind.at_comma
-next-behind kind.Struct (member before f annotations place x) tail s e = Behind.at_comma
-next-behind kind.Sexp (member before f annotations place x) tail s e = Behind.at_space s
+next-after : (k : Kind) (before : Members UserSymbol ℕ) (tail : List ℕ) → starts tail ≡ true → is_empty before ≡ false
+    → After (before_next k (is_empty before) ++ tail)
+next-after k nothing tail s e = absurd (true≢false e)
+next-after kind.List (member before f annotations place x) tail s e = After.at_comma
+next-after kind.Struct (member before f annotations place x) tail s e = After.at_comma
+next-after kind.Sexp (member before f annotations place x) tail s e = After.at_space s
 
 -- ---- fields
 
@@ -348,16 +348,16 @@ field-read laws kind.Sexp (Some f) texts e gap g p rest s = absurd (true≢false
 field-read laws kind.Struct (Some f) texts e gap g p rest s =
     let is = symbol-is laws f texts.0 in
     let token : Token = name is.quoted is.symbol in
-    let word = stands BehindSymbol (symbol_text f) token is.token false gap g p (58 ∷ rest) BehindSymbol.at_colon in
-    let colon = colon-stands word.behind rest s in
-    let moved : Tok false (at p (gap ++ (field_text (Some f) ++ rest))) token word.first (at word.behind (58 ∷ rest)) =
-    subst (λ (xs : List ℕ). Tok false (at p (gap ++ xs)) token word.first (at word.behind (58 ∷ rest)))
+    let word = stands AfterSymbol (symbol_text f) token is.token false gap g p (58 ∷ rest) AfterSymbol.at_colon in
+    let colon = colon-stands word.after rest s in
+    let moved : Tok false (at p (gap ++ (field_text (Some f) ++ rest))) token word.first (at word.after (58 ∷ rest)) =
+    subst (λ (xs : List ℕ). Tok false (at p (gap ++ xs)) token word.first (at word.after (58 ∷ rest)))
     (sym (field-join f rest)) word.tok in
     record {
       own = Some (positions.at is.symbol word.first);
       gap = [];
       is_gap = no_gap;
-      place = colon.behind;
+      place = colon.after;
       spells = Field.named moved colon.tok;
       is = λ t. ap (λ (x : UserSymbol). Some x) (is.user t word.first);
       stands = is.stands;
@@ -366,7 +366,7 @@ field-read laws kind.Struct (Some f) texts e gap g p rest s =
 
 -- ---- braces
 
--- behind a struct's opening brace no brace stands, so that it is no lob
+-- after a struct's opening brace no brace stands, so that it is no lob
 abbrev NoBrace : List ℕ → Type 0
 NoBrace xs = first_is (λ c. c == 123) xs ≡ false
 
@@ -375,7 +375,7 @@ tail-brace : TextLaws → (before : Members UserSymbol ℕ) (f : Option UserSymb
 tail-brace laws (member before g annotations place x) f texts e more = refl
 tail-brace laws nothing None texts e more = absurd (false≢true e)
 tail-brace laws nothing (Some f) texts e more =
-    subst NoBrace (sym (field-join f more)) (no-brace f (symbol-is laws f texts.0) (58 ∷ more) BehindSymbol.at_colon)
+    subst NoBrace (sym (field-join f more)) (no-brace f (symbol-is laws f texts.0) (58 ∷ more) AfterSymbol.at_colon)
 
 member-join : (a b c d e rest : List ℕ) → (a ++ (b ++ (c ++ (d ++ e)))) ++ rest ≡ a ++ (b ++ (c ++ (d ++ (e ++ rest))))
 member-join a b c d e rest = simp append_assoc
@@ -399,10 +399,10 @@ opens laws kind.List ms texts writable rest = tt
 opens laws kind.Sexp ms texts writable rest = tt
 opens laws kind.Struct ms texts writable rest = no-brace-in laws ms texts writable (125 ∷ rest) refl
 
-closer-behind : (j : Kind) (rest : List ℕ) → Behind (closer j ++ rest)
-closer-behind kind.List rest = Behind.at_list_end
-closer-behind kind.Sexp rest = Behind.at_sexp_end
-closer-behind kind.Struct rest = Behind.at_struct_end
+closer-after : (j : Kind) (rest : List ℕ) → After (closer j ++ rest)
+closer-after kind.List rest = After.at_list_end
+closer-after kind.Sexp rest = After.at_sexp_end
+closer-after kind.Struct rest = After.at_struct_end
 
 -- ---- scalars
 
@@ -410,8 +410,8 @@ record ScalarRead (k : Option Kind) (c : Cursor) (own : List SymbolAt) (d : Curs
     (body : Scalar UserSymbol) (rest : List ℕ) : Type 0 where
   place : ℕ
   raw : Scalar SymbolAt
-  behind : ℕ
-  spells : Txt k c own place (scalar raw) (at behind rest)
+  after : ℕ
+  spells : Txt k c own place (scalar raw) (at after rest)
   is : (t : Table) → map_scalar (user_at t) raw ≡ body
   stands : symbols.ScalarStands system raw
   within : (limits : Limits) (depth : ℕ) → 64 ≤ limits.scalar → AnnotationsWithin limits notes → ScalarFits limits body
@@ -419,38 +419,38 @@ record ScalarRead (k : Option Kind) (c : Cursor) (own : List SymbolAt) (d : Curs
 
 scalar-read : TextLaws → (k : Option Kind) (c : Cursor) (own : List SymbolAt) (gap : List ℕ) → Gap gap → (p : ℕ)
     (body : Scalar UserSymbol) (rest : List ℕ) (prev : Annotations (in_sexp k) c own (at p (gap ++ (scalar_text body ++ rest))))
-    → Behind rest → ScalarIs body → ScalarRead k c own (at p (gap ++ (scalar_text body ++ rest))) prev body rest
-scalar-read laws k c own gap g p body rest prev behind (a_plain raw is same stand counted) =
-    let w = stands Behind (scalar_text body) (plain raw) is (in_sexp k) gap g p rest behind in
+    → After rest → ScalarIs body → ScalarRead k c own (at p (gap ++ (scalar_text body ++ rest))) prev body rest
+scalar-read laws k c own gap g p body rest prev after (a_plain raw is same stand counted) =
+    let w = stands After (scalar_text body) (plain raw) is (in_sexp k) gap g p rest after in
     record {
       place = w.first;
       raw = raw;
-      behind = w.behind;
+      after = w.after;
       spells = Txt.of_plain prev w.tok;
       is = same;
       stands = stand;
       within = λ limits depth wide noted fits. (noted, counts-there w limits.scalar (counted limits wide fits));
     }
-scalar-read laws k c own gap g p _ rest prev behind (a_string bytes is) =
-    let w = stands Behind (scalar_text (value.string bytes)) (text bytes) is (in_sexp k) gap g p rest behind in
+scalar-read laws k c own gap g p _ rest prev after (a_string bytes is) =
+    let w = stands After (scalar_text (value.string bytes)) (text bytes) is (in_sexp k) gap g p rest after in
     record {
       place = w.first;
       raw = value.string bytes;
-      behind = w.behind;
+      after = w.after;
       spells = Txt.of_text prev w.tok;
       is = λ t. refl;
       stands = tt;
       within = λ limits depth wide noted fits. (noted, fits);
     }
-scalar-read laws k c own gap g p _ rest prev behind (a_symbol s is) =
+scalar-read laws k c own gap g p _ rest prev after (a_symbol s is) =
     let token : Token = name is.quoted is.symbol in
-    let ends : BehindSymbol rest = BehindSymbol.of_value behind in
-    let w = stands BehindSymbol (symbol_text s) token is.token (in_sexp k) gap g p rest ends in
+    let ends : AfterSymbol rest = AfterSymbol.of_value after in
+    let w = stands AfterSymbol (symbol_text s) token is.token (in_sexp k) gap g p rest ends in
     record {
       place = w.first;
       raw = value.symbol (positions.at is.symbol w.first);
-      behind = w.behind;
-      spells = Txt.of_symbol prev w.tok (no-colons laws.begins (in_sexp k) w.behind rest behind) (is.no_version k own);
+      after = w.after;
+      spells = Txt.of_symbol prev w.tok (no-colons laws.begins (in_sexp k) w.after rest after) (is.no_version k own);
       is = λ t. ap (λ (x : UserSymbol). value.symbol x) (is.user t w.first);
       stands = is.stands;
       within = λ limits depth wide noted fits. (noted, counts-there w limits.scalar (is.counted limits wide fits));
@@ -487,8 +487,8 @@ container-join j ms last rest =
 mutual
   pub value-read : TextLaws → (k : Option Kind) (f : Option UserSymbol) (notes : List UserSymbol) (x : Value UserSymbol ℕ)
       (gap : List ℕ) → Gap gap → (p : ℕ) (rest : List ℕ) → Texts (value_symbols f notes x) → IsWritable x → ValueHasBytes x
-      → Behind rest → ValueRead k (at p (gap ++ (annotations_text notes ++ (value_text x ++ rest)))) notes x rest
-  value-read laws k f notes (scalar body) gap g p rest texts writable small behind =
+      → After rest → ValueRead k (at p (gap ++ (annotations_text notes ++ (value_text x ++ rest)))) notes x rest
+  value-read laws k f notes (scalar body) gap g p rest texts writable small after =
       let sexp : Bool = in_sexp k in
       let c : Cursor = at p (gap ++ (annotations_text notes ++ (scalar_text body ++ rest))) in
       let noted = own-annotations f notes (scalar body) texts in
@@ -496,12 +496,12 @@ mutual
       let more : List ℕ = scalar_text body ++ rest in
       let a = annotations-read laws (NotesFit notes) sexp c [] notes noted (notes-fit notes) gap g p more none in
       let is = scalar-is laws body writable.0 writable.1 small (own-scalar f notes body texts) in
-      let w = scalar-read laws k c a.own a.gap a.is_gap a.place body rest a.names.spells behind is in
+      let w = scalar-read laws k c a.own a.gap a.is_gap a.place body rest a.names.spells after is in
       record {
         own = a.own;
         place = w.place;
         raw = scalar w.raw;
-        behind = w.behind;
+        after = w.after;
         spells = w.spells;
         annotations_are = a.are;
         value_is = λ t. ap (λ (v : Scalar UserSymbol). scalar v) (w.is t ∙ sym (id-scalar body));
@@ -510,7 +510,7 @@ mutual
         within = λ limits depth wide few fits deep.
             w.within limits depth wide (notes-within limits notes sexp c a.own _ a.names a.costs wide few) fits;
       }
-  value-read laws k f notes (container j ms last) gap g p rest texts writable small behind =
+  value-read laws k f notes (container j ms last) gap g p rest texts writable small after =
       let sexp : Bool = in_sexp k in
       let all : List ℕ = value_text (container j ms last) ++ rest in
       let inside : List ℕ = members_text j ms ++ (closer j ++ rest) in
@@ -523,13 +523,13 @@ mutual
       (container-join j ms last rest) a.names in
       let own = own-members f notes j ms last texts in
       let b = begin-stands j sexp a.gap a.is_gap a.place inside (opens laws j ms own writable rest) in
-      let m = members-read laws j ms b.behind (closer j ++ rest) own writable small (λ e. closer-behind j rest) in
-      let e = end-stands j (is_sexp j) m.behind rest in
+      let m = members-read laws j ms b.after (closer j ++ rest) own writable small (λ e. closer-after j rest) in
+      let e = end-stands j (is_sexp j) m.after rest in
       record {
         own = a.own;
         place = b.first;
         raw = container j m.raw e.first;
-        behind = e.behind;
+        after = e.after;
         spells = Txt.of_members prev.spells b.tok m.spells e.tok;
         annotations_are = a.are;
         value_is = λ t. ap (λ (ns : Members UserSymbol ⊤). container j ns tt) (m.are t);
@@ -541,18 +541,18 @@ mutual
       }
 
   members-read : TextLaws → (k : Kind) (ms : Members UserSymbol ℕ) (p : ℕ) (rest : List ℕ) → Texts (members_symbols ms)
-      → AreWritable k ms → MembersHaveBytes ms → (is_empty ms ≡ false → Behind rest)
+      → AreWritable k ms → MembersHaveBytes ms → (is_empty ms ≡ false → After rest)
       → MembersRead k (at p (members_text k ms ++ rest)) ms (full_of k ms) rest
-  members-read laws k nothing p rest texts writable small behind =
+  members-read laws k nothing p rest texts writable small after =
       record {
         raw = nothing;
-        behind = p;
+        after = p;
         spells = Inside.nothing;
         are = λ t. refl;
         stand = tt;
         within = λ limits depth wide fits deep. tt;
       }
-  members-read laws k (member before f notes place x) p rest texts writable small behind =
+  members-read laws k (member before f notes place x) p rest texts writable small after =
       let others = all-left IsText (members_symbols before) (value_symbols f notes x) texts in
       let own = all-right IsText (members_symbols before) (value_symbols f notes x) texts in
       let noted = own-annotations f notes x own in
@@ -561,16 +561,16 @@ mutual
       let tail : List ℕ = field_text f ++ body in
       let before_text : List ℕ = before_next k (is_empty before) in
       let c : Cursor = at p (members_text k before ++ (before_text ++ tail)) in
-      let value_start = value-starts laws f notes x own writable.1.1 small.1 rest (behind refl) in
+      let value_start = value-starts laws f notes x own writable.1.1 small.1 rest (after refl) in
       let body_start = annotated-starts laws notes noted (value_text x ++ rest) value_start in
       let tail_start = member-starts laws f fielded body body_start in
-      let ends = next-behind k before tail tail_start in
+      let ends = next-after k before tail tail_start in
       let o = opened k c before tail (members-read laws k before p (before_text ++ tail) others writable.0 small.0 ends) in
       let fr = field-read laws k f fielded writable.1.0 o.gap o.is_gap o.place body body_start in
-      let v = value-read laws (Some k) f notes x fr.gap fr.is_gap fr.place rest own writable.1.1 small.1 (behind refl) in
+      let v = value-read laws (Some k) f notes x fr.gap fr.is_gap fr.place rest own writable.1.1 small.1 (after refl) in
       let whole : MembersRead k c (member before f notes place x) (has_commas (Some k)) rest = record {
         raw = member o.raw fr.own v.own v.place v.raw;
-        behind = v.behind;
+        after = v.after;
         spells = Inside.with_value o.spells fr.spells v.spells;
         are = λ t.
             let field = fr.is t ∙ sym (option_map_id f) in
@@ -586,8 +586,8 @@ mutual
 
 -- what a value at top level begins with
 pub top-starts : TextLaws → (notes : List UserSymbol) (x : Value UserSymbol ℕ) → Texts (value_symbols None notes x)
-    → IsWritable x → ValueHasBytes x → (rest : List ℕ) → Behind rest
+    → IsWritable x → ValueHasBytes x → (rest : List ℕ) → After rest
     → starts (annotations_text notes ++ (value_text x ++ rest)) ≡ true
-top-starts laws notes x texts writable small rest behind =
-    let begins = value-starts laws None notes x texts writable small rest behind in
+top-starts laws notes x texts writable small rest after =
+    let begins = value-starts laws None notes x texts writable small rest after in
     annotated-starts laws notes (own-annotations None notes x texts) (value_text x ++ rest) begins

@@ -4,7 +4,7 @@ use Rattle.ion_meter.specs.declared.fault.Reason.{Reason}
 use Rattle.ion_meter.specs.declared.limits.Limits.{Limits}
 use Rattle.ion_value.specs.Value.{UserSymbol, Top, PlacedItem, top_items}
 use Rattle.ion_value.specs.Path.{path_items}
-use Rattle.ion_value.specs.Reading.{Reading, Finished, Stopped, More, behind, Step, Ends, Stops, Gives, GoesOn}
+use Rattle.ion_value.specs.Reading.{Reading, Finished, Stopped, More, items_then, Step, Ends, Stops, Gives, GoesOn}
 use Rattle.ion_value.specs.Outcome.{Verdict, Accepted, Rejected, verdict_with, output_with}
 use Rattle.ion_symbols.specs.Table.{Shared}
 use Rattle.ion_symbols.specs.Users as users
@@ -31,7 +31,7 @@ module _ (users_read : UsersAreRead) (e : Encoding) (target : Outputs) (agrees :
   abbrev pub AreFrom : Verdict → List ℕ → Type 0
   AreFrom v out = (k : ℕ) × ((m : ℕ) → AreAt v out (k + m))
 
-  -- the same with the items in front known, and how the step behind them ends
+  -- the same with the items in front known, and how the step after them ends
   prefix-are : (items : List PlacedItem) (s : e.State) (u : users.State) (mine : List PlacedItem)
       → Prefixes e target catalog limits bytes items s u mine → (r : ℕ → Reading) → ((m : ℕ) → user_in e target catalog limits (suc m) s u ≡ r m)
       → (v : Verdict) (out : List ℕ)
@@ -40,8 +40,8 @@ module _ (users_read : UsersAreRead) (e : Encoding) (target : Outputs) (agrees :
     suc prefix.steps,
     λ m.
         let later : suc prefix.steps + m ≡ prefix.steps + suc m = omega arith in
-        let is : user_in e target catalog limits (suc prefix.steps + m) (e.start bytes) at_start ≡ behind mine (r m)
-        = ap (λ n. user_in e target catalog limits n (e.start bytes) at_start) later ∙ (prefix.own (suc m) ∙ ap (behind mine) (ends m)) in (
+        let is : user_in e target catalog limits (suc prefix.steps + m) (e.start bytes) at_start ≡ items_then mine (r m)
+        = ap (λ n. user_in e target catalog limits n (e.start bytes) at_start) later ∙ (prefix.own (suc m) ∙ ap (items_then mine) (ends m)) in (
           f m ∙ sym (ap (λ x. verdict_on e target catalog limits [] x) is ∙ prefix.verdict (r m)),
           g m ∙ sym (ap (λ x. output_on e target catalog limits [] x) is ∙ prefix.output (r m)),
         ),

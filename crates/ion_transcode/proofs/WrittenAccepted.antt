@@ -4,7 +4,7 @@ use Rattle.std.specs.List.{AllByRecursion}
 use Rattle.ion_meter.specs.declared.limits.Limits.{Limits}
 use Rattle.ion_value.specs.Outcome.{Accepted}
 use Rattle.ion_value.specs.Path.{closed, path_items}
-use Rattle.ion_value.specs.Reading.{Finished, behind}
+use Rattle.ion_value.specs.Reading.{Finished, items_then}
 use Rattle.ion_value.specs.Value.{UserSymbol, Top}
 use Rattle.ion_symbols.specs.Resolved.{AreResolved}
 use Rattle.ion_symbols.specs.Table.{Shared, system}
@@ -38,7 +38,7 @@ use Rattle.ion_transcode.proofs.WrittenFits.{users-of-read-fit}
 
 -- what is asked for of binary, and comes to this target
 module _ (accepted : WhatIsReadIsAccepted) (other : List Shared) (limits : Limits) (us : List (Top UserSymbol ℕ)) (r : IsRead other limits.symbols us)
-    (read : binary_reading.reading limits (binary limits.symbols us) ≡ behind (path_items (closed r.raw)) Finished)
+    (read : binary_reading.reading limits (binary limits.symbols us) ≡ items_then (path_items (closed r.raw)) Finished)
     (resolved_are : AreResolved other limits.symbols system r.raw) where
   written-form : form_of (binary limits.symbols us) ≡ form.Binary
   written-form = ap form_of r.stream.begins.1
@@ -48,7 +48,7 @@ module _ (accepted : WhatIsReadIsAccepted) (other : List Shared) (limits : Limit
   read-again asked t to_is taken =
       let bytes : List ℕ = binary limits.symbols us in
       let to_target : resolved (form_of bytes) asked ≡ Some t = ap (λ (f : Form). resolved f asked) written-form ∙ to_is in
-      let as_read : reading_of (form_of bytes) limits bytes ≡ behind (path_items (closed r.raw)) Finished = ap (λ (f : Form). reading_of f limits bytes) written-form ∙ read in
+      let as_read : reading_of (form_of bytes) limits bytes ≡ items_then (path_items (closed r.raw)) Finished = ap (λ (f : Form). reading_of f limits bytes) written-form ∙ read in
       subst (λ (n : ℕ). HasVerdict other limits asked bytes (Accepted n) ((outputs_of t limits).whole_output r.users)) (same-length r.users us r.same)
       (accepted other limits asked bytes t r.raw r.users to_target as_read resolved_are r.users_are taken)
 
@@ -62,8 +62,8 @@ module _ (is_read : WhatIsAcceptedIsRead) (accepted : WhatIsReadIsAccepted) (val
       let f_is : f ≡ form.Text = of-text f asked to_is in
       let us : List (Top UserSymbol ℕ) = w.us in
       let stream : text_grammar.Stream bytes w.tops = subst (λ (g : Form). (encoding_of g).Stream bytes w.tops) f_is w.stream in
-      let read : text_reading.reading limits bytes ≡ behind (path_items (closed w.tops)) Finished =
-      subst (λ (g : Form). reading_of g limits bytes ≡ behind (path_items (closed w.tops)) Finished) f_is w.read in
+      let read : text_reading.reading limits bytes ≡ items_then (path_items (closed w.tops)) Finished =
+      subst (λ (g : Form). reading_of g limits bytes ≡ items_then (path_items (closed w.tops)) Finished) f_is w.read in
       let raw_are = raw bytes w.tops stream in
       let are : AreUsers us = values catalog w.tops us is_text raw_are w.users_are in
       let fits : AllByRecursion (FitsBinary limits) us =

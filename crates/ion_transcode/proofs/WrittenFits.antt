@@ -139,18 +139,18 @@ module _ (limits : Limits) where
   abbrev FromEach : List Shared → List (Top SymbolAt ℕ) → Type 0
   FromEach catalog tops = (t : Table) → IfSome (user_tops catalog t tops) TopsFit
 
-  tree-behind : (catalog : List Shared) (t : Table) (tops : List (Top SymbolAt ℕ)) (user : Top UserSymbol ℕ) (declares : Option (Members SymbolAt ℕ)) → TopFits user
+  tree-after : (catalog : List Shared) (t : Table) (tops : List (Top SymbolAt ℕ)) (user : Top UserSymbol ℕ) (declares : Option (Members SymbolAt ℕ)) → TopFits user
       → FromEach catalog tops
       → IfSome (elim declares [
         | Some members ↦ elim (next_table catalog (text_at t) t members) [ None ↦ None | Some u ↦ user_tops catalog u tops ]
         | None ↦ option_map (λ us. user ∷ us) (user_tops catalog t tops)
       ]) TopsFit
-  tree-behind catalog t tops user (Some members) fits later = by (next_table catalog (text_at t) t members)
+  tree-after catalog t tops user (Some members) fits later = by (next_table catalog (text_at t) t members)
     where
       by : (next : Option Table) → IfSome (elim next [ None ↦ None | Some u ↦ user_tops catalog u tops ]) TopsFit
       by None = tt
       by (Some u) = later u
-  tree-behind catalog t tops user None fits later = by (user_tops catalog t tops) (later t)
+  tree-after catalog t tops user None fits later = by (user_tops catalog t tops) (later t)
     where
       by : (others : Option (List (Top UserSymbol ℕ))) → IfSome others TopsFit → IfSome (option_map (λ us. user ∷ us) others) TopsFit
       by None k = tt
@@ -160,7 +160,7 @@ module _ (limits : Limits) where
   tops-fit numbers enough catalog [] raw h t = tt
   tops-fit numbers enough catalog (version place ∷ tops) raw h t = tops-fit numbers enough catalog tops raw.1 h.1 system
   tops-fit numbers enough catalog (tree first annotations place x ∷ tops) raw h t =
-      tree-behind catalog t tops (tree first (map (user_at t) annotations) place (map_value (user_at t) (λ (p : ℕ). p) x)) (declares_table t annotations x)
+      tree-after catalog t tops (tree first (map (user_at t) annotations) place (map_value (user_at t) (λ (p : ℕ). p) x)) (declares_table t annotations x)
       (tree-fits numbers enough t first annotations place x raw.0 h.0) (tops-fit numbers enough catalog tops raw.1 h.1)
 
   -- ---- both

@@ -5,7 +5,7 @@ use Rattle.ion_meter.specs.declared.fault.Reason.{Reason}
 use Rattle.ion_meter.specs.declared.limits.Limits.{Limits}
 use Rattle.ion_value.specs.Value.{SymbolAt, UserSymbol, Top}
 use Rattle.ion_value.specs.Path.{Path, closed, path_items}
-use Rattle.ion_value.specs.Reading.{Finished, behind}
+use Rattle.ion_value.specs.Reading.{Finished, items_then}
 use Rattle.ion_value.specs.Outcome.{Accepted}
 use Rattle.ion_symbols.specs.Table.{Shared, system}
 use Rattle.ion_symbols.specs.Resolved.{AreResolved}
@@ -42,7 +42,7 @@ AreTaken target.Nothing limits us = ⊤
 abbrev pub WhatIsReadIsAccepted : Type 0
 WhatIsReadIsAccepted =
     (catalog : List Shared) (limits : Limits) (to : To) (bytes : List ℕ) (target : Target) (tops : List (Top SymbolAt ℕ)) (us : List (Top UserSymbol ℕ))
-    → resolved (form_of bytes) to ≡ Some target → reading_of (form_of bytes) limits bytes ≡ behind (path_items (closed tops)) Finished
+    → resolved (form_of bytes) to ≡ Some target → reading_of (form_of bytes) limits bytes ≡ items_then (path_items (closed tops)) Finished
     → AreResolved catalog limits.symbols system tops → user_tops catalog system tops ≡ Some us → AreTaken target limits us
     → HasVerdict catalog limits to bytes (Accepted (length us)) ((outputs_of target limits).whole_output us)
 
@@ -59,7 +59,7 @@ pub record IsReadWhole (catalog : List Shared) (limits : Limits) (target : Targe
   pub tops : List (Top SymbolAt ℕ)
   pub us : List (Top UserSymbol ℕ)
   pub stream : (encoding_of (form_of bytes)).Stream bytes tops
-  pub read : reading_of (form_of bytes) limits bytes ≡ behind (path_items (closed tops)) Finished
+  pub read : reading_of (form_of bytes) limits bytes ≡ items_then (path_items (closed tops)) Finished
   pub resolved_are : AreResolved catalog limits.symbols system tops
   pub users_are : user_tops catalog system tops ≡ Some us
   pub taken : AreTaken target limits us

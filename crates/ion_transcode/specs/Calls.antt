@@ -34,7 +34,7 @@ pub record SaysSummary (read : Form) (due : Verdict) (answer : Result Summary Fa
   pub form : (s : Summary) → answer ≡ Ok s → s.form ≡ read
   pub rejected : (r : Reason) (p : ℕ) → answer ≡ Err (Refused r p) → due ≡ Rejected r p
 
--- behind what was written before stands the output that is due: all of it where the stream was accepted or refused, a prefix of it in any case
+-- after what was written before stands the output that is due: all of it where the stream was accepted or refused, a prefix of it in any case
 pub record WritesOutput {T : Type 0} (due : List ℕ) (answer : Result T Fault) (before after : List ℕ) : Type 0 where
   pub accepted : OnOk answer (after ≡ before ++ due)
   pub rejected : (r : Reason) (p : ℕ) → answer ≡ Err (Refused r p) → after ≡ before ++ due
@@ -122,13 +122,13 @@ pub record IsEmpty {O : Type 0} (sink : Outgoing O) : Type 0 where
 
 -- ---- what a call keeps
 
--- a writer behind all items
+-- a writer after all items
 pub record StaysSound {W O A : Type 0} (writer : WriterOf W O A) (before after : W) : Type 0 where
   pub sound : writer.sound after
   pub limits : writer.limits after ≡ writer.limits before
   pub most : writer.most after ≡ writer.most before
 
--- a reader, a writer and a sink behind all items
+-- a reader, a writer and a sink after all items
 pub record Joined {R W O A T : Type 0} (reader : ReaderOf R A) (writer : WriterOf W O A) (old new : UserReader R A) (before after : W) (answer : Result T Fault) (fault : Option Fault) : Type 0 where
   pub ready : IsReady reader.sound reader.opened reader.failed reader.ended new
   pub limits : new.limits ≡ old.limits
@@ -136,14 +136,14 @@ pub record Joined {R W O A T : Type 0} (reader : ReaderOf R A) (writer : WriterO
   pub stays : StaysSound writer before after
   pub well : StaysWell answer fault
 
--- the meter behind a stream whose windows are made: that on the input is given back, and no more was held than the share of text, nor, where a stream
+-- the meter after a stream whose windows are made: that on the input is given back, and no more was held than the share of text, nor, where a stream
 -- is accepted, than that of its form
 pub record GivesBackSource (limits : Limits) (to : To) (is_binary : Type 0) (answer : Result Summary Fault) (old new : Counts) : Type 0 where
   pub charges : Charges old new 4096 0 (4096 + share limits forms.Text to)
   pub charges_of_form : (s : Summary) → answer ≡ Ok s → Charges old new 4096 0 (4096 + share limits s.form to)
   pub charges_of_binary : is_binary → Charges old new 4096 0 (4096 + share limits forms.Binary to)
 
--- the meter behind a run: all is given back, and no more was held than the bound of text, nor, where a stream is accepted, than that of its form
+-- the meter after a run: all is given back, and no more was held than the bound of text, nor, where a stream is accepted, than that of its form
 pub record GivesBack (limits : Limits) (to : To) (is_binary : Type 0) (answer : Result Summary Fault) (old new : Counts) : Type 0 where
   pub held : new.held ≡ old.held
   pub peak : new.peak ≤ max old.peak (old.held + bound limits forms.Text to)

@@ -4,7 +4,7 @@ use Rattle.std.specs.List.{AllByRecursion}
 use Rattle.ion_meter.specs.declared.limits.Limits.{Limits}
 use Rattle.ion_value.specs.Outcome.{Accepted}
 use Rattle.ion_value.specs.Path.{closed, path_items}
-use Rattle.ion_value.specs.Reading.{Finished, behind}
+use Rattle.ion_value.specs.Reading.{Finished, items_then}
 use Rattle.ion_value.specs.Value as value
 use Rattle.ion_value.specs.Value.{SymbolAt, UserSymbol, Known, Unknown, Scalar, Value, Members, scalar, container, nothing, member, Top, version, tree, unplaced_top}
 use Rattle.ion_value.specs.Writable.{AreBytes}
@@ -82,7 +82,7 @@ pub record IsReadWithin (catalog : List Shared) (limits : Limits) (tops : List (
   pub raw : List (Top SymbolAt ℕ)
   pub users : List (Top UserSymbol ℕ)
   pub form : form_of (text tops) ≡ form.Text
-  pub read : reading limits (text tops) ≡ behind (path_items (closed raw)) Finished
+  pub read : reading limits (text tops) ≡ items_then (path_items (closed raw)) Finished
   pub resolved : AreResolved catalog limits.symbols system raw
   pub users_are : user_tops catalog system raw ≡ Some users
   pub same : map unplaced_top users ≡ map unplaced_top tops

@@ -8,9 +8,9 @@ use Rattle.ion_value.specs.Outcome.{Rejected}
 use Rattle.ion_symbols.specs.Table.{Shared, Table, system}
 use Rattle.ion_symbols.specs.Users as users
 use Rattle.ion_symbols.specs.Tree.{user_at, user_tops}
-use Rattle.ion_symbols.specs.Laws.{table_behind, map_nest, open_declaration}
+use Rattle.ion_symbols.specs.Laws.{table_after, map_nest, open_declaration}
 use Rattle.ion_binary.specs.Canonical.{binary}
-use Rattle.ion_binary.specs.Refusals.{refused_behind}
+use Rattle.ion_binary.specs.Refusals.{refused_after}
 use Rattle.ion_text_out.specs.Text.{path_text}
 use Rattle.ion_transcode.specs.declared.to.Form.{Form}
 use Rattle.ion_transcode.specs.declared.to.To.{To}
@@ -22,16 +22,16 @@ use Rattle.ion_transcode.specs.Forms.{form_of, encoding_of}
 use Rattle.ion_transcode.specs.Verdict.{Faultless, next_fault, HasVerdict}
 
 -- the user values of a path: its whole values without version markers and declarations, and the containers that are open with their symbols as
--- they are in the table behind these, unless they are a declaration's
+-- they are in the table after these, unless they are a declaration's
 pub data IsUserPath (catalog : List Shared) : Path SymbolAt ℕ → Path UserSymbol ℕ → Type 0 where
   none_open : (tops : List (Top SymbolAt ℕ)) (us : List (Top UserSymbol ℕ)) → user_tops catalog system tops ≡ Some us
       → IsUserPath catalog (closed tops) (closed us)
   value_open : (tops : List (Top SymbolAt ℕ)) (us : List (Top UserSymbol ℕ)) (t : Table) (first : ℕ) (nest : Nest SymbolAt ℕ)
-      → user_tops catalog system tops ≡ Some us → table_behind catalog system tops ≡ Some t → open_declaration t nest ≡ None
+      → user_tops catalog system tops ≡ Some us → table_after catalog system tops ≡ Some t → open_declaration t nest ≡ None
       → IsUserPath catalog (opened tops first nest) (opened us first (map_nest (user_at t) nest))
   declaration_open : (tops : List (Top SymbolAt ℕ)) (us : List (Top UserSymbol ℕ)) (t : Table) (first : ℕ) (nest : Nest SymbolAt ℕ)
       (members : Members SymbolAt ℕ)
-      → user_tops catalog system tops ≡ Some us → table_behind catalog system tops ≡ Some t → open_declaration t nest ≡ Some members
+      → user_tops catalog system tops ≡ Some us → table_after catalog system tops ≡ Some t → open_declaration t nest ≡ Some members
       → IsUserPath catalog (opened tops first nest) (closed us)
 
 -- the user items of a path are those of a path of user values
@@ -55,13 +55,13 @@ path_output target.Text limits path = path_text path
 path_output target.Binary limits path = binary limits.symbols (whole_tops path)
 path_output target.Nothing limits path = []
 
--- the reason and the place for which the target's writer refuses an item behind a path of user values, if it does
+-- the reason and the place for which the target's writer refuses an item after a path of user values, if it does
 abbrev pub path_refusal : Target → Limits → Path UserSymbol ℕ → PlacedItem → Option (Reason × ℕ)
 path_refusal target.Text limits path item = None
-path_refusal target.Binary limits path item = refused_behind limits path item
+path_refusal target.Binary limits path item = refused_after limits path item
 path_refusal target.Nothing limits path item = None
 
--- the output of a stream that is refused is that of the user values of a path that its bytes spell, which is faultless, and behind
+-- the output of a stream that is refused is that of the user values of a path that its bytes spell, which is faultless, and after
 -- which the next item has this fault as its first one
 pub record IsRefusedOutput (e : Encoding) (to : Target) (catalog : List Shared) (limits : Limits) (bytes : List ℕ) (reason : Reason) (place : ℕ) (out : List ℕ) : Type 0 where
   pub path : Path SymbolAt ℕ

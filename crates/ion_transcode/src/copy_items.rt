@@ -6,7 +6,7 @@ ghost use Rattle.ion_value.specs.Items.{raw_head};
 ghost use Rattle.ion_value.specs.Standing.{open_after};
 ghost use Rattle.ion_value.specs.Reading.{items_of};
 ghost use Rattle.ion_value.specs.Shares.{Charges};
-ghost use Rattle.ion_value.specs.Outcome.{one_if_closed, verdict_behind, output_behind};
+ghost use Rattle.ion_value.specs.Outcome.{one_if_closed, verdict_after, output_after};
 ghost use Rattle.ion_symbols.specs.User.{coming_to, owned_by, share_of};
 ghost use Rattle.ion_transcode.specs.Calls.{Causes, HasRoom, IsAtStart, Joined, MayWrite};
 ghost use Rattle.ion_transcode.specs.Calls.{PutsOutput, SaysVerdict};
@@ -24,7 +24,7 @@ use std::alloc::Allocator;
 
 // How many containers are open after an item.
 #[inline]
-fn level_behind(level: u32, head: &Head<'_>) -> u32
+fn depth_after(level: u32, head: &Head<'_>) -> u32
     requires { level ≤ 65535 }
     ensures { (kinds : List Kind) → length kinds ≡ level
         → length (open_after kinds (raw_head head.now)) ≡ result }
@@ -38,7 +38,7 @@ fn level_behind(level: u32, head: &Head<'_>) -> u32
 
 // One value more where no container is open.
 #[inline]
-fn values_behind(values: u64, level: u32) -> u64
+fn values_after(values: u64, level: u32) -> u64
     requires { values < 2 ^ 64 - 1 }
     ensures { (kinds : List Kind) → length kinds ≡ level
         → result ≡ values + one_if_closed kinds }
@@ -89,10 +89,10 @@ pub fn copy_items<R: RawReader<A>, W: ValueWriter<O, A>, O: Output, A: Allocator
     requires reader { IsAtStart R.RawReader reader.old }
     requires writer { MayWrite W.ValueWriter (R.depth reader.old.raw) writer.old sink.old }
     ensures says { R.observable reader.old.raw
-        → SaysVerdict (verdict_behind (W.refusal (W.limits writer.old)) []
+        → SaysVerdict (verdict_after (W.refusal (W.limits writer.old)) []
         (coming_to R.reading reader.old)) result }
     ensures puts { R.observable reader.old.raw → O.observable sink.old.device
-        → PutsOutput (output_behind (W.puts (W.limits writer.old))
+        → PutsOutput (output_after (W.puts (W.limits writer.old))
         (W.refusal (W.limits writer.old)) [] (coming_to R.reading reader.old)) result
         (so_far O.written sink.old) (so_far O.written sink.new)
         (O.written sink.new.device) }
@@ -121,8 +121,8 @@ pub fn copy_items<R: RawReader<A>, W: ValueWriter<O, A>, O: Output, A: Allocator
         if let Err(fault) = writer.item(meter, sink, &item) {
             return Err(fault);
         }
-        let now = level_behind(level, &head);
-        let ended = values_behind(values, now);
+        let now = depth_after(level, &head);
+        let ended = values_after(values, now);
         let fed = reader.feed(meter, writer, sink);
         level = fed.level;
         values = ended + fed.values;

@@ -4,7 +4,7 @@ ghost use Rattle.ion_meter.specs.declared.fault.Fault.TheVariants.{WriteFault};
 ghost use Rattle.ion_meter.specs.Windows.{so_far, HasPrefix};
 ghost use Rattle.ion_value.specs.Reading.{items_of};
 ghost use Rattle.ion_value.specs.Shares.{Charges};
-ghost use Rattle.ion_value.specs.Outcome.{verdict_behind, output_behind};
+ghost use Rattle.ion_value.specs.Outcome.{verdict_after, output_after};
 ghost use Rattle.ion_symbols.specs.Users.{at_start, users};
 ghost use Rattle.ion_transcode.specs.Calls.{Causes, HasRoom, IsFresh, MayWrite, PassesOn};
 ghost use Rattle.ion_transcode.specs.Calls.{PutsOutput, SaysVerdict, StaysSound, StaysWell, WritesOutput};
@@ -68,10 +68,10 @@ pub fn copy_stream<R: RawReader<A>, W: ValueWriter<O, A>, O: Output, A: Allocato
     requires reader { IsFresh R.RawReader limits raw }
     requires writer { MayWrite W.ValueWriter (R.depth raw) writer.old sink.old }
     ensures says { R.observable raw
-        → SaysVerdict (verdict_behind (W.refusal (W.limits writer.old)) []
+        → SaysVerdict (verdict_after (W.refusal (W.limits writer.old)) []
         (users catalog.now limits.symbols at_start (R.reading raw))) result.0 }
     ensures writes { R.observable raw → O.observable sink.old.device
-        → WritesOutput (output_behind (W.puts (W.limits writer.old))
+        → WritesOutput (output_after (W.puts (W.limits writer.old))
         (W.refusal (W.limits writer.old)) []
         (users catalog.now limits.symbols at_start (R.reading raw))) result.0
         (so_far O.written sink.old) (O.written sink.new.device) }

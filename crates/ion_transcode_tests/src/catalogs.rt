@@ -116,7 +116,7 @@ b::$9::{name:"x"}|CatalogEntry 0|
 $9::null.struct|CatalogEntry 0|
  $9::[]|CatalogEntry 1|
 $9::{}|CatalogEntry 0|
-# Found at the field, before what is behind it is read.
+# Found at the field, before what is after it is read.
 $9::{name:"","|CatalogEntry 0|
 $9::{name:"$ion","|CatalogEntry 0|
 $9::{name:x,"|CatalogEntry 0|

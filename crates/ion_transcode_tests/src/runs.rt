@@ -174,7 +174,7 @@ a::|Truncated 3||
 [1 "a|BadToken 3|[1|
 {nan:1}|BadToken 1|{|
 2000-02-30T|BadTimestamp 0||
-# The item is given before the comment behind it is refused.
+# The item is given before the comment after it is refused.
 a /*|Truncated 2|a%0A|
 '''a''' '''b|Truncated 0||
 # Declarations are no values.

@@ -78,7 +78,7 @@ a b|2|%E0%01%00%EA%EA%81%83%D7%86%71%03%87%B2%81%61%71%0A%E0%01%00%EA%EA%81%83%D
 [a,b]|SymbolLimit 3|%E0%01%00%EA|symbols=33|
 [a,b]|1|%E0%01%00%EA%EC%81%83%D9%86%71%03%87%B4%81%61%81%62%B4%71%0A%71%0B|symbols=34|
 a b a|3|%E0%01%00%EA%EA%81%83%D7%86%71%03%87%B2%81%61%71%0A%EA%81%83%D7%86%71%03%87%B2%81%62%71%0B%E0%01%00%EA%EA%81%83%D7%86%71%03%87%B2%81%61%71%0A|symbols=40|
-# Neither behind the last value nor before one that is refused.
+# Neither after the last value nor before one that is refused.
 a|1|%E0%01%00%EA%EA%81%83%D7%86%71%03%87%B2%81%61%71%0A|symbols=17|
 a bc|SymbolLimit 2|%E0%01%00%EA%EA%81%83%D7%86%71%03%87%B2%81%61%71%0A|symbols=17|
 "#;

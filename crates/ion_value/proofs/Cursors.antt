@@ -22,13 +22,13 @@ pub moves-not : {I : Type 0} (device : InputOf I) (s : Incoming I) → Moves dev
 moves-not device s = record { still_observable = (λ h. h, λ h. h); limit = refl; further = omega arith; total = λ h. refl; bytes = λ h. h }
 
 -- the reason of one call as that of another
-pub answers-refused : {T U A B : Type 0} (view : T → A) (shown : U → B) (fault : Fault) (behind after : Cursor) (place : ℕ) (one : Result (A × Cursor) Reason) (all : Result (B × Cursor) Reason)
-    → Answers view (Err fault) behind place one → ((e : Reason) → one ≡ Err e → all ≡ Err e) → Answers shown (Err fault) after place all
-answers-refused view shown (Refused reason at) behind after place one all h k = (k reason h.0, h.1)
-answers-refused view shown Memory behind after place one all h k = tt
-answers-refused view shown ReadFault behind after place one all h k = tt
-answers-refused view shown WriteFault behind after place one all h k = tt
-answers-refused view shown InputLimit behind after place one all h k = tt
+pub answers-refused : {T U A B : Type 0} (view : T → A) (shown : U → B) (fault : Fault) (after next : Cursor) (place : ℕ) (one : Result (A × Cursor) Reason) (all : Result (B × Cursor) Reason)
+    → Answers view (Err fault) after place one → ((e : Reason) → one ≡ Err e → all ≡ Err e) → Answers shown (Err fault) next place all
+answers-refused view shown (Refused reason at) after next place one all h k = (k reason h.0, h.1)
+answers-refused view shown Memory after next place one all h k = tt
+answers-refused view shown ReadFault after next place one all h k = tt
+answers-refused view shown WriteFault after next place one all h k = tt
+answers-refused view shown InputLimit after next place one all h k = tt
 
 -- more was read, and the source stands where it stood
 pub cursor-extends : {I : Type 0} (device : InputOf I) (s t : Incoming I) → Extends device.rest device.observable s t → device.observable s.device → cursor device t ≡ cursor device s

@@ -6,7 +6,7 @@ use Rattle.std.proofs.lemmas.List.{take-append-drop, take_at}
 use Rattle.ion_value.specs.declared.var.Signed.{Signed}
 use Rattle.ion_value.specs.Number.{IsVar, VarUInt, VarInt, var_cut, var_uint, var_int_negative, var_int_magnitude}
 
--- octets of which the last alone has the high bit, and anything behind them, are cut there
+-- octets of which the last alone has the high bit, and anything after them, are cut there
 pub var_cut-IsVar : (most : ℕ) (e c : List ℕ) → IsVar e → length e ≤ most → var_cut most (e ++ c) ≡ Some (e, c)
 unfolding var_cut
 var_cut-IsVar zero [] c ends short = absurd ends

@@ -217,7 +217,7 @@ decimal_body-DecimalBody d range =
           rw some (subst P same (parts z (exponent_octets d.exponent) c exponent))
     ]
 
--- octets behind octets
+-- octets after octets
 Below-right : (base : ℕ) (xs ys : List ℕ) → Below base (xs ++ ys) → Below base ys
 Below-right base [] ys h = h
 Below-right base (x ∷ xs) ys h = Below-right base xs ys h.1

@@ -68,7 +68,7 @@ pub sign-bit : (k : ℕ) → 0 < k → k ≤ 9 → 64 * 2 ^ (7 * (k - 1)) % 2 ^ 
 sign-bit k some short =
     shl_whole 64 7 (7 * (k - 1)) 64 (omega arith) (omega arith) ∙ rw (pow-128 (k - 1)) refl
 
--- one octet behind others
+-- one octet after others
 pub var_uint-push : (b : List ℕ) (x : ℕ) → var_uint (b ++ x ∷ []) ≡ var_uint b * 128 + x % 128
 var_uint-push b x = rw map-append (number-append_one 128 (sevens b) (x % 128))
 

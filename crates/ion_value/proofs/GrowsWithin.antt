@@ -45,9 +45,9 @@ grows-on device s t u a b k l first then one =
     grows-more a b k l (8 * passed_over s t) (8 * passed_over s u) (omega (arith, sum)) one
 
 -- or for which a byte more was passed over, and that then takes at most 8
-pub grows-behind : {I : Type 0} (device : InputOf I) (s t u : Incoming I) (a b c : Counts) (k l n y : ℕ) → b.held + k ≡ a.held + l → Moves device s t → Moves device t u → 1 ≤ passed_over t u
+pub grows-after : {I : Type 0} (device : InputOf I) (s t u : Incoming I) (a b c : Counts) (k l n y : ℕ) → b.held + k ≡ a.held + l → Moves device s t → Moves device t u → 1 ≤ passed_over t u
     → y ≤ 8 → GrowsWithin a b k l (8 * passed_over s t) → GrowsWithin b c l n y → GrowsWithin a c k n (8 * passed_over s u)
-grows-behind device s t u a b c k l n y held first then some few one two =
+grows-after device s t u a b c k l n y held first then some few one two =
     let sum = passed-then device s t u first then in let own = one.own in
     grows-then a b c k l n (8 * passed_over s t) y (8 * passed_over s u) held one two (omega (arith, sum)) (omega (arith, sum, own, some, few))
 

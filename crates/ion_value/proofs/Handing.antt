@@ -1,4 +1,4 @@
--- A plain item that a writer takes goes from a reader to it, and the writer can take what comes behind it.
+-- A plain item that a writer takes goes from a reader to it, and the writer can take what comes after it.
 use Rattle.std.proofs.Common.{◌≡◌, ℕ, ◌+◌, false, List, [], ◌∷◌, ◌++◌, map, Option, Some, None, refl, sym, ap, subst, ◌∙◌}
 use Rattle.std.specs.Prelude.{option_map}
 use Rattle.ion_meter.specs.Counts.{Counts}
@@ -11,10 +11,10 @@ use Rattle.ion_value.specs.Items.{named, named_at, named_item, text_or_id}
 use Rattle.ion_value.specs.Outcome.{one_if_closed}
 use Rattle.ion_value.specs.PlainItems.{HasKnownName, HasNoDollar, HaveNoDollar, IsKnown, IsKnownOrZero, IsPlainHead, IsPlainItem}
 use Rattle.ion_value.specs.Reading.{Finished, Reading, More}
-use Rattle.ion_value.specs.Standing.{open_after, open_behind, is_marker, Continues, Fits}
+use Rattle.ion_value.specs.Standing.{open_after, open_after_all, is_marker, Continues, Fits}
 use Rattle.ion_value.specs.Value as value
 use Rattle.ion_value.specs.Value.{Symbol, SymbolAt, Scalar, Head, PlacedItem, map_head, map_scalar}
-use Rattle.ion_value.proofs.Outcomes.{open_behind-append}
+use Rattle.ion_value.proofs.Outcomes.{open_after_all-append}
 
 -- ---- texts stay as they are
 
@@ -100,20 +100,20 @@ hands-same f h = record {
   puts = h.puts;
 }
 
--- behind an item the writer can take the next one
+-- after an item the writer can take the next one
 pub takes-more : {W O A : Type 0} (w : WriterOf W O A) (see : PlacedItem → PlacedItem) (reads : Type 0) (old new : Joint W) (depth depth_then : ℕ) (from to : Outgoing O) (earlier later : Counts)
     → CanTake w depth old.opened old.writer from → Hands w see reads old new → StaysWell w old.writer new.writer from to earlier later → depth_then ≡ depth → CanTake w depth_then new.opened new.writer to
 takes-more w see reads old new depth depth_then from to earlier later t h s e =
-    let path = t.behind.0 in
+    let path = t.after.0 in
     record {
       sound = s.sound;
       fresh = s.failed ∙ t.fresh;
       well = s.fault ∙ t.well;
       depth_of = ap (λ (l : Limits). l.depth) s.limits ∙ (t.depth_of ∙ sym e);
-      behind = (
+      after = (
         path ++ see h.item ∷ [],
-        h.stands path t.behind.1 t.behind.2,
-        open_behind-append [] path (see h.item) ∙ (ap (λ k. open_after k (see h.item).head) t.behind.2 ∙ sym h.opens),
+        h.stands path t.after.1 t.after.2,
+        open_after_all-append [] path (see h.item) ∙ (ap (λ k. open_after k (see h.item).head) t.after.2 ∙ sym h.opens),
       );
     }
 
@@ -129,9 +129,9 @@ finished-feeds w see reads old new (more now _ feeds hands) r ends =
 
 module _ {W O A : Type 0} (w : WriterOf W O A) where
   -- it continues each path where these are open
-  continues : (limits : Limits) (depth : ℕ) (opened : List Kind) (path : List PlacedItem) (item : PlacedItem) → limits.depth ≡ depth → Stands depth opened item → open_behind [] path ≡ opened → Continues limits path item
+  continues : (limits : Limits) (depth : ℕ) (opened : List Kind) (path : List PlacedItem) (item : PlacedItem) → limits.depth ≡ depth → Stands depth opened item → open_after_all [] path ≡ opened → Continues limits path item
   continues limits depth opened path item deep s kinds = record {
-    fits = subst (λ (n : ℕ). Fits n (open_behind [] path) item) (sym deep) (subst (λ (l : List Kind). Fits depth l item) (sym kinds) s.fits);
+    fits = subst (λ (n : ℕ). Fits n (open_after_all [] path) item) (sym deep) (subst (λ (l : List Kind). Fits depth l item) (sym kinds) s.fits);
     value = s.value;
   }
 
@@ -139,28 +139,28 @@ module _ {W O A : Type 0} (w : WriterOf W O A) where
   pub may-take : (depth : ℕ) (opened : List Kind) (writer : W) (sink : Outgoing O) (item : PlacedItem) → CanTake w depth opened writer sink → Stands depth opened item
       → (path : List PlacedItem) × w.stands writer path × Continues (w.limits writer) path item
   may-take depth opened writer sink item can s =
-      let b = can.behind in
+      let b = can.after in
       (b.0, b.1, continues (w.limits writer) depth opened b.0 item can.depth_of s b.2)
 
-  pub can-took : (depth : ℕ) (opened after : List Kind) (old new : W) (before behind : Outgoing O) (m k : Counts) (item : PlacedItem) → CanTake w depth opened old before → Stands depth opened item
-      → Took w item old new before behind m k → after ≡ open_after opened item.head → CanTake w depth after new behind
-  can-took depth opened after old new before behind m k item can s took opens =
-      let b = can.behind in
+  pub can-took : (depth : ℕ) (opened next : List Kind) (old new : W) (before after : Outgoing O) (m k : Counts) (item : PlacedItem) → CanTake w depth opened old before → Stands depth opened item
+      → Took w item old new before after m k → next ≡ open_after opened item.head → CanTake w depth next new after
+  can-took depth opened next old new before after m k item can s took opens =
+      let b = can.after in
       let stood = took.stands b.0 b.1 (continues (w.limits old) depth opened b.0 item can.depth_of s b.2) in
       record {
         sound = took.sound;
         fresh = took.failed ∙ can.fresh;
         well = took.fault ∙ can.well;
         depth_of = ap (λ (l : Limits). l.depth) took.limits ∙ can.depth_of;
-        behind = (b.0 ++ item ∷ [], stood.0, open_behind-append [] b.0 item ∙ (ap (λ (l : List Kind). open_after l item.head) b.2 ∙ sym opens));
+        after = (b.0 ++ item ∷ [], stood.0, open_after_all-append [] b.0 item ∙ (ap (λ (l : List Kind). open_after l item.head) b.2 ∙ sym opens));
       }
 
   -- an item goes to the writer, which has it as it is seen
-  pub hands-seen : (see : PlacedItem → PlacedItem) (reads : Type 0) (depth : ℕ) (old new : Joint W) (before behind : Outgoing O) (m k : Counts) (item seen : PlacedItem) → see item ≡ seen
-      → CanTake w depth old.opened old.writer before → Stands depth old.opened seen → Took w seen old.writer new.writer before behind m k → old.pending ≡ before.pending → new.pending ≡ behind.pending
+  pub hands-seen : (see : PlacedItem → PlacedItem) (reads : Type 0) (depth : ℕ) (old new : Joint W) (before after : Outgoing O) (m k : Counts) (item seen : PlacedItem) → see item ≡ seen
+      → CanTake w depth old.opened old.writer before → Stands depth old.opened seen → Took w seen old.writer new.writer before after m k → old.pending ≡ before.pending → new.pending ≡ after.pending
       → (reads → old.coming ≡ More item new.coming) → new.opened ≡ open_after old.opened seen.head → new.values ≡ old.values + one_if_closed new.opened
       → Hands w see reads old new
-  hands-seen see reads depth old new before behind m k item seen is can s took p q gives opens counts = record {
+  hands-seen see reads depth old new before after m k item seen is can s took p q gives opens counts = record {
     item = item;
     plain = subst IsPlainItem (sym is) s.plain;
     fits = subst (λ (i : PlacedItem). Fits (w.limits old.writer).depth old.opened i) (sym is) (subst (λ (n : ℕ). Fits n old.opened seen) (sym can.depth_of) s.fits);

@@ -109,20 +109,20 @@ pub prefix-many : (prefix bytes : List ℕ) (high low count others : ℕ) (d : D
 prefix-many prefix bytes high low count others d long all is_high are is_low more value total rest =
     let first = take count bytes in
     let second = take others (drop count bytes) in
-    let behind = drop others (drop count bytes) in
-    let whole : (prefix ++ (first ++ second)) ++ behind ≡ prefix ++ bytes =
+    let after = drop others (drop count bytes) in
+    let whole : (prefix ++ (first ++ second)) ++ after ≡ prefix ++ bytes =
     simp append_assoc (ap (λ zs. prefix ++ (first ++ zs)) (take-append-drop others (drop count bytes)) ∙ ap (λ zs. prefix ++ zs) (take-append-drop count bytes)) in
     let digits : all_are is_digit (prefix ++ (first ++ second)) ≡ true = simp (all_are-append is_digit, all, are.digits, more.digits) in
     let counted : 19 + count + others ≡ length (prefix ++ (first ++ second)) =
     simp length-append (omega (arith, length-take-le count bytes are.within, length-take-le others (drop count bytes) more.within)) in
-    prefix-cut (prefix ++ bytes) (prefix ++ (first ++ second)) behind d digits (none-first (drop count bytes) others more) whole (total ∙ counted) rest
+    prefix-cut (prefix ++ bytes) (prefix ++ (first ++ second)) after d digits (none-first (drop count bytes) others more) whole (total ∙ counted) rest
     (λ few.
     let none : others ≡ 0 = no_others bytes count others are more (omega (arith, leb-true d.count 38 few)) in
     let alone : first ++ second ≡ first = rw none (append-nil first) in
     let long_first : length (map digit_value first) ≡ count = simp length-map (length-take-le count bytes are.within) in
     rw (alone, map-append digit_value prefix first, number-append 10 (map digit_value prefix) (map digit_value first), long_first, is_high, ← is_low) value)
 
--- the digits at the front, and what stands behind them
+-- the digits at the front, and what stands after them
 pub cut-parts : (bytes : List ℕ) → let cut : List ℕ × List ℕ = cut_at is_no_digit bytes in
     (all_are is_digit cut.0 ≡ true) × (first_is is_digit cut.1 ≡ false) × (cut.0 ++ cut.1 ≡ bytes)
 unfolding cut_at

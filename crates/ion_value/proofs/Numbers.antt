@@ -10,7 +10,7 @@ use Rattle.ion_value.specs.Number.{number, IsVar, sevens, var_uint, VarUInt, uin
 pow_one : (b : ℕ) → b ^ 1 ≡ b
 pow_one b = pow_more b 0 ∙ rw pow-zero (omega arith)
 
--- digits behind digits
+-- digits after digits
 pub number-append : (base : ℕ) (xs ys : List ℕ) → number base (xs ++ ys) ≡ number base xs * base ^ length ys + number base ys
 number-append base [] ys = omega arith
 number-append base (x ∷ xs) ys =
@@ -62,7 +62,7 @@ append-lt base n i d small digit =
     let whole : suc n * base ≤ base ^ i * base = mul-le-mul_right base small in
     omega (arith, pow_more base i)
 
--- an octet behind at most fifteen stays within 128 bits
+-- an octet after at most fifteen stays within 128 bits
 pub octet-fits : (n i d : ℕ) → n < 256 ^ i → i < 16 → d < 256 → n * 256 + d < 2 ^ 128
 octet-fits n i d small few octet =
     let step : n * 256 + d < 256 ^ (i + 1) = append-lt 256 n i d small octet in
@@ -70,7 +70,7 @@ octet-fits n i d small few octet =
     let powers : 256 ^ (i + 1) ≤ 256 ^ 16 = pow-le-pow_right {n = 256} (omega arith) last in
     omega arith
 
--- seven bits behind at most eight times seven stay within 63 bits
+-- seven bits after at most eight times seven stay within 63 bits
 pub seven-fits : (n i d : ℕ) → n < 128 ^ i → i < 9 → d < 128 → n * 128 + d < 2 ^ 63
 seven-fits n i d small few seven =
     let step : n * 128 + d < 128 ^ (i + 1) = append-lt 128 n i d small seven in

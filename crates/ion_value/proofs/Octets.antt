@@ -39,7 +39,7 @@ Below-push : (base : ℕ) (ds : List ℕ) (d : ℕ) → Below base ds → d < ba
 Below-push base [] d h small = (small, tt)
 Below-push base (e ∷ ds) d h small = (h.0, Below-push base ds d h.1 small)
 
--- octets without the high bit, and one behind them
+-- octets without the high bit, and one after them
 pub octets-push : (ds : List ℕ) (d : ℕ) → ((k : ℕ) → k < length ds → get_or ds k 0 < 128) → d < 256 → All (λ octet. octet < 256) (ds ++ d ∷ [])
 octets-push ds d low small =
     All-Below 256 (ds ++ d ∷ []) (Below-push 256 ds d (Below-from 256 ds (λ k lt. omega (arith, low k lt))) small)
@@ -92,7 +92,7 @@ quotient-le base n k two h =
     let twice : suc n / base * 2 ≤ suc n / base * base = mul-le-mul_left (suc n / base) two in
     omega arith
 
--- one digit more behind those of the quotient
+-- one digit more after those of the quotient
 Digits-push : (base n : ℕ) (ds : List ℕ) → 2 ≤ base → Digits base (suc n / base) ds → Digits base (suc n) (ds ++ (suc n % base) ∷ [])
 Digits-push base n ds two rest =
     let split : suc n / base * base + suc n % base ≡ suc n = div-add-mod' (suc n) base in

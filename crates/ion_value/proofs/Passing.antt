@@ -34,14 +34,14 @@ pub record Passed {I : Type 0} (device : InputOf I) (old new : Incoming I) (n : 
   pub stands : Stands new
   pub moves : Moves device old new
   pub place : new.place ≡ old.place + n
-  pub behind : device.observable old.device → left device.rest new ≡ drop n (left device.rest old)
+  pub after : device.observable old.device → left device.rest new ≡ drop n (left device.rest old)
 
 pub Passed-then : {I : Type 0} (device : InputOf I) (s t u : Incoming I) (m n : ℕ) → Passed device s t m → Passed device t u n → Passed device s u (m + n)
 Passed-then device s t u m n a b = record {
   stands = b.stands;
   moves = moves-then device s t u a.moves b.moves;
   place = omega (arith, a.place, b.place);
-  behind = λ h. b.behind (a.moves.still_observable.1 h) ∙ (ap (λ (l : List ℕ). drop n l) (a.behind h) ∙ drop-drop n m (left device.rest s));
+  after = λ h. b.after (a.moves.still_observable.1 h) ∙ (ap (λ (l : List ℕ). drop n l) (a.after h) ∙ drop-drop n m (left device.rest s));
 }
 
 -- octets that the window lends were passed over, more of the device having been read
@@ -59,12 +59,12 @@ Passed-lent device s p t n h kept well fits passed =
         bytes = λ b t'. subst AreBytes (kept.same_left t') ((IsPassed-moves device p t n fits passed).bytes b (kept.still_observable.1 t'));
       };
       place = omega (arith, passed.place, kept.place);
-      behind = λ t'. IsPassed-left device.rest p t n w.0 passed ∙ ap (λ (l : List ℕ). drop n l) (kept.same_left t');
+      after = λ t'. IsPassed-left device.rest p t n w.0 passed ∙ ap (λ (l : List ℕ). drop n l) (kept.same_left t');
     }
 
--- a prefix of octets, and the next of them behind it
-pub take_on : (all text behind next : List ℕ) (n : ℕ) → text ≡ take (length text) all → behind ≡ drop (length text) all → next ≡ take n behind
+-- a prefix of octets, and the next of them after it
+pub take_on : (all text after next : List ℕ) (n : ℕ) → text ≡ take (length text) all → after ≡ drop (length text) all → next ≡ take n after
     → text ++ next ≡ take (length text + n) all
-take_on all text behind next n prefix rest piece =
+take_on all text after next n prefix rest piece =
     ap (λ (l : List ℕ). text ++ l) (piece ∙ ap (λ (l : List ℕ). take n l) rest)
     ∙ (ap (λ (l : List ℕ). l ++ take n (drop (length text) all)) prefix ∙ sym (take-add (length text) n all))

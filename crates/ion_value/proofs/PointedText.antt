@@ -27,7 +27,7 @@ pointed-written n k p xs whole point text ds e f a b c =
     ∙ append_assoc xs (decimal (n / 10 ^ k)) (46 ∷ fixed_digits k n)
     )
 
--- what stands before the point is the shorter the more stands behind it
+-- what stands before the point is the shorter the more stands after it
 pub whole-short : (n k p : ℕ) (ds : List ℕ) → p ≡ 10 ^ k → ds ≡ decimal (n / p) → n < 2 ^ 128 → k ≤ 38 → length ds ≤ 39 - k
 whole-short n k p ds e f small few =
     let whole : 39 - k + k ≡ 39 = omega arith in

@@ -1,12 +1,12 @@
--- How a reading behind items ends, and that of two prefixes of one list one begins the other.
+-- How a reading after items ends, and that of two prefixes of one list one begins the other.
 use Rattle.std.proofs.Common.{◌≡◌, ◌⊎◌, inl, inr, List, [], ◌∷◌, ◌++◌, refl, ap}
 use Rattle.ion_value.specs.Value.{PlacedItem}
-use Rattle.ion_value.specs.Reading.{Reading, behind}
+use Rattle.ion_value.specs.Reading.{Reading, items_then}
 use Rattle.ion_value.specs.ReadingLaws.{ending_of, IsBegun}
 
-pub ending_of-behind : (items : List PlacedItem) (r : Reading) → ending_of (behind items r) ≡ ending_of r
-ending_of-behind [] r = refl
-ending_of-behind (item ∷ items) r = ending_of-behind items r
+pub ending_of-items_then : (items : List PlacedItem) (r : Reading) → ending_of (items_then items r) ≡ ending_of r
+ending_of-items_then [] r = refl
+ending_of-items_then (item ∷ items) r = ending_of-items_then items r
 
 begun-more : (item : PlacedItem) (xs ys : List PlacedItem) → IsBegun xs ys → IsBegun (item ∷ xs) (item ∷ ys)
 begun-more item xs ys begun = (begun.0, ap (λ l. item ∷ l) begun.1)

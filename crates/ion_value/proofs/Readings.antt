@@ -1,19 +1,19 @@
 -- Laws of readings that are made of steps.
 use Rattle.std.proofs.Common.{arith, refl, ap, ◌∙◌, ◌≡◌, ℕ, zero, suc, ◌<◌, List, [], ◌∷◌, ◌++◌}
 use Rattle.ion_value.specs.Value.{PlacedItem}
-use Rattle.ion_value.specs.Reading.{Reading, Finished, More, items_of, behind, Step, Ends, Stops, Gives, GoesOn, Leaves, behind_item, behind_nothing, next_reading, reading_for, reading_by, Shrinks}
+use Rattle.ion_value.specs.Reading.{Reading, Finished, More, items_of, items_then, Step, Ends, Stops, Gives, GoesOn, Leaves, after_item, after_nothing, next_reading, reading_for, reading_by, Shrinks}
 
--- what is read behind items and then others is read behind all of them
-pub behind-append : (xs ys : List PlacedItem) (r : Reading) → behind (xs ++ ys) r ≡ behind xs (behind ys r)
-behind-append [] ys r = refl
-behind-append (x ∷ xs) ys r = ap (More x) (behind-append xs ys r)
+-- what is read after items and then others is read after all of them
+pub items_then-append : (xs ys : List PlacedItem) (r : Reading) → items_then (xs ++ ys) r ≡ items_then xs (items_then ys r)
+items_then-append [] ys r = refl
+items_then-append (x ∷ xs) ys r = ap (More x) (items_then-append xs ys r)
 
--- readings that agree behind a step agree before it
-next_same : {T : Type 0} (f g : T → Reading) (o : Step T) → ((after : T) → Leaves o after → f after ≡ g after) → next_reading f o ≡ next_reading g o
+-- readings that agree after a step agree before it
+next_same : {T : Type 0} (f g : T → Reading) (o : Step T) → ((next : T) → Leaves o next → f next ≡ g next) → next_reading f o ≡ next_reading g o
 next_same f g Ends h = refl
 next_same f g (Stops reason place) h = refl
-next_same f g (Gives item after) h = ap (More item) (h after (behind_item item after))
-next_same f g (GoesOn after) h = h after (behind_nothing after)
+next_same f g (Gives item next) h = ap (More item) (h next (after_item item next))
+next_same f g (GoesOn next) h = h next (after_nothing next)
 
 -- any number of steps that is large enough gives the same
 pub reading_for-enough : {T : Type 0} (step : T → Step T) (size : T → ℕ) → Shrinks step size → (m n : ℕ) (s : T) → size s < m → size s < n → reading_for step m s ≡ reading_for step n s
@@ -40,6 +40,6 @@ pub reading_by-goes_on : {T : Type 0} (step : T → Step T) (size : T → ℕ) �
 reading_by-goes_on step size shrinks s after e = reading_by-step step size shrinks s ∙ ap (next_reading (reading_by step size)) e
 
 -- items in front of a reading are its first items
-pub items_of-behind : (items : List PlacedItem) (r : Reading) → items_of (behind items r) ≡ items ++ items_of r
-items_of-behind [] r = refl
-items_of-behind (item ∷ items) r = ap (λ rest. item ∷ rest) (items_of-behind items r)
+pub items_of-items_then : (items : List PlacedItem) (r : Reading) → items_of (items_then items r) ≡ items ++ items_of r
+items_of-items_then [] r = refl
+items_of-items_then (item ∷ items) r = ap (λ rest. item ∷ rest) (items_of-items_then items r)

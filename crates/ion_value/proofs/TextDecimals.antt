@@ -15,9 +15,9 @@ use Rattle.ion_value.specs.Int.{IsInt, int_in_range, int_of_digits, int_text, in
 use Rattle.ion_value.specs.Number.{number, signed}
 use Rattle.ion_value.specs.Digits.{is_digit, digit_value, digits_from, are_digits, digits_value, first_is, all_are, is_whole, has_minus, without_minus, cut_at}
 use Rattle.ion_value.specs.Decimal.{IsExponent, is_exponent, IsDecimal, decimal_in_range, integer_text, decimal_of_text, is_exponent_mark, is_decimal_mark, is_point, Parts, parts_of, is_fraction, fraction_digits, is_mantissa, has_sign, is_power, power_value, decimal_of_parts}
-use Rattle.ion_value.specs.DigitReading.{is_digit_of, Read, read_digits, read_int, read_whole, read_fraction, decimal_behind}
+use Rattle.ion_value.specs.DigitReading.{is_digit_of, Read, read_digits, read_int, read_whole, read_fraction, decimal_after}
 use Rattle.ion_value.proofs.Numbers.{number-append, number-append_one}
-use Rattle.ion_value.proofs.TextDigits.{int_of_read, int-text, zero_first, whole-is, and-true, suc-eqb, prefix, behind_prefix, prefix-whole, ten, reading, read-is, read-whole-is}
+use Rattle.ion_value.proofs.TextDigits.{int_of_read, int-text, zero_first, whole-is, and-true, suc-eqb, prefix, after_prefix, prefix-whole, ten, reading, read-is, read-whole-is}
 
 -- ---- the parts of a number
 
@@ -65,17 +65,17 @@ parts-other c ys e f = rw (e, f) refl
 -- ---- what the parts spell
 
 -- a byte that is no digit and no underscore
-digits-bad : (behind : Bool) (xs : List ℕ) (c : ℕ) (ys : List ℕ) → (is_digit c || c == 95) ≡ false → digits_from behind is_digit (xs ++ (c ∷ ys)) ≡ false
-digits-bad behind [] c ys e = let parts = or_parts (is_digit c) (c == 95) e in simp (parts.0, parts.1) refl
-digits-bad behind (x ∷ xs) c ys e = and_right (is_digit x || (x == 95 && behind)) _ (digits-bad (is_digit x) xs c ys e)
+digits-bad : (after : Bool) (xs : List ℕ) (c : ℕ) (ys : List ℕ) → (is_digit c || c == 95) ≡ false → digits_from after is_digit (xs ++ (c ∷ ys)) ≡ false
+digits-bad after [] c ys e = let parts = or_parts (is_digit c) (c == 95) e in simp (parts.0, parts.1) refl
+digits-bad after (x ∷ xs) c ys e = and_right (is_digit x || (x == 95 && after)) _ (digits-bad (is_digit x) xs c ys e)
 
 whole-bad : (xs : List ℕ) (c : ℕ) (ys : List ℕ) → (is_digit c || c == 95) ≡ false → is_whole (xs ++ (c ∷ ys)) ≡ false
 whole-bad xs c ys e = and_left (are_digits is_digit (xs ++ (c ∷ ys))) _ (digits-bad false xs c ys e)
 
 -- the decimal of parts, of which the first two are a mantissa
-parts-behind : (negative : Bool) (p : Parts) → decimal_of_parts negative p
-    ≡ (if is_mantissa p then decimal_behind negative (digits_value 10 (filter is_digit p.whole ++ fraction_digits p.fraction)) (length (fraction_digits p.fraction)) (nat_lt 0 (length p.fraction)) p.power else Err BadToken)
-parts-behind negative p = elim (cases_Bool (is_mantissa p)) [
+parts-after : (negative : Bool) (p : Parts) → decimal_of_parts negative p
+    ≡ (if is_mantissa p then decimal_after negative (digits_value 10 (filter is_digit p.whole ++ fraction_digits p.fraction)) (length (fraction_digits p.fraction)) (nat_lt 0 (length p.fraction)) p.power else Err BadToken)
+parts-after negative p = elim (cases_Bool (is_mantissa p)) [
   | inl e ↦ simp e refl
   | inr e ↦ simp e refl
 ]
@@ -84,8 +84,8 @@ no-power : (mark : ℕ → Bool) (c : ℕ) (ys : List ℕ) → mark c ≡ false 
 no-power mark c ys e = rw e refl
 
 -- another byte than a mark where the mark would stand
-behind-bad : (negative : Bool) (n k : ℕ) (pointed : Bool) (c : ℕ) (ys : List ℕ) → is_exponent_mark c ≡ false → decimal_behind negative n k pointed (c ∷ ys) ≡ Err BadToken
-behind-bad negative n k pointed c ys e =
+after-bad : (negative : Bool) (n k : ℕ) (pointed : Bool) (c : ℕ) (ys : List ℕ) → is_exponent_mark c ≡ false → decimal_after negative n k pointed (c ∷ ys) ≡ Err BadToken
+after-bad negative n k pointed c ys e =
     let d : is_decimal_mark c ≡ false = grind (arith, nat_tests) in
     rw (no-power is_decimal_mark c ys d, no-power is_exponent_mark c ys e, suc-eqb (length ys)) refl
 
@@ -115,8 +115,8 @@ value-both xs ys =
 abbrev pub goes_on : ℕ → Bool
 goes_on b = is_digit b || b == 95
 
-stops-prefix : (bytes : List ℕ) → first_is goes_on (behind_prefix is_digit bytes) ≡ false
-unfolding behind_prefix
+stops-prefix : (bytes : List ℕ) → first_is goes_on (after_prefix is_digit bytes) ≡ false
+unfolding after_prefix
 stops-prefix [] = refl
 stops-prefix (b ∷ bytes) = elim (cases_Bool (is_digit b || b == 95)) [
   | inl e ↦ rw e (stops-prefix bytes)
@@ -127,7 +127,7 @@ stops-prefix (b ∷ bytes) = elim (cases_Bool (is_digit b || b == 95)) [
 abbrev pub whole_number : List ℕ → ℕ
 whole_number xs = 0 * 10 ^ length (filter is_digit xs) + spelled xs
 
--- no digits behind a point
+-- no digits after a point
 value-whole : (xs : List ℕ) → digits_value 10 (filter is_digit xs ++ []) ≡ whole_number xs
 value-whole xs = value-both xs [] ∙ rw pow-zero (omega arith)
 
@@ -150,7 +150,7 @@ made-if : (make : Makes) (a : Bool) (r : Read) → made make (if a then Some r e
 made-if make true r = refl
 made-if make false r = refl
 
--- what stands behind a point, and the digits before it
+-- what stands after a point, and the digits before it
 abbrev made_of_point : Makes → List ℕ → List ℕ × List ℕ → Result Decimal Reason
 made_of_point make xs cut = when (is_fraction (46 ∷ cut.0)) (make (digits_value 10 (filter is_digit xs ++ filter is_digit cut.0)) (length (filter is_digit cut.0)) cut.1)
 
@@ -166,7 +166,7 @@ cut-other : (c : ℕ) (ys : List ℕ) → is_exponent_mark c ≡ false → cut_a
 unfolding cut_at
 cut-other c ys e = rw e refl
 
--- digits behind a point, up to the end or a mark
+-- digits after a point, up to the end or a mark
 abbrev digits_made : Makes → List ℕ → List ℕ → List ℕ → Result Decimal Reason
 digits_made make xs ys power =
     when (are_digits is_digit ys) (make (whole_number xs * 10 ^ length (filter is_digit ys) + spelled ys) (0 + length (filter is_digit ys)) power)
@@ -188,7 +188,7 @@ bad-anyway : (make : Makes) → Refuses make → (a : Bool) (n k c : ℕ) (ys : 
 bad-anyway make refuses true n k c ys e = sym (refuses n k c ys e)
 bad-anyway make refuses false n k c ys e = refl
 
--- digits behind a point, and what ends them
+-- digits after a point, and what ends them
 fraction-prefix : (make : Makes) → Refuses make → (xs tail rest : List ℕ) → 0 < length (prefix is_digit tail) → first_is goes_on rest ≡ false
     → made_of_point make xs (cut_at is_exponent_mark (prefix is_digit tail ++ rest)) ≡ digits_made make xs (prefix is_digit tail) rest
 fraction-prefix make refuses xs tail [] some stops =
@@ -209,12 +209,12 @@ read-fraction-digit : (n d : ℕ) (tail : List ℕ) → is_digit d ≡ true → 
     ≡ (if are_digits is_digit (prefix is_digit (d ∷ tail)) then Some (reading 10 n 0 is_digit (d ∷ tail)) else None)
 read-fraction-digit n d tail e = rw e (read-is 10 n 0 false is_digit (d ∷ tail) ten)
 
--- what stands behind a point, by what is read there
+-- what stands after a point, by what is read there
 point-read : (make : Makes) → Refuses make → (xs tail : List ℕ) → made_of_point make xs (cut_at is_exponent_mark tail) ≡ made make (read_fraction (whole_number xs) tail)
 point-read make refuses xs [] = rw (cut-nil, value-whole xs) refl
 point-read make refuses xs (d ∷ tail) = elim (cases_Bool (is_digit d)) [
   | inl e ↦
-      let parts = fraction-prefix make refuses xs (d ∷ tail) (behind_prefix is_digit (d ∷ tail)) (prefix-some d tail e) (stops-prefix (d ∷ tail)) in
+      let parts = fraction-prefix make refuses xs (d ∷ tail) (after_prefix is_digit (d ∷ tail)) (prefix-some d tail e) (stops-prefix (d ∷ tail)) in
       ap (λ (zs : List ℕ). made_of_point make xs (cut_at is_exponent_mark zs)) (prefix-whole is_digit (d ∷ tail)) ∙ parts
       ∙ sym (made-if make (are_digits is_digit (prefix is_digit (d ∷ tail))) (reading 10 (whole_number xs) 0 is_digit (d ∷ tail)))
       ∙ ap (made make) (sym (read-fraction-digit (whole_number xs) d tail e))
@@ -280,23 +280,23 @@ if-made make false r = refl
 mantissa-made : (make : Bool → Makes) → Refuses (make true) → Refuses (make false) → (bytes : List ℕ) → parts_made make (parts_of bytes) ≡ whole_made make (read_whole bytes)
 mantissa-made make pointed plain bytes =
     ap (λ (zs : List ℕ). parts_made make (parts_of zs)) (prefix-whole is_digit bytes)
-    ∙ rest-read make pointed plain bytes (behind_prefix is_digit bytes) (stops-prefix bytes)
+    ∙ rest-read make pointed plain bytes (after_prefix is_digit bytes) (stops-prefix bytes)
     ∙ sym (if-made make (is_whole (prefix is_digit bytes)) (reading 10 0 0 is_digit bytes))
     ∙ ap (whole_made make) (sym (read-whole-is bytes))
 
 -- the decimal of bytes, by the digits that are read at their front
-abbrev behind : Bool → Bool → Makes
-behind negative pointed n k power = decimal_behind negative n k pointed power
+abbrev after : Bool → Bool → Makes
+after negative pointed n k power = decimal_after negative n k pointed power
 
-mantissa-read : (negative : Bool) (bytes : List ℕ) → decimal_of_parts negative (parts_of bytes) ≡ whole_made (behind negative) (read_whole bytes)
+mantissa-read : (negative : Bool) (bytes : List ℕ) → decimal_of_parts negative (parts_of bytes) ≡ whole_made (after negative) (read_whole bytes)
 mantissa-read negative bytes =
-    parts-behind negative (parts_of bytes)
-    ∙ mantissa-made (behind negative) (λ n k c ys e. behind-bad negative n k true c ys e) (λ n k c ys e. behind-bad negative n k false c ys e) bytes
+    parts-after negative (parts_of bytes)
+    ∙ mantissa-made (after negative) (λ n k c ys e. after-bad negative n k true c ys e) (λ n k c ys e. after-bad negative n k false c ys e) bytes
 
 pub mantissa-none : (bytes : List ℕ) → read_whole bytes ≡ None → (negative : Bool) → decimal_of_parts negative (parts_of bytes) ≡ Err BadToken
 mantissa-none bytes e negative = mantissa-read negative bytes ∙ rw e refl
 
--- a point, or another byte than a point or none, behind the digits
+-- a point, or another byte than a point or none, after the digits
 pub point-not : (bytes : List ℕ) → length bytes < 1 → first_is is_point bytes ≡ false
 point-not [] none = refl
 point-not (b ∷ bytes) none = absurd (omega arith)
@@ -310,12 +310,12 @@ point-first [] some e = absurd (omega arith)
 point-first (b ∷ bytes) some e = eq-eqb b 46 e
 
 pub mantissa-plain : (bytes : List ℕ) (n k : ℕ) (rest : List ℕ) → read_whole bytes ≡ Some (record { number = n; count = k; rest = rest }) → first_is is_point rest ≡ false
-    → (negative : Bool) → decimal_of_parts negative (parts_of bytes) ≡ decimal_behind negative n 0 false rest
+    → (negative : Bool) → decimal_of_parts negative (parts_of bytes) ≡ decimal_after negative n 0 false rest
 mantissa-plain bytes n k rest e plain negative = mantissa-read negative bytes ∙ rw (e, plain) refl
 
 pub mantissa-pointed : (bytes : List ℕ) (n k : ℕ) (rest : List ℕ) (m j : ℕ) (power : List ℕ) → read_whole bytes ≡ Some (record { number = n; count = k; rest = rest }) → first_is is_point rest ≡ true
     → read_fraction n (drop 1 rest) ≡ Some (record { number = m; count = j; rest = power })
-    → (negative : Bool) → decimal_of_parts negative (parts_of bytes) ≡ decimal_behind negative m j true power
+    → (negative : Bool) → decimal_of_parts negative (parts_of bytes) ≡ decimal_after negative m j true power
 mantissa-pointed bytes n k rest m j power e point f negative = mantissa-read negative bytes ∙ rw (e, point, f) refl
 
 pub mantissa-no_fraction : (bytes : List ℕ) (n k : ℕ) (rest : List ℕ) → read_whole bytes ≡ Some (record { number = n; count = k; rest = rest }) → first_is is_point rest ≡ true
@@ -365,7 +365,7 @@ all-some x xs e =
 pub all-value : (xs : List ℕ) → all_are is_digit xs ≡ true → digits_value 10 xs ≡ spelled xs
 all-value xs e = ap (λ ys. number 10 (map digit_value (filter (λ b. not (b == 95)) ys))) (sym (all-filter xs e)) ∙ ap (λ ys. number 10 (map digit_value ys)) (filter-digits xs)
 
-prefix-length : (xs : List ℕ) → length xs ≡ length (prefix is_digit xs) + length (behind_prefix is_digit xs)
+prefix-length : (xs : List ℕ) → length xs ≡ length (prefix is_digit xs) + length (after_prefix is_digit xs)
 prefix-length xs = ap (λ (ys : List ℕ). length ys) (prefix-whole is_digit xs) ∙ simp length-append refl
 
 -- digits alone are read to their end
@@ -385,8 +385,8 @@ read-all ds r e full = elim (cases_Bool (are_digits is_digit (prefix is_digit ds
       let is : Some (reading 10 0 0 is_digit ds) ≡ Some r = sym (rw f at (read-is 10 0 0 false is_digit ds ten)) ∙ e in
       let same : reading 10 0 0 is_digit ds ≡ r = cc in
       let count : 0 + length (filter is_digit (prefix is_digit ds)) ≡ r.count = ap (λ (s : Read). s.count) same in
-      let none : length (behind_prefix is_digit ds) ≡ 0 = omega (arith, filter-le (prefix is_digit ds), prefix-length ds) in
-      let all : prefix is_digit ds ≡ ds = sym (prefix-whole is_digit ds ∙ rw (nil_from_length (behind_prefix is_digit ds) none, append-nil) refl) in
+      let none : length (after_prefix is_digit ds) ≡ 0 = omega (arith, filter-le (prefix is_digit ds), prefix-length ds) in
+      let all : prefix is_digit ds ≡ ds = sym (prefix-whole is_digit ds ∙ rw (nil_from_length (after_prefix is_digit ds) none, append-nil) refl) in
       let digits : all_are is_digit ds ≡ true = filter-full ds (omega (arith, ap (λ (xs : List ℕ). length (filter is_digit xs)) all)) in
       let number : 0 * 10 ^ length (filter is_digit (prefix is_digit ds)) + spelled (prefix is_digit ds) ≡ r.number = ap (λ (s : Read). s.number) same in (
         digits,
@@ -397,7 +397,7 @@ read-all ds r e full = elim (cases_Bool (are_digits is_digit (prefix is_digit ds
       absurd (cc)
 ]
 
--- the digits of an exponent behind its mark
+-- the digits of an exponent after its mark
 abbrev pub exponent_digits : List ℕ → List ℕ
 exponent_digits bytes = if has_sign bytes then drop 1 bytes else bytes
 
@@ -438,14 +438,14 @@ exponent-more bytes ds n k rest e read less =
     let count : 0 + length (filter is_digit (prefix is_digit (d ∷ xs))) ≡ k = ap (λ (s : Read). s.count) same in
     less (omega (arith, is.1, ap (λ (ys : List ℕ). length ys) f)))
 
--- what stands behind a mantissa: nothing, or an exponent
-pub behind-nothing : (negative : Bool) (n k : ℕ) (pointed : Bool) → pointed ≡ true → decimal_behind negative n k pointed [] ≡ decimal_in_range negative n (pos 0 -ℤ pos k)
-behind-nothing negative n k pointed e = rw e refl
+-- what stands after a mantissa: nothing, or an exponent
+pub after-nothing : (negative : Bool) (n k : ℕ) (pointed : Bool) → pointed ≡ true → decimal_after negative n k pointed [] ≡ decimal_in_range negative n (pos 0 -ℤ pos k)
+after-nothing negative n k pointed e = rw e refl
 
-pub behind-power : (negative : Bool) (n k : ℕ) (pointed : Bool) (e : ℤ) (power behind : List ℕ) → 1 ≤ length power → behind ≡ drop 1 power → (get_or power 0 0 ≡ 100) ⊎ (get_or power 0 0 ≡ 68)
-    → is_power is_decimal_mark (100 ∷ behind) ≡ true → power_value (100 ∷ behind) ≡ e → decimal_behind negative n k pointed power ≡ decimal_in_range negative n (e -ℤ pos k)
-behind-power negative n k pointed e [] behind some rest mark shape value = absurd (omega arith)
-behind-power negative n k pointed e (c ∷ ys) behind some rest mark shape value =
+pub after-power : (negative : Bool) (n k : ℕ) (pointed : Bool) (e : ℤ) (power after : List ℕ) → 1 ≤ length power → after ≡ drop 1 power → (get_or power 0 0 ≡ 100) ⊎ (get_or power 0 0 ≡ 68)
+    → is_power is_decimal_mark (100 ∷ after) ≡ true → power_value (100 ∷ after) ≡ e → decimal_after negative n k pointed power ≡ decimal_in_range negative n (e -ℤ pos k)
+after-power negative n k pointed e [] after some rest mark shape value = absurd (omega arith)
+after-power negative n k pointed e (c ∷ ys) after some rest mark shape value =
     let is_mark : is_decimal_mark c ≡ true = grind (arith, nat_tests) in
     let whole : is_power is_decimal_mark (c ∷ ys) ≡ true = rw is_mark (rw rest at shape) in
     let written : power_value (c ∷ ys) ≡ e = rw rest at value in
@@ -463,8 +463,8 @@ range-refused negative n e = elim (cases_Bool (nat_lt n (2 ^ 128) && is_exponent
   | inr h ↦ rw h (inr (inr refl))
 ]
 
-pub behind-refused : (negative : Bool) (n k : ℕ) (pointed : Bool) (power : List ℕ) → IfErr (decimal_behind negative n k pointed power) (λ r. (r ≡ BadToken) ⊎ ((r ≡ Float) ⊎ (r ≡ Range)))
-behind-refused negative n k pointed power = elim (cases_Bool (is_power is_decimal_mark power || (length power == 0 && pointed))) [
+pub after-refused : (negative : Bool) (n k : ℕ) (pointed : Bool) (power : List ℕ) → IfErr (decimal_after negative n k pointed power) (λ r. (r ≡ BadToken) ⊎ ((r ≡ Float) ⊎ (r ≡ Range)))
+after-refused negative n k pointed power = elim (cases_Bool (is_power is_decimal_mark power || (length power == 0 && pointed))) [
   | inl e ↦ rw e (range-refused negative n (power_value power -ℤ pos k))
   | inr e ↦ elim (cases_Bool (is_power is_exponent_mark power)) [
     | inl f ↦ rw (e, f) (inr (inl refl))
@@ -577,7 +577,7 @@ int_text-is_read i valid =
     let sign = sign-read i.negative (decimal i.magnitude) (sign-plus (decimal i.magnitude) w.digits) in
     int-of_run (int_text i) (decimal i.magnitude) i.negative sign.0 sign.1 ∙ int-of_written i.negative i.magnitude (decimal i.magnitude) w ∙ int-in_range i valid
 
--- an exponent behind its mark
+-- an exponent after its mark
 pub record Power (e : ℤ) (text : List ℕ) : Type 0 where
   pub shape : is_power is_decimal_mark (100 ∷ text) ≡ true
   pub value : power_value (100 ∷ text) ≡ e
@@ -607,8 +607,8 @@ power-written (negsuc n) within =
 parts-written : (ds text : List ℕ) → all_are is_digit ds ≡ true → parts_of (ds ++ (100 ∷ text)) ≡ make_parts (ds ++ []) [] (100 ∷ text)
 parts-written ds text digits = rw (all-prefix ds digits, parts-mark 100 text refl) at (parts-prefix ds (100 ∷ text))
 
-behind-written : (negative : Bool) (n : ℕ) (e : ℤ) (text : List ℕ) → Power e text → decimal_behind negative n 0 false (100 ∷ text) ≡ decimal_in_range negative n e
-behind-written negative n e text w =
+after-written : (negative : Bool) (n : ℕ) (e : ℤ) (text : List ℕ) → Power e text → decimal_after negative n 0 false (100 ∷ text) ≡ decimal_in_range negative n e
+after-written negative n e text w =
     let same : e -ℤ pos 0 ≡ e = omega (arith, ints) in
     rw (w.shape, w.value, same) refl
 
@@ -616,9 +616,9 @@ pub decimal-written : (negative : Bool) (n : ℕ) (e : ℤ) (ds text : List ℕ)
 decimal-written negative n e ds text w p =
     let value : whole_number ds ≡ n = omega (arith, sym (all-value ds w.digits) ∙ w.value) in
     ap (decimal_of_parts negative) (parts-written ds text w.digits)
-    ∙ parts-behind negative (make_parts (ds ++ []) [] (100 ∷ text))
-    ∙ plain-made (behind negative) ds (100 ∷ text)
-    ∙ rw (w.whole, value) (behind-written negative n e text p)
+    ∙ parts-after negative (make_parts (ds ++ []) [] (100 ∷ text))
+    ∙ plain-made (after negative) ds (100 ∷ text)
+    ∙ rw (w.whole, value) (after-written negative n e text p)
 
 exponent-within : (e : ℤ) → IsExponent e → is_exponent e ≡ true
 exponent-within e within = grind (arith, ints)
@@ -635,13 +635,13 @@ decimal-in_range d valid =
 abbrev OneOf : Result Int Reason → Result Decimal Reason → Type 0
 OneOf i d = (i ≡ Err BadToken) ⊎ (d ≡ Err BadToken)
 
--- of what is read of a number, nothing stands behind an int's digits
+-- of what is read of a number, nothing stands after an int's digits
 shape-rest : (negative : Bool) (n k : ℕ) (rest : List ℕ)
-    → OneOf (int_of_read negative (Some (record { number = n; count = k; rest = rest }))) (whole_made (behind negative) (Some (record { number = n; count = k; rest = rest })))
+    → OneOf (int_of_read negative (Some (record { number = n; count = k; rest = rest }))) (whole_made (after negative) (Some (record { number = n; count = k; rest = rest })))
 shape-rest negative n k [] = inr refl
 shape-rest negative n k (c ∷ rest) = inl (rw (suc-eqb (length rest)) refl)
 
-shape-whole : (negative : Bool) (read : Option Read) → OneOf (int_of_read negative read) (whole_made (behind negative) read)
+shape-whole : (negative : Bool) (read : Option Read) → OneOf (int_of_read negative read) (whole_made (after negative) read)
 shape-whole negative None = inl refl
 shape-whole negative (Some r) = shape-rest negative r.number r.count r.rest
 
@@ -657,12 +657,12 @@ read-letter c bytes e =
     rw (e, ten-c, parts.1) refl
 
 shape-letter : (negative : Bool) (c : ℕ) (bytes : List ℕ) → (c == 120 || c == 88) ≡ true ⊎ (c == 98 || c == 66) ≡ true
-    → whole_made (behind negative) (read_whole (48 ∷ c ∷ bytes)) ≡ Err BadToken
+    → whole_made (after negative) (read_whole (48 ∷ c ∷ bytes)) ≡ Err BadToken
 shape-letter negative c bytes letter =
     let apart = letter-apart c letter in
-    rw (read-letter c bytes apart.0, apart.1) (behind-bad negative 0 0 false c bytes apart.2)
+    rw (read-letter c bytes apart.0, apart.1) (after-bad negative 0 0 false c bytes apart.2)
 
-shape-zero : (negative : Bool) (c : ℕ) (bytes : List ℕ) → OneOf (int_of_read negative (read_int (48 ∷ c ∷ bytes))) (whole_made (behind negative) (read_whole (48 ∷ c ∷ bytes)))
+shape-zero : (negative : Bool) (c : ℕ) (bytes : List ℕ) → OneOf (int_of_read negative (read_int (48 ∷ c ∷ bytes))) (whole_made (after negative) (read_whole (48 ∷ c ∷ bytes)))
 shape-zero negative c bytes = elim (cases_Bool (c == 120 || c == 88)) [
   | inl e ↦ inr (shape-letter negative c bytes (inl e))
   | inr e ↦ elim (cases_Bool (c == 98 || c == 66)) [
@@ -673,7 +673,7 @@ shape-zero negative c bytes = elim (cases_Bool (c == 120 || c == 88)) [
   ]
 ]
 
-shape-read : (negative : Bool) (bytes : List ℕ) → OneOf (int_of_read negative (read_int bytes)) (whole_made (behind negative) (read_whole bytes))
+shape-read : (negative : Bool) (bytes : List ℕ) → OneOf (int_of_read negative (read_int bytes)) (whole_made (after negative) (read_whole bytes))
 shape-read negative [] = shape-whole negative (read_whole [])
 shape-read negative (b ∷ []) =
     let same : read_int (b ∷ []) ≡ read_whole (b ∷ []) = rw (and_right (b == 48) false refl) refl in

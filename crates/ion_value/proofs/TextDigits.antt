@@ -14,7 +14,7 @@ use Rattle.ion_value.specs.DigitReading.{is_digit_of, in_128, Read, read_end, re
 
 -- ---- one byte more
 
--- all behind the first
+-- all after the first
 pub tail-all : (xs : List ℕ) (m : ℕ) → length xs ≤ m → take (m - 1) (drop 1 xs) ≡ drop 1 xs
 tail-all [] m h = take_all (m - 1) (drop 1 []) (omega arith)
 tail-all (x ∷ xs) m h = take_all (m - 1) xs (omega arith)
@@ -30,36 +30,36 @@ pub room-underscore : (xs : List ℕ) (m k total : ℕ) → 0 < length xs → le
 room-underscore xs m k total some all room = omega (arith, tail-length xs m some all)
 
 -- a digit
-pub read-digit : (base n k m : ℕ) (behind : Bool) (rest : List ℕ) → 0 < length rest → length rest ≤ m → is_digit_of base (get_or rest 0 0) ≡ true
-    → read_digits base (n * base + digit_value (get_or rest 0 0)) true (k + 1) (take (m - 1) (drop 1 rest)) ≡ read_digits base n behind k rest
+pub read-digit : (base n k m : ℕ) (after : Bool) (rest : List ℕ) → 0 < length rest → length rest ≤ m → is_digit_of base (get_or rest 0 0) ≡ true
+    → read_digits base (n * base + digit_value (get_or rest 0 0)) true (k + 1) (take (m - 1) (drop 1 rest)) ≡ read_digits base n after k rest
 unfolding read_digits
-read-digit base n k m behind [] some _ _ = absurd (omega arith)
-read-digit base n k m behind (b ∷ rest) some all e = rw (tail-all (b ∷ rest) m all, e) refl
+read-digit base n k m after [] some _ _ = absurd (omega arith)
+read-digit base n k m after (b ∷ rest) some all e = rw (tail-all (b ∷ rest) m all, e) refl
 
--- an underscore behind a digit
-pub read-underscore : (base n k m : ℕ) (behind : Bool) (rest : List ℕ) → 0 < length rest → length rest ≤ m → is_digit_of base (get_or rest 0 0) ≡ false → get_or rest 0 0 ≡ 95 → behind ≡ true
-    → read_digits base n false k (take (m - 1) (drop 1 rest)) ≡ read_digits base n behind k rest
+-- an underscore after a digit
+pub read-underscore : (base n k m : ℕ) (after : Bool) (rest : List ℕ) → 0 < length rest → length rest ≤ m → is_digit_of base (get_or rest 0 0) ≡ false → get_or rest 0 0 ≡ 95 → after ≡ true
+    → read_digits base n false k (take (m - 1) (drop 1 rest)) ≡ read_digits base n after k rest
 unfolding read_digits
-read-underscore base n k m behind [] some _ _ _ _ = absurd (omega arith)
-read-underscore base n k m behind (b ∷ rest) some all e is before = rw (tail-all (b ∷ rest) m all, e, is, before) refl
+read-underscore base n k m after [] some _ _ _ _ = absurd (omega arith)
+read-underscore base n k m after (b ∷ rest) some all e is before = rw (tail-all (b ∷ rest) m all, e, is, before) refl
 
--- the end, another byte, and an underscore that stands behind no digit
-pub read-nothing : (base n k : ℕ) (behind : Bool) (rest : List ℕ) → length rest < 1 → read_digits base n behind k rest ≡ read_end n behind k rest
+-- the end, another byte, and an underscore that stands after no digit
+pub read-nothing : (base n k : ℕ) (after : Bool) (rest : List ℕ) → length rest < 1 → read_digits base n after k rest ≡ read_end n after k rest
 unfolding read_digits
-read-nothing base n k behind [] none = refl
-read-nothing base n k behind (b ∷ rest) none = absurd (omega arith)
+read-nothing base n k after [] none = refl
+read-nothing base n k after (b ∷ rest) none = absurd (omega arith)
 
-pub read-other : (base n k : ℕ) (behind : Bool) (rest : List ℕ) → 0 < length rest → is_digit_of base (get_or rest 0 0) ≡ false → get_or rest 0 0 ≢ 95
-    → read_digits base n behind k rest ≡ read_end n behind k rest
+pub read-other : (base n k : ℕ) (after : Bool) (rest : List ℕ) → 0 < length rest → is_digit_of base (get_or rest 0 0) ≡ false → get_or rest 0 0 ≢ 95
+    → read_digits base n after k rest ≡ read_end n after k rest
 unfolding read_digits
-read-other base n k behind [] some _ _ = absurd (omega arith)
-read-other base n k behind (b ∷ rest) some e other = rw (e, ne_eqb b 95 other) refl
+read-other base n k after [] some _ _ = absurd (omega arith)
+read-other base n k after (b ∷ rest) some e other = rw (e, ne_eqb b 95 other) refl
 
-pub read-bad : (base n k : ℕ) (behind : Bool) (rest : List ℕ) → 0 < length rest → is_digit_of base (get_or rest 0 0) ≡ false → behind ≡ false
-    → read_digits base n behind k rest ≡ read_end n behind k rest
+pub read-bad : (base n k : ℕ) (after : Bool) (rest : List ℕ) → 0 < length rest → is_digit_of base (get_or rest 0 0) ≡ false → after ≡ false
+    → read_digits base n after k rest ≡ read_end n after k rest
 unfolding read_digits
-read-bad base n k behind [] some _ _ = absurd (omega arith)
-read-bad base n k behind (b ∷ rest) some e before = rw (e, and_right (b == 95) behind before) refl
+read-bad base n k after [] some _ _ = absurd (omega arith)
+read-bad base n k after (b ∷ rest) some e before = rw (e, and_right (b == 95) after before) refl
 
 -- a number that 128 bits hold
 pub in_128-small : (n : ℕ) → n < 2 ^ 128 → Some n ≡ in_128 n
@@ -91,17 +91,17 @@ hex-value values b all byte place small =
 
 -- ---- what is read, in terms of the digits at the front
 
--- the digits and underscores at the front of bytes, and the bytes behind them
+-- the digits and underscores at the front of bytes, and the bytes after them
 unfoldable pub prefix : (ℕ → Bool) → List ℕ → List ℕ
 prefix digit [] = []
 prefix digit (b ∷ bytes) = if digit b || b == 95 then b ∷ prefix digit bytes else []
 
-unfoldable pub behind_prefix : (ℕ → Bool) → List ℕ → List ℕ
-behind_prefix digit [] = []
-behind_prefix digit (b ∷ bytes) = if digit b || b == 95 then behind_prefix digit bytes else b ∷ bytes
+unfoldable pub after_prefix : (ℕ → Bool) → List ℕ → List ℕ
+after_prefix digit [] = []
+after_prefix digit (b ∷ bytes) = if digit b || b == 95 then after_prefix digit bytes else b ∷ bytes
 
-pub prefix-whole : (digit : ℕ → Bool) (bytes : List ℕ) → bytes ≡ prefix digit bytes ++ behind_prefix digit bytes
-unfolding prefix behind_prefix
+pub prefix-whole : (digit : ℕ → Bool) (bytes : List ℕ) → bytes ≡ prefix digit bytes ++ after_prefix digit bytes
+unfolding prefix after_prefix
 prefix-whole digit [] = refl
 prefix-whole digit (b ∷ bytes) = elim (cases_Bool (digit b || b == 95)) [
   | inl e ↦ rw e (ap (λ xs. b ∷ xs) (prefix-whole digit bytes))
@@ -111,22 +111,22 @@ prefix-whole digit (b ∷ bytes) = elim (cases_Bool (digit b || b == 95)) [
 pub suc-eqb : (n : ℕ) → (suc n == 0) ≡ false
 suc-eqb n = ne_eqb (suc n) 0 (λ e. absurd (omega arith))
 
--- digits of a sort with single underscores are those at the front, where nothing stands behind them
-pub digits-prefix : (digit : ℕ → Bool) (behind : Bool) (bytes : List ℕ)
-    → digits_from behind digit bytes ≡ (digits_from behind digit (prefix digit bytes) && length (behind_prefix digit bytes) == 0)
-unfolding prefix behind_prefix
+-- digits of a sort with single underscores are those at the front, where nothing stands after them
+pub digits-prefix : (digit : ℕ → Bool) (after : Bool) (bytes : List ℕ)
+    → digits_from after digit bytes ≡ (digits_from after digit (prefix digit bytes) && length (after_prefix digit bytes) == 0)
+unfolding prefix after_prefix
 digits-prefix digit true [] = refl
 digits-prefix digit false [] = refl
-digits-prefix digit behind (b ∷ bytes) = elim (cases_Bool (digit b)) [
+digits-prefix digit after (b ∷ bytes) = elim (cases_Bool (digit b)) [
   | inl e ↦ simp e (digits-prefix digit true bytes)
   | inr e ↦ elim (cases_Bool (b == 95)) [
     | inl f ↦ simp (e, f) (
-        elim behind as (λ v. (v && digits_from false digit bytes) ≡ ((v && digits_from false digit (prefix digit bytes)) && length (behind_prefix digit bytes) == 0)) [
+        elim after as (λ v. (v && digits_from false digit bytes) ≡ ((v && digits_from false digit (prefix digit bytes)) && length (after_prefix digit bytes) == 0)) [
           | true ↦ digits-prefix digit false bytes
           | false ↦ refl
         ]
         )
-    | inr f ↦ simp (e, f) (sym (and_right behind (suc (length bytes) == 0) (suc-eqb (length bytes))))
+    | inr f ↦ simp (e, f) (sym (and_right after (suc (length bytes) == 0) (suc-eqb (length bytes))))
   ]
 ]
 
@@ -134,7 +134,7 @@ digits-prefix digit behind (b ∷ bytes) = elim (cases_Bool (digit b)) [
 abbrev pub reading : ℕ → ℕ → ℕ → (ℕ → Bool) → List ℕ → Read
 reading base n k digit bytes =
     let ds = filter digit (prefix digit bytes) in
-    record { number = n * base ^ length ds + number base (map digit_value ds); count = k + length ds; rest = behind_prefix digit bytes }
+    record { number = n * base ^ length ds + number base (map digit_value ds); count = k + length ds; rest = after_prefix digit bytes }
 
 abbrev make_read : ℕ → ℕ → List ℕ → Read
 make_read n k rest = record { number = n; count = k; rest = rest }
@@ -147,12 +147,12 @@ number-step base n v rest l m e = rw (e, pow-suc) (omega arith)
 
 reading-digit : (base n k : ℕ) (digit : ℕ → Bool) (b : ℕ) (bytes : List ℕ) → let ds : List ℕ = filter digit (prefix digit bytes) in
     reading base (n * base + digit_value b) (k + 1) digit bytes
-    ≡ make_read (n * base ^ suc (length ds) + (digit_value b * base ^ length (map digit_value ds) + number base (map digit_value ds))) (k + suc (length ds)) (behind_prefix digit bytes)
+    ≡ make_read (n * base ^ suc (length ds) + (digit_value b * base ^ length (map digit_value ds) + number base (map digit_value ds))) (k + suc (length ds)) (after_prefix digit bytes)
 reading-digit base n k digit b bytes =
     let ds : List ℕ = filter digit (prefix digit bytes) in
     let long : length (map digit_value ds) ≡ length ds = simp length-map in
     let value = number-step base n (digit_value b) (number base (map digit_value ds)) (length ds) (length (map digit_value ds)) long in
-    same_read _ _ _ _ (behind_prefix digit bytes) value (omega arith)
+    same_read _ _ _ _ (after_prefix digit bytes) value (omega arith)
 
 reading-nothing : (base n k : ℕ) (bytes : List ℕ) → make_read n k bytes ≡ make_read (n * base ^ 0 + 0) (k + 0) bytes
 reading-nothing base n k bytes =
@@ -160,24 +160,24 @@ reading-nothing base n k bytes =
     same_read n (n * base ^ 0 + 0) k (k + 0) bytes whole (omega arith)
 
 -- what is read
-pub read-is : (base n k : ℕ) (behind : Bool) (digit : ℕ → Bool) (bytes : List ℕ) → ((b : ℕ) → is_digit_of base b ≡ digit b)
-    → read_digits base n behind k bytes ≡ (if digits_from behind digit (prefix digit bytes) then Some (reading base n k digit bytes) else None)
-unfolding read_digits prefix behind_prefix
-read-is base n k behind digit [] same = ap (λ (r : Read). if behind then Some r else None) (reading-nothing base n k [])
-read-is base n k behind digit (b ∷ bytes) same = elim (cases_Bool (digit b)) [
+pub read-is : (base n k : ℕ) (after : Bool) (digit : ℕ → Bool) (bytes : List ℕ) → ((b : ℕ) → is_digit_of base b ≡ digit b)
+    → read_digits base n after k bytes ≡ (if digits_from after digit (prefix digit bytes) then Some (reading base n k digit bytes) else None)
+unfolding read_digits prefix after_prefix
+read-is base n k after digit [] same = ap (λ (r : Read). if after then Some r else None) (reading-nothing base n k [])
+read-is base n k after digit (b ∷ bytes) same = elim (cases_Bool (digit b)) [
   | inl e ↦ simp (same b, e) (
       read-is base (n * base + digit_value b) (k + 1) true digit bytes same
       ∙ ap (λ (r : Read). if digits_from true digit (prefix digit bytes) then Some r else None) (reading-digit base n k digit b bytes)
       )
   | inr e ↦ elim (cases_Bool (b == 95)) [
     | inl f ↦ simp (same b, e, f) (
-        elim behind as (λ v. (if v then read_digits base n false k bytes else read_end n v k (b ∷ bytes))
+        elim after as (λ v. (if v then read_digits base n false k bytes else read_end n v k (b ∷ bytes))
         ≡ (if v && digits_from false digit (prefix digit bytes) then Some (reading base n k digit bytes) else None)) [
           | true ↦ read-is base n k false digit bytes same
           | false ↦ refl
         ]
         )
-    | inr f ↦ simp (same b, e, f) (ap (λ (r : Read). if behind then Some r else None) (reading-nothing base n k (b ∷ bytes)))
+    | inr f ↦ simp (same b, e, f) (ap (λ (r : Read). if after then Some r else None) (reading-nothing base n k (b ∷ bytes)))
   ]
 ]
 
@@ -222,10 +222,10 @@ pub value-prefix : (base : ℕ) (digit : ℕ → Bool) (bytes : List ℕ) → No
     → digits_value base (prefix digit bytes) ≡ number base (map digit_value (filter digit (prefix digit bytes)))
 value-prefix base digit bytes no_underscore = ap (λ xs. number base (map digit_value xs)) (filter-prefix digit bytes no_underscore)
 
--- nothing behind the prefix
-prefix-all : (digit : ℕ → Bool) (bytes : List ℕ) → (length (behind_prefix digit bytes) == 0) ≡ true → prefix digit bytes ≡ bytes
+-- nothing after the prefix
+prefix-all : (digit : ℕ → Bool) (bytes : List ℕ) → (length (after_prefix digit bytes) == 0) ≡ true → prefix digit bytes ≡ bytes
 prefix-all digit bytes e =
-    let none : behind_prefix digit bytes ≡ [] = nil_from_length (behind_prefix digit bytes) (eqb-true _ 0 e) in
+    let none : after_prefix digit bytes ≡ [] = nil_from_length (after_prefix digit bytes) (eqb-true _ 0 e) in
     sym (prefix-whole digit bytes ∙ rw (none, append-nil) refl)
 
 -- ---- ints
@@ -240,7 +240,7 @@ int-based : (base : ℕ) (digit : ℕ → Bool) (negative : Bool) (bytes : List 
     → (if are_digits digit bytes then int_in_range negative (digits_value base bytes) else Err BadToken) ≡ int_of_read negative (read_digits base 0 false 0 bytes)
 int-based base digit negative bytes same no_underscore =
     elim (cases_Bool (digits_from false digit (prefix digit bytes))) [
-      | inl e ↦ elim (cases_Bool (length (behind_prefix digit bytes) == 0)) [
+      | inl e ↦ elim (cases_Bool (length (after_prefix digit bytes) == 0)) [
         | inl f ↦
             let value : digits_value base bytes ≡ 0 * base ^ length (filter digit (prefix digit bytes)) + number base (map digit_value (filter digit (prefix digit bytes)))
             = ap (λ xs. digits_value base xs) (sym (prefix-all digit bytes f)) ∙ value-prefix base digit bytes no_underscore ∙ omega arith in
@@ -281,7 +281,7 @@ int-read-zero negative c bytes =
       ]
     ]
 
--- an int behind its sign
+-- an int after its sign
 pub int-read : (negative : Bool) (bytes : List ℕ) → int_of_digits negative bytes ≡ int_of_read negative (read_int bytes)
 int-read negative [] = int-read-ten negative []
 int-read negative (b ∷ []) = elim (cases_Bool (b == 48)) [
@@ -293,7 +293,7 @@ int-read negative (b ∷ c ∷ bytes) = elim (cases_Bool (b == 48)) [
   | inr e ↦ simp (e, and-true) (int-read-ten negative (b ∷ c ∷ bytes))
 ]
 
--- all behind the first two
+-- all after the first two
 two-all : (xs : List ℕ) (m : ℕ) → length xs ≤ m → take (m - 2) (drop 2 xs) ≡ drop 2 xs
 two-all xs m all = take_all (m - 2) (drop 2 xs) (rw length-drop (omega arith))
 

@@ -9,7 +9,7 @@ use Rattle.ion_value.specs.Digits.{is_digit, is_hex_digit, is_binary_digit, is_w
 use Rattle.ion_value.specs.Int.{is_based, int_of_digits, int_of_text}
 use Rattle.ion_value.specs.Decimal.{Parts, is_exponent_mark, is_point, parts_of, decimal_of_parts, decimal_of_text}
 use Rattle.ion_value.specs.Timestamp.{digits_at, looks_like, timestamp_of_text}
-use Rattle.ion_value.specs.TimestampRuns.{unread, begins_time, behind_year, from_year}
+use Rattle.ion_value.specs.TimestampRuns.{unread, begins_time, after_year, from_year}
 use Rattle.ion_value.proofs.TextStages.{date-text}
 
 -- ---- how a timestamp begins
@@ -18,10 +18,10 @@ use Rattle.ion_value.proofs.TextStages.{date-text}
 pub data BeginsDated : List ℕ → Type 0 where
   dated : (a b c d x : ℕ) (rest : List ℕ) → is_digit a ≡ true → is_digit b ≡ true → is_digit c ≡ true → is_digit d ≡ true → (x ≡ 84) ⊎ (x ≡ 45) → BeginsDated (a ∷ b ∷ c ∷ d ∷ x ∷ rest)
 
-behind-dated : (a b c d : ℕ) (bytes : List ℕ) (t : Timestamp) → is_digit a ≡ true → is_digit b ≡ true → is_digit c ≡ true → is_digit d ≡ true
-    → behind_year t bytes ≢ Err BadToken → BeginsDated (a ∷ b ∷ c ∷ d ∷ bytes)
-behind-dated a b c d [] t p q r s good = absurd (good refl)
-behind-dated a b c d (x ∷ rest) t p q r s good =
+after-dated : (a b c d : ℕ) (bytes : List ℕ) (t : Timestamp) → is_digit a ≡ true → is_digit b ≡ true → is_digit c ≡ true → is_digit d ≡ true
+    → after_year t bytes ≢ Err BadToken → BeginsDated (a ∷ b ∷ c ∷ d ∷ bytes)
+after-dated a b c d [] t p q r s good = absurd (good refl)
+after-dated a b c d (x ∷ rest) t p q r s good =
     elim (cases_Bool (84 == x)) [
       | inl e ↦ dated a b c d x rest p q r s (inl (sym (eqb-true 84 x e)))
       | inr e ↦ elim (cases_Bool (45 == x)) [
@@ -40,7 +40,7 @@ year-dated (a ∷ b ∷ c ∷ d ∷ bytes) good =
       | inl p ↦ elim (cases_Bool (is_digit b)) [
         | inl q ↦ elim (cases_Bool (is_digit c)) [
           | inl r ↦ elim (cases_Bool (is_digit d)) [
-            | inl s ↦ behind-dated a b c d bytes (record unread { year = digits_at 0 4 (a ∷ b ∷ c ∷ d ∷ []) }) p q r s (rw (p, q, r, s) at good)
+            | inl s ↦ after-dated a b c d bytes (record unread { year = digits_at 0 4 (a ∷ b ∷ c ∷ d ∷ []) }) p q r s (rw (p, q, r, s) at good)
             | inr s ↦ absurd (good (rw (p, q, r, s) refl))
           ]
           | inr r ↦ absurd (good (rw (p, q, r) refl))

@@ -10,7 +10,7 @@ use Rattle.ion_value.specs.declared.timestamp_text.Digits.{Digits}
 use Rattle.ion_value.specs.Number.{number}
 use Rattle.ion_value.specs.Digits.{is_digit, digit_value, first_is, all_are, cut_at}
 use Rattle.ion_value.specs.Timestamp.{is_offset_mark, has_offset_shape}
-use Rattle.ion_value.specs.TimestampRuns.{with_offset, with_fraction, with_point, behind_second, AreLeading, is_no_digit}
+use Rattle.ion_value.specs.TimestampRuns.{with_offset, with_fraction, with_point, after_second, AreLeading, is_no_digit}
 use Rattle.ion_value.proofs.LeadingDigits.{cut-parts, all_are-append}
 
 -- ---- marks of an offset
@@ -43,17 +43,17 @@ mark-cut (d ∷ ds) bytes all =
       | inr e ↦ let f = rw e at all in absurd (cc)
     ]
 
--- ---- what stands behind the second
+-- ---- what stands after the second
 
--- what is cut off behind digits
-data BehindDigits (bytes : List ℕ) : List ℕ × List ℕ → Type 0 where
-  mark : BehindDigits bytes ([], bytes)
-  other : (s o : List ℕ) → all_are is_digit s ≡ false → has_offset_shape bytes ≡ false → BehindDigits bytes (s, o)
+-- what is cut off after digits
+data AfterDigits (bytes : List ℕ) : List ℕ × List ℕ → Type 0 where
+  mark : AfterDigits bytes ([], bytes)
+  other : (s o : List ℕ) → all_are is_digit s ≡ false → has_offset_shape bytes ≡ false → AfterDigits bytes (s, o)
 
-behind-digits : (bytes : List ℕ) → first_is is_digit bytes ≡ false → BehindDigits bytes (cut_at is_offset_mark bytes)
+after-digits : (bytes : List ℕ) → first_is is_digit bytes ≡ false → AfterDigits bytes (cut_at is_offset_mark bytes)
 unfolding cut_at
-behind-digits [] none = mark
-behind-digits (b ∷ bytes) none =
+after-digits [] none = mark
+after-digits (b ∷ bytes) none =
     elim (cases_Bool (is_offset_mark b)) [
       | inl e ↦ rw e mark
       | inr e ↦
@@ -61,7 +61,7 @@ behind-digits (b ∷ bytes) none =
           rw e (other (b ∷ (cut_at is_offset_mark bytes).0) (cut_at is_offset_mark bytes).1 no_digits (shape-mark b bytes e))
     ]
 
--- with no offset behind them
+-- with no offset after them
 fraction-bad : (t : Timestamp) (count n : ℕ) (bytes : List ℕ) → has_offset_shape bytes ≡ false → with_fraction t count n bytes ≡ Err BadToken
 fraction-bad t count n bytes e =
     elim (cases_Bool (count == 0)) [
@@ -90,7 +90,7 @@ point-digits t (d ∷ ds) bytes n all value =
 
 -- digits up to the mark of an offset
 pub fraction-mark : (t : Timestamp) (ds : List ℕ) (b n : ℕ) (rest : List ℕ) → all_are is_digit ds ≡ true → is_offset_mark b ≡ true → n ≡ number 10 (map digit_value ds)
-    → behind_second t (46 ∷ (ds ++ b ∷ rest)) ≡ with_fraction t (length ds) n (b ∷ rest)
+    → after_second t (46 ∷ (ds ++ b ∷ rest)) ≡ with_fraction t (length ds) n (b ∷ rest)
 unfolding cut_at
 fraction-mark t ds b n rest all begins value =
     let here : cut_at is_offset_mark (b ∷ rest) ≡ ([], b ∷ rest) = rw begins refl in
@@ -98,24 +98,24 @@ fraction-mark t ds b n rest all begins value =
     ap (λ (c : List ℕ × List ℕ). with_point t (46 ∷ c.0) c.1) cut ∙ sym (point-digits t ds (b ∷ rest) n all (λ _. value))
 
 point-cut : (t : Timestamp) (ds bytes : List ℕ) (n : ℕ) (cut : List ℕ × List ℕ) → all_are is_digit ds ≡ true → (nat_le (length ds) 38 ≡ true → n ≡ number 10 (map digit_value ds))
-    → BehindDigits bytes cut → with_fraction t (length ds) n bytes ≡ with_point t (46 ∷ (ds ++ cut.0)) cut.1
+    → AfterDigits bytes cut → with_fraction t (length ds) n bytes ≡ with_point t (46 ∷ (ds ++ cut.0)) cut.1
 point-cut t ds bytes n _ all value mark = rw (append-nil ds) (point-digits t ds bytes n all value)
 point-cut t ds bytes n _ all value (other s o no_digits none) =
     let bad : all_are is_digit (ds ++ s) ≡ false = rw (all_are-append is_digit ds s, no_digits) (and-false (all_are is_digit ds)) in
     fraction-bad t (length ds) n bytes none ∙ sym (point-bad t (ds ++ s) o bad)
 
-pub second-fraction : (t : Timestamp) (bytes fraction : List ℕ) (d : Digits) → bytes ≡ 46 ∷ fraction → AreLeading fraction d → with_fraction t d.count d.number d.rest.now ≡ behind_second t bytes
+pub second-fraction : (t : Timestamp) (bytes fraction : List ℕ) (d : Digits) → bytes ≡ 46 ∷ fraction → AreLeading fraction d → with_fraction t d.count d.number d.rest.now ≡ after_second t bytes
 unfolding cut_at
 second-fraction t bytes fraction d is prefix =
     let parts = cut-parts fraction in
     let ds = (cut_at is_no_digit fraction).0 in
     let rest = (cut_at is_no_digit fraction).1 in
     let value : nat_le (length ds) 38 ≡ true → d.number ≡ number 10 (map digit_value ds) = rw prefix.count at prefix.value in
-    let step = point-cut t ds rest d.number (cut_at is_offset_mark rest) parts.0 value (behind-digits rest parts.1) in
+    let step = point-cut t ds rest d.number (cut_at is_offset_mark rest) parts.0 value (after-digits rest parts.1) in
     let cut = sym (mark-cut ds rest parts.0) ∙ ap (λ xs. cut_at is_offset_mark xs) parts.2 in
     rw (prefix.count, prefix.rest, is) (step ∙ ap (λ (c : List ℕ × List ℕ). with_point t (46 ∷ c.0) c.1) cut)
 
-pub second-offset : (t : Timestamp) (bytes : List ℕ) → (length bytes < 1) ⊎ (get_or bytes 0 0 ≢ 46) → with_offset t bytes ≡ behind_second t bytes
+pub second-offset : (t : Timestamp) (bytes : List ℕ) → (length bytes < 1) ⊎ (get_or bytes 0 0 ≢ 46) → with_offset t bytes ≡ after_second t bytes
 unfolding cut_at
 second-offset t [] _ = refl
 second-offset t (b ∷ bytes) (inl none) = absurd (omega arith)
@@ -125,6 +125,6 @@ second-offset t (b ∷ bytes) (inr no_point) =
       | inr e ↦ rw (e, shape-mark b bytes e, ne_eqb 46 b (λ p. no_point (sym p))) refl
     ]
 
-pub first-behind : (bytes : List ℕ) (b : ℕ) → 1 ≤ length bytes → get_or bytes 0 0 ≡ b → bytes ≡ b ∷ drop 1 bytes
-first-behind [] b some e = absurd (omega arith)
-first-behind (x ∷ bytes) b some e = rw e refl
+pub first-after : (bytes : List ℕ) (b : ℕ) → 1 ≤ length bytes → get_or bytes 0 0 ≡ b → bytes ≡ b ∷ drop 1 bytes
+first-after [] b some e = absurd (omega arith)
+first-after (x ∷ bytes) b some e = rw e refl

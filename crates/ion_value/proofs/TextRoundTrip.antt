@@ -12,7 +12,7 @@ use Rattle.ion_value.specs.declared.timestamp.Timestamp.{Timestamp}
 use Rattle.ion_value.specs.Number.{number}
 use Rattle.ion_value.specs.Digits.{is_digit, digit_value, all_are, fixed_digits}
 use Rattle.ion_value.specs.Timestamp.{IsTimestamp, IsMoment, IsOffset, fields, is_offset_mark, has_offset_shape, is_text_offset, offset_of_text, date_in_range, time_in_range, timestamp_of_text, day_text, minute_text, second_text, minutes_text, offset_text, text_to, timestamp_text}
-use Rattle.ion_value.specs.TimestampRuns.{two_digits, four_digits, unread, with_offset, with_fraction, behind_second, behind_minute, behind_day, behind_month, behind_year, from_year, offset_of}
+use Rattle.ion_value.specs.TimestampRuns.{two_digits, four_digits, unread, with_offset, with_fraction, after_second, after_minute, after_day, after_month, after_year, from_year, offset_of}
 use Rattle.ion_value.proofs.Numbers.{number-append_one}
 use Rattle.ion_value.proofs.TimestampOctets.{is_moment-true}
 use Rattle.ion_value.proofs.FixedDigits.{fixed_digits-two, fixed_digits-four, length-fixed_digits}
@@ -68,7 +68,7 @@ tens n = 48 + n / 10
 abbrev ones : ℕ → ℕ
 ones n = 48 + n % 10
 
-year-written : (t : Timestamp) (n : ℕ) (rest : List ℕ) → n < 10000 → from_year t (fixed_digits 4 n ++ rest) ≡ behind_year (record t { year = n }) rest
+year-written : (t : Timestamp) (n : ℕ) (rest : List ℕ) → n < 10000 → from_year t (fixed_digits 4 n ++ rest) ≡ after_year (record t { year = n }) rest
 year-written t n rest small =
     let a : n / 100 < 100 = omega arith in
     let b : n % 100 < 100 = omega arith in
@@ -79,17 +79,17 @@ year-written t n rest small =
     rw (fixed_digits-four n, fixed_digits-two (n / 100) a, fixed_digits-two (n % 100) b)
     (sym (year-plain t (tens high) (ones high) (tens low) (ones low) n rest (ap Some (sym whole) ∙ digits)))
 
-month-written : (t : Timestamp) (n : ℕ) (rest : List ℕ) → n < 100 → behind_year t (45 ∷ (fixed_digits 2 n ++ rest)) ≡ behind_month (record t { precision = Month; month = n }) rest
+month-written : (t : Timestamp) (n : ℕ) (rest : List ℕ) → n < 100 → after_year t (45 ∷ (fixed_digits 2 n ++ rest)) ≡ after_month (record t { precision = Month; month = n }) rest
 month-written t n rest small = rw (fixed_digits-two n small) (sym (year_month-plain t (tens n) (ones n) n rest (two-fixed n small)))
 
-day-written : (t : Timestamp) (n : ℕ) (rest : List ℕ) → n < 100 → behind_month t (45 ∷ (fixed_digits 2 n ++ rest)) ≡ behind_day (record t { precision = Day; day = n }) rest
+day-written : (t : Timestamp) (n : ℕ) (rest : List ℕ) → n < 100 → after_month t (45 ∷ (fixed_digits 2 n ++ rest)) ≡ after_day (record t { precision = Day; day = n }) rest
 day-written t n rest small = rw (fixed_digits-two n small) (sym (month-plain t (tens n) (ones n) n rest (two-fixed n small)))
 
-second-written : (t : Timestamp) (n : ℕ) (rest : List ℕ) → n < 100 → behind_minute t (58 ∷ (fixed_digits 2 n ++ rest)) ≡ behind_second (record t { precision = Second; second = n }) rest
+second-written : (t : Timestamp) (n : ℕ) (rest : List ℕ) → n < 100 → after_minute t (58 ∷ (fixed_digits 2 n ++ rest)) ≡ after_second (record t { precision = Second; second = n }) rest
 second-written t n rest small = rw (fixed_digits-two n small) (sym (minute-plain t (tens n) (ones n) n rest (two-fixed n small)))
 
 fraction-written : (t : Timestamp) (count n b : ℕ) (rest : List ℕ) → 1 ≤ count → count ≤ 38 → n < 10 ^ count → is_offset_mark b ≡ true
-    → behind_second t (46 ∷ (fixed_digits count n ++ b ∷ rest)) ≡ with_offset (record t { precision = Fraction count; fraction = n }) (b ∷ rest)
+    → after_second t (46 ∷ (fixed_digits count n ++ b ∷ rest)) ≡ with_offset (record t { precision = Fraction count; fraction = n }) (b ∷ rest)
 fraction-written t count n b rest some few small mark =
     let first = fraction-mark t (fixed_digits count n) b n rest (fixed_digits-are count n) mark (sym (number-fixed_digits count n small)) in
     let none : (count == 0) ≡ false = ne_eqb count 0 (λ e. absurd (omega arith)) in
@@ -175,21 +175,21 @@ days-few y m =
 day-small : (t : Timestamp) → IsMoment t → t.day ≤ 31
 day-small t m = omega (arith, m.date.2.1, days-few (pos t.year) t.month)
 
-year-text : (t : Timestamp) (rest : List ℕ) → IsMoment t → from_year unread (fixed_digits 4 t.year ++ rest) ≡ behind_year (fields Year t.year 1 1 0 0 0 0) rest
+year-text : (t : Timestamp) (rest : List ℕ) → IsMoment t → from_year unread (fixed_digits 4 t.year ++ rest) ≡ after_year (fields Year t.year 1 1 0 0 0 0) rest
 year-text t rest m = year-written unread t.year rest (omega (arith, m.year.1))
 
 month-text : (t : Timestamp) (rest : List ℕ) → IsMoment t
-    → from_year unread (fixed_digits 4 t.year ++ (45 ∷ (fixed_digits 2 t.month ++ rest))) ≡ behind_month (fields Month t.year t.month 1 0 0 0 0) rest
+    → from_year unread (fixed_digits 4 t.year ++ (45 ∷ (fixed_digits 2 t.month ++ rest))) ≡ after_month (fields Month t.year t.month 1 0 0 0 0) rest
 month-text t rest m = year-text t (45 ∷ (fixed_digits 2 t.month ++ rest)) m ∙ month-written (fields Year t.year 1 1 0 0 0 0) t.month rest (omega (arith, month-small t m))
 
-day-text : (t : Timestamp) (rest : List ℕ) → IsMoment t → from_year unread (day_text t ++ rest) ≡ behind_day (fields Day t.year t.month t.day 0 0 0 0) rest
+day-text : (t : Timestamp) (rest : List ℕ) → IsMoment t → from_year unread (day_text t ++ rest) ≡ after_day (fields Day t.year t.month t.day 0 0 0 0) rest
 day-text t rest m =
     simp append_assoc (
     month-text t (45 ∷ (fixed_digits 2 t.day ++ rest)) m
     ∙ day-written (fields Month t.year t.month 1 0 0 0 0) t.day rest (omega (arith, day-small t m))
     )
 
-minute-text : (t : Timestamp) (rest : List ℕ) → IsMoment t → timestamp_of_text (minute_text t ++ rest) ≡ behind_minute (fields Minute t.year t.month t.day t.hour t.minute 0 0) rest
+minute-text : (t : Timestamp) (rest : List ℕ) → IsMoment t → timestamp_of_text (minute_text t ++ rest) ≡ after_minute (fields Minute t.year t.month t.day t.hour t.minute 0 0) rest
 minute-text t rest m =
     let hour = m.hour in
     let minute = m.minute in
@@ -219,7 +219,7 @@ minute-text t rest m =
     ∙ minute-bytes (tens high) (ones high) (tens low) (ones low) (tens t.month) (ones t.month) (tens t.day) (ones t.day) (tens t.hour) (ones t.hour) (tens t.minute) (ones t.minute)
     t.year t.month t.day t.hour t.minute rest (ap Some (sym year) ∙ digits) (two-fixed t.month few_months) (two-fixed t.day few_days) (two-fixed t.hour few_hours) (two-fixed t.minute few_minutes)
 
-second-text : (t : Timestamp) (rest : List ℕ) → IsMoment t → timestamp_of_text (second_text t ++ rest) ≡ behind_second (fields Second t.year t.month t.day t.hour t.minute t.second 0) rest
+second-text : (t : Timestamp) (rest : List ℕ) → IsMoment t → timestamp_of_text (second_text t ++ rest) ≡ after_second (fields Second t.year t.month t.day t.hour t.minute t.second 0) rest
 second-text t rest m =
     let second = m.second in
     let whole : second_text t ++ rest ≡ minute_text t ++ (58 ∷ (fixed_digits 2 t.second ++ rest)) = append_assoc (minute_text t) (58 ∷ fixed_digits 2 t.second) rest in
@@ -260,7 +260,7 @@ to-read (Fraction n) t h e =
     let whole : Timestamp = fields (Fraction n) t.year t.month t.day t.hour t.minute t.second t.fraction in
     let begins = offset-mark t.offset in
     second-text t (46 ∷ (fixed_digits n t.fraction ++ offset_text t.offset)) h.moment
-    ∙ ap (λ xs. behind_second second (46 ∷ (fixed_digits n t.fraction ++ xs))) begins.is
+    ∙ ap (λ xs. after_second second (46 ∷ (fixed_digits n t.fraction ++ xs))) begins.is
     ∙ fraction-written second n t.fraction begins.first begins.rest k.0 k.1 k.2 begins.mark
     ∙ ap (λ xs. with_offset whole xs) (sym begins.is)
     ∙ offset-read whole t h same

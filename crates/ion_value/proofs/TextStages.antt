@@ -1,4 +1,4 @@
--- What is read behind the year, the month, the day and the minute of a timestamp in text.
+-- What is read after the year, the month, the day and the minute of a timestamp in text.
 use Rattle.std.proofs.Common.{◌≡◌, ◌≢◌, ◌⊎◌, ℕ, zero, suc, ◌+◌, ◌-◌, ◌*◌, map, ◌<◌, ◌≤◌, Bool, true, false, ◌&&◌, ◌||◌, ◌==◌, if◌then◌else◌, Some, None, Result, Ok, Err, List, [], ◌∷◌, length, take, drop, get_or, codes, inl, inr, refl, sym, ap, ◌∙◌, arith}
 use Rattle.std.proofs.lemmas.Bool.{cases_Bool, ne_eqb, eqb-true, and_parts}
 use Rattle.std.proofs.lemmas.List.{take_all}
@@ -11,7 +11,7 @@ use Rattle.ion_value.specs.declared.timestamp.Timestamp.{Timestamp}
 use Rattle.ion_value.specs.Number.{number}
 use Rattle.ion_value.specs.Digits.{is_digit, digit_value, all_are, cut_at}
 use Rattle.ion_value.specs.Timestamp.{fields, looks_like, digits_at, is_offset_mark, has_seconds_shape, date_in_range, time_of_parts, timestamp_of_text}
-use Rattle.ion_value.specs.TimestampRuns.{two_digits, four_digits, unread, with_offset, with_point, with_seconds, begins_time, to_the_minute, behind_second, behind_minute, behind_day, behind_month, behind_year, from_year}
+use Rattle.ion_value.specs.TimestampRuns.{two_digits, four_digits, unread, with_offset, with_point, with_seconds, begins_time, to_the_minute, after_second, after_minute, after_day, after_month, after_year, from_year}
 use Rattle.ion_value.proofs.TextParts.{digit-no_mark, shape-mark}
 use Rattle.ion_value.proofs.TimestampText.{two_digits-some, two_digits-none}
 
@@ -30,7 +30,7 @@ reads-from (suc n) i bytes within =
 pub reads-is : (n : ℕ) (bytes : List ℕ) → n ≤ length bytes → bytes ≡ reads n 0 bytes
 reads-is n bytes within = reads-from n 0 bytes (omega arith)
 
--- ---- what stands behind the minute
+-- ---- what stands after the minute
 
 length-cut : (test : ℕ → Bool) (bytes : List ℕ) → length (cut_at test bytes).0 ≤ length bytes
 unfolding cut_at
@@ -42,7 +42,7 @@ two_places [] few = refl
 two_places (b ∷ []) few = and-false (is_digit b)
 two_places (b ∷ c ∷ bytes) few = absurd (omega arith)
 
-pub minute-offset : (t : Timestamp) (bytes : List ℕ) → (length bytes < 3) ⊎ (get_or bytes 0 0 ≢ 58) → with_offset t bytes ≡ behind_minute t bytes
+pub minute-offset : (t : Timestamp) (bytes : List ℕ) → (length bytes < 3) ⊎ (get_or bytes 0 0 ≢ 58) → with_offset t bytes ≡ after_minute t bytes
 unfolding cut_at
 minute-offset t [] _ = refl
 minute-offset t (b ∷ bytes) (inl few) =
@@ -57,13 +57,13 @@ minute-offset t (b ∷ bytes) (inr no_colon) =
       | inr e ↦ rw (e, shape-mark b bytes e, ne_eqb 58 b (λ p. no_colon (sym p))) refl
     ]
 
-pub minute-plain : (t : Timestamp) (s1 s2 n : ℕ) (rest : List ℕ) → Some n ≡ two_digits s1 s2 → behind_second (record t { precision = Second; second = n }) rest ≡ behind_minute t (58 ∷ s1 ∷ s2 ∷ rest)
+pub minute-plain : (t : Timestamp) (s1 s2 n : ℕ) (rest : List ℕ) → Some n ≡ two_digits s1 s2 → after_second (record t { precision = Second; second = n }) rest ≡ after_minute t (58 ∷ s1 ∷ s2 ∷ rest)
 unfolding cut_at
 minute-plain t s1 s2 n rest e =
     let digits = two_digits-some s1 s2 n e in
     rw (digit-no_mark s1 digits.0, digit-no_mark s2 digits.1, digits.0, digits.1, digits.2) refl
 
-minute-bad_plain : (t : Timestamp) (s1 s2 : ℕ) (rest : List ℕ) → None ≡ two_digits s1 s2 → behind_minute t (58 ∷ s1 ∷ s2 ∷ rest) ≡ Err BadToken
+minute-bad_plain : (t : Timestamp) (s1 s2 : ℕ) (rest : List ℕ) → None ≡ two_digits s1 s2 → after_minute t (58 ∷ s1 ∷ s2 ∷ rest) ≡ Err BadToken
 unfolding cut_at
 minute-bad_plain t s1 s2 rest e =
     elim (cases_Bool (is_digit s1)) [
@@ -81,30 +81,30 @@ minute-reads : (bytes : List ℕ) → 3 ≤ length bytes → get_or bytes 0 0 �
 minute-reads bytes within colon = reads-is 3 bytes within ∙ ap (λ b. b ∷ reads 2 1 bytes) colon
 
 pub minute-second : (t : Timestamp) (bytes : List ℕ) (n : ℕ) → 3 ≤ length bytes → get_or bytes 0 0 ≡ 58 → Some n ≡ two_digits (get_or bytes 1 0) (get_or bytes 2 0)
-    → behind_second (record t { precision = Second; second = n }) (drop 3 bytes) ≡ behind_minute t bytes
+    → after_second (record t { precision = Second; second = n }) (drop 3 bytes) ≡ after_minute t bytes
 minute-second t bytes n within colon e =
-    minute-plain t (get_or bytes 1 0) (get_or bytes 2 0) n (drop 3 bytes) e ∙ sym (ap (λ xs. behind_minute t xs) (minute-reads bytes within colon))
+    minute-plain t (get_or bytes 1 0) (get_or bytes 2 0) n (drop 3 bytes) e ∙ sym (ap (λ xs. after_minute t xs) (minute-reads bytes within colon))
 
 pub minute-bad : (t : Timestamp) (bytes : List ℕ) → 3 ≤ length bytes → get_or bytes 0 0 ≡ 58 → None ≡ two_digits (get_or bytes 1 0) (get_or bytes 2 0)
-    → Err BadToken ≡ behind_minute t bytes
+    → Err BadToken ≡ after_minute t bytes
 minute-bad t bytes within colon e =
-    sym (ap (λ xs. behind_minute t xs) (minute-reads bytes within colon) ∙ minute-bad_plain t (get_or bytes 1 0) (get_or bytes 2 0) (drop 3 bytes) e)
+    sym (ap (λ xs. after_minute t xs) (minute-reads bytes within colon) ∙ minute-bad_plain t (get_or bytes 1 0) (get_or bytes 2 0) (drop 3 bytes) e)
 
--- ---- what stands behind the month and the year
+-- ---- what stands after the month and the year
 
-pub month-plain : (t : Timestamp) (d1 d2 n : ℕ) (rest : List ℕ) → Some n ≡ two_digits d1 d2 → behind_day (record t { precision = Day; day = n }) rest ≡ behind_month t (45 ∷ d1 ∷ d2 ∷ rest)
+pub month-plain : (t : Timestamp) (d1 d2 n : ℕ) (rest : List ℕ) → Some n ≡ two_digits d1 d2 → after_day (record t { precision = Day; day = n }) rest ≡ after_month t (45 ∷ d1 ∷ d2 ∷ rest)
 month-plain t d1 d2 n rest e =
     let digits = two_digits-some d1 d2 n e in
     rw (digits.0, digits.1, digits.2) refl
 
-pub year_month-plain : (t : Timestamp) (m1 m2 n : ℕ) (rest : List ℕ) → Some n ≡ two_digits m1 m2 → behind_month (record t { precision = Month; month = n }) rest ≡ behind_year t (45 ∷ m1 ∷ m2 ∷ rest)
+pub year_month-plain : (t : Timestamp) (m1 m2 n : ℕ) (rest : List ℕ) → Some n ≡ two_digits m1 m2 → after_month (record t { precision = Month; month = n }) rest ≡ after_year t (45 ∷ m1 ∷ m2 ∷ rest)
 year_month-plain t m1 m2 n rest e =
     let digits = two_digits-some m1 m2 n e in
     rw (digits.0, digits.1, digits.2) refl
 
 -- ---- the tests of the definition, one part after the other
 
--- what the definition tests behind the month and behind the year
+-- what the definition tests after the month and after the year
 abbrev flat_month : Timestamp → List ℕ → Result Timestamp Reason
 flat_month t bytes =
     if looks_like (codes "T") bytes then date_in_range t
@@ -119,7 +119,7 @@ flat_year t bytes =
     then date_in_range (record t { precision = Day; month = digits_at 1 2 bytes; day = digits_at 4 2 bytes })
     else Err BadToken))
 
-month-dash : (t : Timestamp) (bytes : List ℕ) → behind_month t (45 ∷ bytes) ≡ flat_month t (45 ∷ bytes)
+month-dash : (t : Timestamp) (bytes : List ℕ) → after_month t (45 ∷ bytes) ≡ flat_month t (45 ∷ bytes)
 month-dash t [] = refl
 month-dash t (d1 ∷ []) = simp and-false
 month-dash t (d1 ∷ d2 ∷ bytes) =
@@ -128,7 +128,7 @@ month-dash t (d1 ∷ d2 ∷ bytes) =
       | inr p ↦ rw p refl
     ]
 
-month-flat : (t : Timestamp) (bytes : List ℕ) → behind_month t bytes ≡ flat_month t bytes
+month-flat : (t : Timestamp) (bytes : List ℕ) → after_month t bytes ≡ flat_month t bytes
 month-flat t [] = refl
 month-flat t (b ∷ bytes) =
     elim (cases_Bool (45 == b)) [
@@ -136,7 +136,7 @@ month-flat t (b ∷ bytes) =
       | inr other ↦ rw other refl
     ]
 
-year-dash : (t : Timestamp) (bytes : List ℕ) → behind_year t (45 ∷ bytes) ≡ flat_year t (45 ∷ bytes)
+year-dash : (t : Timestamp) (bytes : List ℕ) → after_year t (45 ∷ bytes) ≡ flat_year t (45 ∷ bytes)
 year-dash t [] = refl
 year-dash t (m1 ∷ []) = simp and-false
 year-dash t (m1 ∷ m2 ∷ bytes) =
@@ -148,7 +148,7 @@ year-dash t (m1 ∷ m2 ∷ bytes) =
       | inr p ↦ rw p refl
     ]
 
-year-flat : (t : Timestamp) (bytes : List ℕ) → behind_year t bytes ≡ flat_year t bytes
+year-flat : (t : Timestamp) (bytes : List ℕ) → after_year t bytes ≡ flat_year t bytes
 year-flat t [] = refl
 year-flat t (b ∷ bytes) =
     elim (cases_Bool (45 == b)) [
@@ -164,7 +164,7 @@ shape-short b seconds e =
     let some : (suc (length seconds) == 0) ≡ false = ne_eqb (suc (length seconds)) 0 (λ z. absurd (omega arith)) in
     rw (some, e) refl
 
--- with digits behind a point
+-- with digits after a point
 time-digits : (run : List ℕ) (b s1 s2 p : ℕ) (digits offset : List ℕ) → looks_like (codes ":00") (b ∷ s1 ∷ s2 ∷ []) ≡ true
     → (looks_like (codes ".0") (take 2 (p ∷ digits)) && all_are is_digit digits) ≡ true
     → with_point (record (to_the_minute unread run) { precision = Second; second = digits_at 0 2 (s1 ∷ s2 ∷ []) }) (p ∷ digits) offset ≡ time_of_parts run (b ∷ s1 ∷ s2 ∷ p ∷ digits) offset
@@ -204,7 +204,7 @@ time-parts run (b ∷ s1 ∷ s2 ∷ tail) offset =
 
 -- ---- the whole run
 
--- the tests of the definition, where what stands behind a minute is told
+-- the tests of the definition, where what stands after a minute is told
 abbrev tests : List ℕ → Result Timestamp Reason → Result Timestamp Reason
 tests run time =
     if looks_like (codes "0000T") run then date_in_range (fields Year (digits_at 0 4 run) 1 1 0 0 0 0)
@@ -223,7 +223,7 @@ date-year a b c d rest =
         | inl q ↦ elim (cases_Bool (is_digit c)) [
           | inl r ↦ elim (cases_Bool (is_digit d)) [
             | inl s ↦
-                let first : from_year unread run ≡ behind_year year rest = rw (p, q, r, s) refl in
+                let first : from_year unread run ≡ after_year year rest = rw (p, q, r, s) refl in
                 let flat : flat_year year rest ≡ tests run (Err BadToken) = rw (p, q, r, s) refl in
                 first ∙ year-flat year rest ∙ flat
             | inr s ↦ rw (p, q, r, s) refl
@@ -287,7 +287,7 @@ minute-within run e = shape-within (codes "0000-00-00T00:00") run e
 pub minute-short : (run : List ℕ) → length run < 16 → begins_time run ≡ false
 minute-short run short = elim (cases_Bool (begins_time run)) [ inl e ↦ absurd (omega (arith, minute-within run e)) | inr e ↦ e ]
 
-pub minute-text : (run : List ℕ) → begins_time run ≡ true → behind_minute (to_the_minute unread run) (drop 16 run) ≡ timestamp_of_text run
+pub minute-text : (run : List ℕ) → begins_time run ≡ true → after_minute (to_the_minute unread run) (drop 16 run) ≡ timestamp_of_text run
 unfolding timestamp_of_text
 minute-text run e =
     let within = minute-within run e in
@@ -351,7 +351,7 @@ four_digits-some a b c d n e =
 -- a time by its digits
 pub minute-bytes : (a b c d m1 m2 d1 d2 h1 h2 i1 i2 y m day h i : ℕ) (rest : List ℕ) → Some y ≡ four_digits a b c d → Some m ≡ two_digits m1 m2 → Some day ≡ two_digits d1 d2
     → Some h ≡ two_digits h1 h2 → Some i ≡ two_digits i1 i2
-    → timestamp_of_text (a ∷ b ∷ c ∷ d ∷ 45 ∷ m1 ∷ m2 ∷ 45 ∷ d1 ∷ d2 ∷ 84 ∷ h1 ∷ h2 ∷ 58 ∷ i1 ∷ i2 ∷ rest) ≡ behind_minute (fields Minute y m day h i 0 0) rest
+    → timestamp_of_text (a ∷ b ∷ c ∷ d ∷ 45 ∷ m1 ∷ m2 ∷ 45 ∷ d1 ∷ d2 ∷ 84 ∷ h1 ∷ h2 ∷ 58 ∷ i1 ∷ i2 ∷ rest) ≡ after_minute (fields Minute y m day h i 0 0) rest
 minute-bytes a b c d m1 m2 d1 d2 h1 h2 i1 i2 y m day h i rest e_y e_m e_d e_h e_i =
     let run : List ℕ = a ∷ b ∷ c ∷ d ∷ 45 ∷ m1 ∷ m2 ∷ 45 ∷ d1 ∷ d2 ∷ 84 ∷ h1 ∷ h2 ∷ 58 ∷ i1 ∷ i2 ∷ rest in
     let years = four_digits-some a b c d y e_y in
@@ -363,7 +363,7 @@ minute-bytes a b c d m1 m2 d1 d2 h1 h2 i1 i2 y m day h i rest e_y e_m e_d e_h e_
     rw (years.0, years.1, years.2, years.3, months.0, months.1, days.0, days.1, hours.0, hours.1, minutes.0, minutes.1) refl in
     sym (minute-text run begins) ∙ rw (years.4, months.2, days.2, hours.2, minutes.2) refl
 
-pub year-plain : (t : Timestamp) (a b c d n : ℕ) (rest : List ℕ) → Some n ≡ four_digits a b c d → behind_year (record t { year = n }) rest ≡ from_year t (a ∷ b ∷ c ∷ d ∷ rest)
+pub year-plain : (t : Timestamp) (a b c d n : ℕ) (rest : List ℕ) → Some n ≡ four_digits a b c d → after_year (record t { year = n }) rest ≡ from_year t (a ∷ b ∷ c ∷ d ∷ rest)
 year-plain t a b c d n rest e =
     let digits = four_digits-some a b c d n e in
     rw (digits.0, digits.1, digits.2, digits.3, digits.4) refl
@@ -385,7 +385,7 @@ year-bad_plain t a b c d rest e =
     ]
 
 pub year-read : (t : Timestamp) (run : List ℕ) (n : ℕ) → 4 ≤ length run → Some n ≡ four_digits (get_or run 0 0) (get_or run 1 0) (get_or run 2 0) (get_or run 3 0)
-    → behind_year (record t { year = n }) (drop 4 run) ≡ from_year t run
+    → after_year (record t { year = n }) (drop 4 run) ≡ from_year t run
 year-read t run n within e =
     year-plain t (get_or run 0 0) (get_or run 1 0) (get_or run 2 0) (get_or run 3 0) n (drop 4 run) e ∙ sym (ap (λ xs. from_year t xs) (reads-is 4 run within))
 

@@ -97,7 +97,7 @@ abbrev pub is_whole : Precision → Bool
 is_whole (Fraction n) = false
 is_whole _ = true
 
--- the parts behind the year, each in one octet
+-- the parts after the year, each in one octet
 parts_octets : (p : Precision) (t : Timestamp) → IsMoment t → is_whole p ≡ true
     → told_octets p t ≡ var_uint_octets t.year ++ map (λ n. n + 128) (take (parts_told p) (t.month ∷ t.day ∷ t.hour ∷ t.minute ∷ t.second ∷ []))
 parts_octets Year t m h = sym (append-none (var_uint_octets t.year))
@@ -202,7 +202,7 @@ body-octets t = All-Below 256 (timestamp_body t) (Below-body_in_utc (utc_of t))
 
 -- ---- what is written is read
 
--- fields one after the other, and octets behind them
+-- fields one after the other, and octets after them
 together : List (List ℕ) → List ℕ → List ℕ
 together [] rest = rest
 together (g ∷ gs) rest = g ++ together gs rest
@@ -234,7 +234,7 @@ numbers-read (n ∷ ns) small =
     let value = (var_uint_octets-VarUInt n small.0).value in
     rw (← value, numbers-read ns small.1) refl
 
--- the numbers that a precision tells, and the fraction behind them
+-- the numbers that a precision tells, and the fraction after them
 numbers_told : Precision → Timestamp → List ℕ
 numbers_told p t = take (suc (parts_told p)) (t.year ∷ t.month ∷ t.day ∷ t.hour ∷ t.minute ∷ t.second ∷ [])
 
@@ -272,7 +272,7 @@ Small-told p t m =
     Small-take (suc (parts_told p)) (t.year ∷ t.month ∷ t.day ∷ t.hour ∷ t.minute ∷ t.second ∷ [])
     (omega arith, (omega arith, (omega arith, (omega arith, (omega arith, (omega arith, tt))))))
 
--- six of them at most, and what stands behind them
+-- six of them at most, and what stands after them
 told-cut-by : (p : Precision) (t : Timestamp) (k : ℕ) → IsMoment t → length (numbers_told p t) + k ≡ 6 → ((k ≡ 0) ⊎ (fraction_told p t ≡ []))
     → fields_cut 6 (told_octets p t) ≡ Some (map var_uint_octets (numbers_told p t), fraction_told p t)
 told-cut-by p t k m six ended =
@@ -294,7 +294,7 @@ told-cut Minute t m = told-cut-by Minute t 1 m refl (inr refl)
 told-cut Second t m = told-cut-by Second t 0 m refl (inr refl)
 told-cut (Fraction n) t m = told-cut-by (Fraction n) t 0 m refl (inl refl)
 
--- the exponent behind them, and the coefficient
+-- the exponent after them, and the coefficient
 exponent_told : Precision → List (List ℕ)
 exponent_told (Fraction n) = var_int_octets true n ∷ []
 exponent_told _ = []

@@ -10,7 +10,7 @@ use Rattle.ion_value.specs.declared.timestamp.Precision.TheVariants.{Year, Month
 use Rattle.ion_value.specs.declared.timestamp.Timestamp.{Timestamp}
 use Rattle.ion_value.specs.declared.var.Signed.{Signed}
 use Rattle.ion_value.specs.Number.{IsVar, VarUInt, VarInt, var_uint, var_int_negative, var_int_magnitude, int_negative, int_magnitude, signed, var_cut, var_uint_octets, var_int_octets, coefficient_octets}
-use Rattle.ion_value.specs.Timestamp.{IsMoment, is_moment, is_date, local_of, utc_of, utc_fields, exponent_in, is_fraction, offset_in, fields_cut, fields, second_precision, digits_behind, in_local_time, timestamp_in_utc, timestamp_of_fields, timestamp_of_cut, timestamp_of_bytes, offset_octets, day_octets, minute_octets, second_octets, told_octets, body_in_utc, timestamp_body}
+use Rattle.ion_value.specs.Timestamp.{IsMoment, is_moment, is_date, local_of, utc_of, utc_fields, exponent_in, is_fraction, offset_in, fields_cut, fields, second_precision, digits_after_point, in_local_time, timestamp_in_utc, timestamp_of_fields, timestamp_of_cut, timestamp_of_bytes, offset_octets, day_octets, minute_octets, second_octets, told_octets, body_in_utc, timestamp_body}
 use Rattle.ion_value.proofs.Octets.{Below}
 use Rattle.ion_value.proofs.Cut.{Cut, IfSome-Cut}
 use Rattle.ion_value.proofs.VarOctets.{var_uint_octets-fewest, var_int_octets-fewest}
@@ -31,15 +31,15 @@ abbrev AreFields : List (List ℕ) → Type 0
 AreFields [] = Unit {0}
 AreFields (f ∷ fs) = IsField f × AreFields fs
 
--- fields and the octets behind them, which make up a body
+-- fields and the octets after them, which make up a body
 record Parts (b : List ℕ) (fs : List (List ℕ)) (c : List ℕ) : Type 0 where
   pub fields : AreFields fs
   pub all : total fs + length c ≡ length b
   pub octets : Below 256 c
 
-Below-behind : (xs ys : List ℕ) → Below 256 (xs ++ ys) → Below 256 ys
-Below-behind [] ys h = h
-Below-behind (x ∷ xs) ys h = Below-behind xs ys h.1
+Below-after : (xs ys : List ℕ) → Below 256 (xs ++ ys) → Below 256 ys
+Below-after [] ys h = h
+Below-after (x ∷ xs) ys h = Below-after xs ys h.1
 
 abbrev IsParts : List ℕ → List (List ℕ) × List ℕ → Type 0
 IsParts b cut = Parts b cut.0 cut.1
@@ -64,7 +64,7 @@ cut-parts zero b octets = record { fields = tt; all = omega arith; octets = octe
 cut-parts (suc most) [] octets = record { fields = tt; all = omega arith; octets = tt }
 cut-parts (suc most) (x ∷ b) octets =
     parts-by (x ∷ b) (fields_cut most) (var_cut 9 (x ∷ b)) (IfSome-Cut 9 (x ∷ b))
-    (λ e c whole. cut-parts most c (Below-behind e c (subst (λ (l : List ℕ). Below 256 l) whole octets)))
+    (λ e c whole. cut-parts most c (Below-after e c (subst (λ (l : List ℕ). Below 256 l) whole octets)))
 
 -- ---- the fewest octets of each
 
@@ -195,10 +195,10 @@ coefficient-by true (suc n) small long fits few =
 coefficient-few : (e c : List ℕ) → Below 256 c → is_fraction e c ≡ true → length (coefficient_octets false (int_magnitude c)) ≤ length c
 coefficient-few e c octets fits =
     let few = coefficient-fewest c octets in
-    coefficient-by (int_negative c) (int_magnitude c) (nat_lt (int_magnitude c) (10 ^ digits_behind e)) (length c) fits
+    coefficient-by (int_negative c) (int_magnitude c) (nat_lt (int_magnitude c) (10 ^ digits_after_point e)) (length c) fits
     (λ plus. rw plus at few)
 
--- so many digits behind the point, or none
+-- so many digits after the point, or none
 precision-few : (o e : List ℕ) (t u : Timestamp) (n : ℕ) (long : ℕ) → IsField e → u.precision ≡ second_precision n → ((n ≡ 0) ⊎ (n ≡ var_int_magnitude e))
     → length (coefficient_octets false u.fraction) ≤ long → length (told_octets (second_precision n) u) ≤ length (second_octets u) + (length e + long)
 precision-few o e t u zero long is p digits few = omega arith
@@ -208,7 +208,7 @@ precision-few o e t u (suc n) long is p (inr same) few =
     let exponent : length (var_int_octets true (suc n)) ≤ length e = rw same (int-fewest true e is) in
     omega (arith, told, exponent, few)
 
-digits-told : (e : List ℕ) → (digits_behind e ≡ 0) ⊎ (digits_behind e ≡ var_int_magnitude e)
+digits-told : (e : List ℕ) → (digits_after_point e ≡ 0) ⊎ (digits_after_point e ≡ var_int_magnitude e)
 digits-told e = elim (cases_Bool (var_int_negative e)) [ inl k ↦ inr (rw k refl) | inr k ↦ inl (rw k refl) ]
 
 fields-fewest : (o : List ℕ) (others : List (List ℕ)) (c : List ℕ) (t : Timestamp) → IsField o → AreFields others → Below 256 c
@@ -266,7 +266,7 @@ fields-fewest o (y ∷ m ∷ d ∷ h ∷ i ∷ s ∷ []) c t is fs octets ok =
     let told = length-append (minute_octets u) (var_uint_octets (var_uint s)) in
     omega (arith, body, told, minutes, days, year, month, day, hour, minute, second)
 fields-fewest o (y ∷ m ∷ d ∷ h ∷ i ∷ s ∷ e ∷ []) c t is fs octets ok =
-    let u : Timestamp = fields (second_precision (digits_behind e)) (var_uint y) (var_uint m) (var_uint d) (var_uint h) (var_uint i) (var_uint s) (int_magnitude c) in
+    let u : Timestamp = fields (second_precision (digits_after_point e)) (var_uint y) (var_uint m) (var_uint d) (var_uint h) (var_uint i) (var_uint s) (int_magnitude c) in
     let w = in_utc o (is_fraction e c) u t ok in
     let body = local-fewest o u t is w.moment refl w.local in
     let year = uint-fewest y fs.0 in
@@ -279,7 +279,7 @@ fields-fewest o (y ∷ m ∷ d ∷ h ∷ i ∷ s ∷ e ∷ []) c t is fs octets 
     let minutes = minute-long u in
     let seconds = length-append (minute_octets u) (var_uint_octets (var_uint s)) in
     let few = coefficient-few e c octets w.fit in
-    let told = precision-few o e t u (digits_behind e) (length c) fs.1.1.1.1.1.1.0 refl (digits-told e) few in
+    let told = precision-few o e t u (digits_after_point e) (length c) fs.1.1.1.1.1.1.0 refl (digits-told e) few in
     omega (arith, body, told, seconds, minutes, days, year, month, day, hour, minute, second)
 fields-fewest o (y ∷ m ∷ d ∷ h ∷ i ∷ s ∷ e ∷ x ∷ others) c t is fs octets ok = absurd (cc ok)
 
@@ -296,7 +296,7 @@ all-fewest (o ∷ others) b c t parts ok =
 cut-fewest : (o : Option (List (List ℕ) × List ℕ)) (b : List ℕ) (t : Timestamp) → IfSome o (IsParts b) → timestamp_of_cut o ≡ Ok t → length (timestamp_body t) ≤ length b
 cut-fewest None b t parts ok = absurd (cc ok)
 cut-fewest (Some cut) b t parts ok =
-    elim (cases_Bool (nat_le (2 ^ 128) (int_magnitude cut.1) || nat_lt 38 (digits_behind (exponent_in cut.0)))) [
+    elim (cases_Bool (nat_le (2 ^ 128) (int_magnitude cut.1) || nat_lt 38 (digits_after_point (exponent_in cut.0)))) [
       | inl k ↦ absurd (Ok-no (timestamp_of_cut (Some cut)) t Range (rw k refl) ok)
       | inr k ↦ all-fewest cut.0 b cut.1 t parts (rw k at ok)
     ]

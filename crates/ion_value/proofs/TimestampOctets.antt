@@ -12,7 +12,7 @@ use Rattle.ion_value.specs.declared.timestamp.Precision.TheVariants.{Year, Month
 use Rattle.ion_value.specs.declared.timestamp.Timestamp.{Timestamp}
 use Rattle.ion_value.specs.declared.var.Signed.{Signed}
 use Rattle.ion_value.specs.Number.{var_uint, signed, VarUInt, VarInt, int_negative, int_magnitude, var_int_magnitude, var_int_negative, var_cut}
-use Rattle.ion_value.specs.Timestamp.{IsMoment, is_moment, IsOffset, IsTimestamp, KeepsPrecision, is_date, local_of, utc_fields, exponent_in, is_fraction, offset_in, fields_cut, fields, second_precision, digits_behind, in_local_time, timestamp_in_utc, timestamp_of_fields, timestamp_of_cut, timestamp_of_bytes}
+use Rattle.ion_value.specs.Timestamp.{IsMoment, is_moment, IsOffset, IsTimestamp, KeepsPrecision, is_date, local_of, utc_fields, exponent_in, is_fraction, offset_in, fields_cut, fields, second_precision, digits_after_point, in_local_time, timestamp_in_utc, timestamp_of_fields, timestamp_of_cut, timestamp_of_bytes}
 use Rattle.ion_value.specs.TimestampFields.{Spells, first_field, utc_of_numbers, if_moment, timestamp_of_parts}
 use Rattle.ion_value.proofs.Days.{utc_of-unknown, local-is, utc_is_back}
 use Rattle.ion_value.proofs.Cut.{var_cut-VarUInt, var_cut-no_VarUInt, var_cut-VarInt, var_cut-no_VarInt}
@@ -96,11 +96,11 @@ unfolding fields_cut
 fields_cut-bad most [] some h = absurd (omega arith)
 fields_cut-bad most (x ∷ b) some h = rw h refl
 
--- as many fields, and more behind them
+-- as many fields, and more after them
 abbrev pub and_more : ℕ → Option (List (List ℕ) × List ℕ) → Option (List (List ℕ) × List ℕ)
 and_more k o = option_and_then (λ cut. joined cut.0 (fields_cut k cut.1)) o
 
--- fields before others, and more behind them
+-- fields before others, and more after them
 joined-and_more : (k : ℕ) (e : List ℕ) (o : Option (List (List ℕ) × List ℕ)) → joined (e ∷ []) (and_more k o) ≡ and_more k (joined (e ∷ []) o)
 joined-and_more k e None = refl
 joined-and_more k e (Some cut) = joined-more (e ∷ []) cut.0 (fields_cut k cut.1)
@@ -117,7 +117,7 @@ fields_cut-add zero k b = rw zero-add (sym (joined-none (fields_cut k b)))
 fields_cut-add (suc j) k [] = rw (suc-add, fields_cut-empty k) refl
 fields_cut-add (suc j) k (x ∷ b) = rw suc-add (cut-and_more j k (x ∷ b) (var_cut 9 (x ∷ b)) (omega arith) refl (fields_cut-add j k))
 
--- fields that are fewer than there may be have no octets behind them
+-- fields that are fewer than there may be have no octets after them
 pub record Cuts (most : ℕ) (f : List (List ℕ)) (rest : List ℕ) : Type 0 where
   pub few : length f ≤ most
   pub ended : length f < most → rest ≡ []
@@ -164,7 +164,7 @@ short-read o (y ∷ m ∷ d ∷ h ∷ i ∷ []) few = refl
 short-read o (y ∷ m ∷ d ∷ h ∷ i ∷ s ∷ []) few = refl
 short-read o (y ∷ m ∷ d ∷ h ∷ i ∷ s ∷ e ∷ f) few = absurd (omega arith)
 
--- nothing behind a list
+-- nothing after a list
 pub append-none : {A : Type 0} (xs : List A) → xs ++ [] ≡ xs
 append-none [] = refl
 append-none (x ∷ xs) = ap (λ l. x ∷ l) (append-none xs)
@@ -175,7 +175,7 @@ parts-read _ _ _ _ nothing = refl
 parts-read _ _ _ _ (short o f few) = rw (append-none f) (short-read o f few)
 parts-read _ _ _ _ (whole o y m d h i s e c) = refl
 
--- an exponent stands behind six numbers
+-- an exponent stands after six numbers
 six-whole : (o e c : List ℕ) (g : List (List ℕ)) → length g ≡ 6 → Parts (o ∷ []) g (e ∷ []) c
 six-whole o e c [] n = absurd (omega arith)
 six-whole o e c (y ∷ []) n = absurd (omega arith)
@@ -186,7 +186,7 @@ six-whole o e c (y ∷ m ∷ d ∷ h ∷ i ∷ []) n = absurd (omega arith)
 six-whole o e c (y ∷ m ∷ d ∷ h ∷ i ∷ s ∷ []) n = whole o y m d h i s e c
 six-whole o e c (y ∷ m ∷ d ∷ h ∷ i ∷ s ∷ x ∷ g) n = absurd (omega arith)
 
--- no octets have no fields, and none behind them
+-- no octets have no fields, and none after them
 empty-cut : (most : ℕ) (b c : List ℕ) (f : List (List ℕ)) → b ≡ [] → fields_cut most b ≡ Some (f, c) → (f ≡ []) × (c ≡ [])
 empty-cut most b c f none e = some_pair_parts f [] c [] (sym e ∙ ap (fields_cut most) none ∙ fields_cut-empty most)
 
@@ -213,7 +213,7 @@ parts-of b q r c [] g h e1 e2 e3 =
 parts-of b q r c (o ∷ []) g h e1 e2 e3 = some-parts o r c g h (cuts 6 q g r e2) (cuts 1 r h c e3) e3
 parts-of b q r c (o ∷ p ∷ f) g h e1 e2 e3 = absurd (omega (arith, (cuts 1 b (o ∷ p ∷ f) q e1).few))
 
--- the timestamp of a body, by its offset, the numbers behind it, its exponent and its coefficient
+-- the timestamp of a body, by its offset, the numbers after it, its exponent and its coefficient
 pub bytes-read : (b q r c : List ℕ) (f g h : List (List ℕ)) → fields_cut 1 b ≡ Some (f, q) → fields_cut 6 q ≡ Some (g, r) → fields_cut 1 r ≡ Some (h, c)
     → timestamp_of_bytes b ≡ timestamp_of_parts (first_field f) (map var_uint g) (first_field h) c
 unfolding timestamp_of_bytes
@@ -406,7 +406,7 @@ a_moment o (Some u) t e =
 
 -- what has been read of an exponent and a coefficient, in range
 pub record PartsRead (e c : List ℕ) (digits : ℕ) (negative : Bool) (fraction : ℕ) : Type 0 where
-  pub digits_read : digits ≡ digits_behind e
+  pub digits_read : digits ≡ digits_after_point e
   pub few : digits ≤ 38
   pub negative_read : negative ≡ int_negative c
   pub fraction_read : fraction ≡ int_magnitude c
@@ -421,8 +421,8 @@ in_range : (o ns e c : List ℕ) (digits : ℕ) (negative : Bool) (fraction : �
 in_range o ns e c digits negative fraction h =
     let few = h.few in
     let low : int_magnitude c < 2 ^ 128 = omega (arith, h.in_range) in
-    let digits_few : digits_behind e ≤ 38 = omega (arith, h.digits_read) in
-    rw (h.digits_read, h.negative_read, h.fraction_read, lt-leb (2 ^ 128) (int_magnitude c) low, le-ltb 38 (digits_behind e) digits_few) refl
+    let digits_few : digits_after_point e ≤ 38 = omega (arith, h.digits_read) in
+    rw (h.digits_read, h.negative_read, h.fraction_read, lt-leb (2 ^ 128) (int_magnitude c) low, le-ltb 38 (digits_after_point e) digits_few) refl
 
 -- the three outcomes
 pub parts-unfit : (o ns e c : List ℕ) (digits : ℕ) (negative : Bool) (fraction : ℕ) → PartsRead e c digits negative fraction → false ≡ fits digits negative fraction
@@ -460,11 +460,11 @@ pub record IsTold (u : Timestamp) : Type 0 where
   pub precision : KeepsPrecision u.precision u
 
 -- a fraction is below 1
-fraction-lt : (digits : ℕ) (e c : List ℕ) → digits ≡ digits_behind e → is_fraction e c ≡ true → int_magnitude c < 10 ^ digits
+fraction-lt : (digits : ℕ) (e c : List ℕ) → digits ≡ digits_after_point e → is_fraction e c ≡ true → int_magnitude c < 10 ^ digits
 fraction-lt digits e c is h =
-    elim (or_cases (int_magnitude c == 0) (not (int_negative c) && nat_lt (int_magnitude c) (10 ^ digits_behind e)) h) [
+    elim (or_cases (int_magnitude c == 0) (not (int_negative c) && nat_lt (int_magnitude c) (10 ^ digits_after_point e)) h) [
       | inl none ↦ let nothing_is = eqb-true (int_magnitude c) 0 none in let least : 0 ≤ digits = omega arith in let powers : 10 ^ 0 ≤ 10 ^ digits = pow-le-pow_right {n = 10} (omega arith) least in omega arith
-      | inr below ↦ rw is (ltb-true (int_magnitude c) (10 ^ digits_behind e) (and_parts _ _ below).1)
+      | inr below ↦ rw is (ltb-true (int_magnitude c) (10 ^ digits_after_point e) (and_parts _ _ below).1)
     ]
 
 -- its precision is that of its digits
@@ -473,7 +473,7 @@ second-told zero y m d h i s fraction few small = record { unknown = refl; preci
 second-told (suc n) y m d h i s fraction few small = record { unknown = refl; precision = (omega arith, few, small) }
 
 -- the fields of a body tell a timestamp in UTC of their precision
-fields-told : (o : List ℕ) (f : List (List ℕ)) (c : List ℕ) → digits_behind (exponent_in (o ∷ f)) ≤ 38 → is_fraction (exponent_in (o ∷ f)) c ≡ true → IfSome (utc_fields f (int_magnitude c)) IsTold
+fields-told : (o : List ℕ) (f : List (List ℕ)) (c : List ℕ) → digits_after_point (exponent_in (o ∷ f)) ≤ 38 → is_fraction (exponent_in (o ∷ f)) c ≡ true → IfSome (utc_fields f (int_magnitude c)) IsTold
 fields-told o [] c few ok = tt
 fields-told o (y ∷ []) c few ok = record { unknown = refl; precision = (refl, refl, refl, refl, refl, refl, refl) }
 fields-told o (y ∷ m ∷ []) c few ok = record { unknown = refl; precision = (refl, refl, refl, refl, refl, refl) }
@@ -482,7 +482,7 @@ fields-told o (y ∷ m ∷ d ∷ h ∷ []) c few ok = tt
 fields-told o (y ∷ m ∷ d ∷ h ∷ i ∷ []) c few ok = record { unknown = refl; precision = (refl, refl) }
 fields-told o (y ∷ m ∷ d ∷ h ∷ i ∷ s ∷ []) c few ok = record { unknown = refl; precision = refl }
 fields-told o (y ∷ m ∷ d ∷ h ∷ i ∷ s ∷ e ∷ []) c few ok =
-    second-told (digits_behind e) (var_uint y) (var_uint m) (var_uint d) (var_uint h) (var_uint i) (var_uint s) (int_magnitude c) few (fraction-lt (digits_behind e) e c refl ok)
+    second-told (digits_after_point e) (var_uint y) (var_uint m) (var_uint d) (var_uint h) (var_uint i) (var_uint s) (int_magnitude c) few (fraction-lt (digits_after_point e) e c refl ok)
 fields-told o (y ∷ m ∷ d ∷ h ∷ i ∷ s ∷ e ∷ x ∷ f) c few ok = tt
 
 -- to go to local time keeps the precision of a time
@@ -554,14 +554,14 @@ in_utc-told o b (Some u) told =
       | inr k ↦ rw k (inr (inr refl))
     ]
 
-of_fields-told : (f : List (List ℕ)) (c : List ℕ) → digits_behind (exponent_in f) ≤ 38 → IsReading (timestamp_of_fields f c)
+of_fields-told : (f : List (List ℕ)) (c : List ℕ) → digits_after_point (exponent_in f) ≤ 38 → IsReading (timestamp_of_fields f c)
 of_fields-told [] c few = inr (inr refl)
 of_fields-told (o ∷ f) c few = in_utc-told o (is_fraction (exponent_in (o ∷ f)) c) (utc_fields f (int_magnitude c)) (λ ok. fields-told o f c few ok)
 
 -- of fields, and of a body
 cut-told : (f : List (List ℕ)) (c : List ℕ) → IsReading (timestamp_of_cut (Some (f, c)))
 cut-told f c =
-    elim (cases_Bool (nat_le (2 ^ 128) (int_magnitude c) || nat_lt 38 (digits_behind (exponent_in f)))) [
+    elim (cases_Bool (nat_le (2 ^ 128) (int_magnitude c) || nat_lt 38 (digits_after_point (exponent_in f)))) [
       | inl k ↦ rw k (inr (inl refl))
       | inr k ↦ rw k (let parts = or_parts _ _ k in of_fields-told f c (ltb-false _ _ parts.1))
     ]

@@ -167,7 +167,7 @@ tree_items = refl
 tree_path : path_of whole_items ≡ closed whole_tree
 tree_path = refl
 
--- the path behind `true`, with two open containers
+-- the path after `true`, with two open containers
 abbrev open_path : Path Symbol ℕ
 open_path = opened (version 0 ∷ []) 9 (inner (outermost [] 9 kinds.Struct nothing) (Some (Text (codes "a"))) [] 12 kinds.List list_members)
 

@@ -83,9 +83,9 @@ not_twice : (b : Bool) → not (not b) ≡ b
 not_twice true = refl
 not_twice false = refl
 
-behind : (a b c : Bool) → b ≡ false → (a && b && c) ≡ false
-behind true b c e = rw e refl
-behind false b c e = refl
+after : (a b c : Bool) → b ≡ false → (a && b && c) ≡ false
+after true b c e = rw e refl
+after false b c e = refl
 
 -- a text that fails one of the tests has quotes
 pub no_identifier : (word : List ℕ) → is_identifier word ≡ false → is_plain word ≡ false
@@ -94,10 +94,10 @@ no_identifier word e = rw e refl
 pub a_keyword : (word : List ℕ) → not (not (is_none (keyword word))) ≡ false → is_plain word ≡ false
 a_keyword word e =
     let fails : is_none (keyword word) ≡ false = sym (not_twice (is_none (keyword word))) ∙ e in
-    ap (λ (b : Bool). b && not (is_version word)) (behind (is_identifier word) (is_none (keyword word)) (not (is_id word)) fails)
+    ap (λ (b : Bool). b && not (is_version word)) (after (is_identifier word) (is_none (keyword word)) (not (is_id word)) fails)
 
 pub an_id : (word : List ℕ) → not (is_id word) ≡ false → is_plain word ≡ false
-an_id word e = behind (is_identifier word && is_none (keyword word)) (not (is_id word)) (not (is_version word)) e
+an_id word e = after (is_identifier word && is_none (keyword word)) (not (is_id word)) (not (is_version word)) e
 
 -- one that passes those before has quotes only where it is a version word
 pub no_version : (word : List ℕ) → is_identifier word ≡ true → not (not (is_none (keyword word))) ≡ true → not (is_id word) ≡ true → is_plain word ≡ not (is_version word)

@@ -79,7 +79,7 @@ is_decimal_mark b = b == 100 || b == 68
 abbrev pub is_point : ℕ → Bool
 is_point b = b == 46
 
--- a number's text behind its sign: what stands before the point, from there to the exponent's mark, and all from the mark on
+-- a number's text after its sign: what stands before the point, from there to the exponent's mark, and all from the mark on
 pub record Parts : Type 0 where
   pub whole : List ℕ
   pub fraction : List ℕ
@@ -102,7 +102,7 @@ is_fraction (point ∷ d ∷ ds) = are_digits is_digit (d ∷ ds)
 abbrev pub has_sign : List ℕ → Bool
 has_sign bytes = first_is (λ b. b == 43 || b == 45) bytes
 
--- what stands behind the mark of an exponent, and behind its sign where it has one
+-- what stands after the mark of an exponent, and after its sign where it has one
 abbrev pub power_digits : List ℕ → List ℕ
 power_digits bytes = if has_sign (drop 1 bytes) then drop 2 bytes else drop 1 bytes
 
@@ -114,7 +114,7 @@ is_power mark bytes = first_is mark bytes && nat_lt 0 (length (power_digits byte
 abbrev pub power_value : List ℕ → ℤ
 power_value bytes = signed (first_is (λ b. b == 45) (drop 1 bytes)) (digits_value 10 (power_digits bytes))
 
--- the digits behind the point
+-- the digits after the point
 abbrev pub fraction_digits : List ℕ → List ℕ
 fraction_digits bytes = filter is_digit bytes
 
@@ -122,15 +122,15 @@ fraction_digits bytes = filter is_digit bytes
 abbrev pub is_mantissa : Parts → Bool
 is_mantissa p = is_whole p.whole && is_fraction p.fraction
 
--- with an exponent behind `d`, or with a point and no exponent
+-- with an exponent after `d`, or with a point and no exponent
 abbrev pub is_decimal : Parts → Bool
 is_decimal p = is_mantissa p && (is_power is_decimal_mark p.power || (length p.power == 0 && nat_lt 0 (length p.fraction)))
 
--- with an exponent behind `e`
+-- with an exponent after `e`
 abbrev pub is_float : Parts → Bool
 is_float p = is_mantissa p && is_power is_exponent_mark p.power
 
--- all digits are the coefficient, and the exponent is the one that is written less the number of digits behind the point
+-- all digits are the coefficient, and the exponent is the one that is written less the number of digits after the point
 abbrev pub decimal_of_parts : Bool → Parts → Result Decimal Reason
 decimal_of_parts negative p =
     if is_decimal p
@@ -146,7 +146,7 @@ abbrev pub integer_text : ℤ → List ℕ
 integer_text (pos n) = decimal n
 integer_text (negsuc n) = 45 ∷ decimal (1 + n)
 
--- a number with a point before its last k digits: what is before the point, and k digits behind it, zeros in front of them where it has fewer
+-- a number with a point before its last k digits: what is before the point, and k digits after it, zeros in front of them where it has fewer
 abbrev pub pointed_text : ℕ → ℕ → List ℕ
 pointed_text n k = decimal (n / 10 ^ k) ++ (46 ∷ fixed_digits k n)
 
@@ -154,11 +154,11 @@ pointed_text n k = decimal (n / 10 ^ k) ++ (46 ∷ fixed_digits k n)
 abbrev pub power_text : ℕ → ℤ → List ℕ
 power_text n e = decimal n ++ (100 ∷ integer_text e)
 
--- the most digits that are written behind a point, which is as many as 128 bits hold whichever they are
+-- the most digits that are written after a point, which is as many as 128 bits hold whichever they are
 abbrev pub most_places : ℕ
 most_places = 38
 
--- exponents from 0 down to -38 are shown by a point, and all others behind a `d`
+-- exponents from 0 down to -38 are shown by a point, and all others after a `d`
 abbrev pub magnitude_text : ℕ → ℤ → List ℕ
 magnitude_text n (pos e) = if e == 0 then decimal n ++ (46 ∷ []) else power_text n (pos e)
 magnitude_text n (negsuc e) = if nat_lt e most_places then pointed_text n (1 + e) else power_text n (negsuc e)

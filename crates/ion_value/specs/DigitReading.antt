@@ -22,7 +22,7 @@ is_digit_of base b = is_hex_digit b && nat_lt (digit_value b) base
 abbrev pub in_128 : ℕ → Option ℕ
 in_128 n = if nat_lt n (2 ^ 128) then Some n else None
 
--- what was read: a number, how many digits, and the bytes behind them
+-- what was read: a number, how many digits, and the bytes after them
 pub record Read : Type 0 where
   pub number : ℕ
   pub count : ℕ
@@ -30,14 +30,14 @@ pub record Read : Type 0 where
 
 -- the end of what is read, which is a digit
 abbrev pub read_end : ℕ → Bool → ℕ → List ℕ → Option Read
-read_end n behind k bytes = if behind then Some (record { number = n; count = k; rest = bytes }) else None
+read_end n after k bytes = if after then Some (record { number = n; count = k; rest = bytes }) else None
 
--- the digits of a base at the front of bytes, behind a number and so many digits; whether one of them stands just before is the third argument
+-- the digits of a base at the front of bytes, after a number and so many digits; whether one of them stands just before is the third argument
 unfoldable pub read_digits : ℕ → ℕ → Bool → ℕ → List ℕ → Option Read
-read_digits base n behind k [] = read_end n behind k []
-read_digits base n behind k (b ∷ bytes) =
+read_digits base n after k [] = read_end n after k []
+read_digits base n after k (b ∷ bytes) =
     if is_digit_of base b then read_digits base (n * base + digit_value b) true (k + 1) bytes
-    else (if b == 95 && behind then read_digits base n false k bytes else read_end n behind k (b ∷ bytes))
+    else (if b == 95 && after then read_digits base n false k bytes else read_end n after k (b ∷ bytes))
 
 -- the same in base ten, of which a first zero stands alone
 abbrev pub read_whole : List ℕ → Option Read
@@ -52,7 +52,7 @@ read_int bytes =
     else (if first_is (λ b. b == 48) bytes && first_is (λ b. b == 98 || b == 66) (drop 1 bytes) then read_digits 2 0 false 0 (drop 2 bytes)
     else read_whole bytes)
 
--- digits behind a point and the number before it, where there are any
+-- digits after a point and the number before it, where there are any
 abbrev pub read_fraction : ℕ → List ℕ → Option Read
 read_fraction n bytes = if first_is is_digit bytes then read_digits 10 n false 0 bytes else Some (record { number = n; count = 0; rest = bytes })
 
@@ -63,10 +63,10 @@ Answers read (Some d) = (n : ℕ) × (read ≡ Some (record { number = n; count 
 
 -- ---- decimals
 
--- the decimal of a sign, the digits of a mantissa as one number, how many of them stand behind a point and whether there is one, and all from the exponent's
+-- the decimal of a sign, the digits of a mantissa as one number, how many of them stand after a point and whether there is one, and all from the exponent's
 -- mark on
-abbrev pub decimal_behind : Bool → ℕ → ℕ → Bool → List ℕ → Result Decimal Reason
-decimal_behind negative n places pointed power =
+abbrev pub decimal_after : Bool → ℕ → ℕ → Bool → List ℕ → Result Decimal Reason
+decimal_after negative n places pointed power =
     if is_power is_decimal_mark power || (length power == 0 && pointed) then decimal_in_range negative n (power_value power -ℤ pos places)
     else (if is_power is_exponent_mark power then Err Float else Err BadToken)
 
@@ -74,9 +74,9 @@ decimal_behind negative n places pointed power =
 abbrev pub ReadsMantissa : List ℕ → Option Mantissa → Type 0
 ReadsMantissa bytes None = (negative : Bool) → decimal_of_parts negative (parts_of bytes) ≡ Err BadToken
 ReadsMantissa bytes (Some m) = (n : ℕ) × (m.coefficient ≡ in_128 n)
-    × ((negative : Bool) → decimal_of_parts negative (parts_of bytes) ≡ decimal_behind negative n m.places m.pointed m.power.now)
+    × ((negative : Bool) → decimal_of_parts negative (parts_of bytes) ≡ decimal_after negative n m.places m.pointed m.power.now)
 
--- an exponent is what stands behind the mark, which is `d` here
+-- an exponent is what stands after the mark, which is `d` here
 abbrev pub ReadsExponent : List ℕ → Option Exponent → Type 0
 ReadsExponent bytes None = is_power is_decimal_mark (100 ∷ bytes) ≡ false
 ReadsExponent bytes (Some e) = (is_power is_decimal_mark (100 ∷ bytes) ≡ true) × ((m : ℕ) × (e.magnitude ≡ in_128 m) × (power_value (100 ∷ bytes) ≡ signed e.below m))
@@ -86,8 +86,8 @@ abbrev pub GivesExponent : ℤ → Option ℤ → Type 0
 GivesExponent e None = is_exponent e ≡ false
 GivesExponent e (Some given) = (is_exponent e ≡ true) × (given ≡ e)
 
--- what stands behind a mantissa is an exponent, or is none and why
+-- what stands after a mantissa is an exponent, or is none and why
 abbrev pub ReadsPower : ℕ → Bool → List ℕ → Result (Option ℤ) Reason → Type 0
 ReadsPower places pointed power (Ok given) = (e : ℤ) × GivesExponent e given
-    × ((negative : Bool) (n : ℕ) → decimal_behind negative n places pointed power ≡ decimal_in_range negative n e)
-ReadsPower places pointed power (Err reason) = (negative : Bool) (n : ℕ) → decimal_behind negative n places pointed power ≡ Err reason
+    × ((negative : Bool) (n : ℕ) → decimal_after negative n places pointed power ≡ decimal_in_range negative n e)
+ReadsPower places pointed power (Err reason) = (negative : Bool) (n : ℕ) → decimal_after negative n places pointed power ≡ Err reason

@@ -24,8 +24,8 @@ digit_value b = if nat_le 97 b then b - 87 else (if nat_le 65 b then b - 55 else
 
 -- digits of a sort, of which each two may have one underscore between them; the first argument says whether a digit stands just before
 abbrev pub digits_from : Bool → (ℕ → Bool) → List ℕ → Bool
-digits_from behind digit [] = behind
-digits_from behind digit (b ∷ bytes) = (digit b || (b == 95 && behind)) && digits_from (digit b) digit bytes
+digits_from after digit [] = after
+digits_from after digit (b ∷ bytes) = (digit b || (b == 95 && after)) && digits_from (digit b) digit bytes
 
 -- one digit or more, with such underscores (Ion specification, "Integers")
 abbrev pub are_digits : (ℕ → Bool) → List ℕ → Bool

@@ -8,7 +8,7 @@ use Rattle.ion_value.specs.Value.{PlacedItem}
 use Rattle.ion_value.specs.PlainItems.{IsPlainItem}
 use Rattle.ion_value.specs.Reading.{Reading, More}
 use Rattle.ion_value.specs.Outcome.{one_if_closed}
-use Rattle.ion_value.specs.Standing.{Fits, open_after, open_behind}
+use Rattle.ion_value.specs.Standing.{Fits, open_after, open_after_all}
 
 -- where a reader and a writer stand: the items to come, the open containers, the writer, what its sink has not written, and how many values at
 -- top level have ended
@@ -19,7 +19,7 @@ pub record Joint (W : Type 0) : Type 0 where
   pub pending : List ℕ
   pub values : ℕ
 
--- one item goes from the reader to the writer, which has it by `see`: behind whatever path the writer stands it is put, and not refused
+-- one item goes from the reader to the writer, which has it by `see`: after whatever path the writer stands it is put, and not refused
 pub record Hands {W O A : Type 0} (w : WriterOf W O A) (see : PlacedItem → PlacedItem) (reads : Type 0) (old new : Joint W) : Type 0 where
   pub item : PlacedItem
   pub plain : IsPlainItem (see item)
@@ -30,9 +30,9 @@ pub record Hands {W O A : Type 0} (w : WriterOf W O A) (see : PlacedItem → Pla
   pub counts : new.values ≡ old.values + one_if_closed new.opened
   -- the writer
   pub limits : w.limits new.writer ≡ w.limits old.writer
-  pub stands : (path : List PlacedItem) → w.stands old.writer path → open_behind [] path ≡ old.opened → w.stands new.writer (path ++ see item ∷ [])
-  pub taken : (path : List PlacedItem) → w.stands old.writer path → open_behind [] path ≡ old.opened → w.refusal (w.limits old.writer) path (see item) ≡ None
-  pub puts : (path : List PlacedItem) → w.stands old.writer path → open_behind [] path ≡ old.opened
+  pub stands : (path : List PlacedItem) → w.stands old.writer path → open_after_all [] path ≡ old.opened → w.stands new.writer (path ++ see item ∷ [])
+  pub taken : (path : List PlacedItem) → w.stands old.writer path → open_after_all [] path ≡ old.opened → w.refusal (w.limits old.writer) path (see item) ≡ None
+  pub puts : (path : List PlacedItem) → w.stands old.writer path → open_after_all [] path ≡ old.opened
       → new.pending ≡ old.pending ++ w.adds (w.limits old.writer) path (see item)
 
 -- items go so one after the other
@@ -46,7 +46,7 @@ pub record CanTake {W O A : Type 0} (w : WriterOf W O A) (depth : ℕ) (opened :
   pub fresh : w.failed writer ≡ None
   pub well : sink.fault ≡ None
   pub depth_of : (w.limits writer).depth ≡ depth
-  pub behind : (path : List PlacedItem) × w.stands writer path × (open_behind [] path ≡ opened)
+  pub after : (path : List PlacedItem) × w.stands writer path × (open_after_all [] path ≡ opened)
 
 -- what stays of a writer, its sink and the meter: nothing fails, and the device is not used
 pub record StaysWell {W O A : Type 0} (w : WriterOf W O A) (before after : W) (old new : Outgoing O) (earlier later : Counts) : Type 0 where

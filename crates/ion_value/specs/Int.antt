@@ -25,12 +25,12 @@ int_text i = (if i.negative then 45 ∷ [] else []) ++ decimal i.magnitude
 abbrev pub int_in_range : Bool → ℕ → Result Int Reason
 int_in_range negative n = if nat_lt n (2 ^ 128) then Ok (record { negative = negative && nat_lt 0 n; magnitude = n }) else Err Range
 
--- `0` and a letter in either case, and digits of the letter's base behind it
+-- `0` and a letter in either case, and digits of the letter's base after it
 abbrev pub is_based : ℕ → ℕ → (ℕ → Bool) → List ℕ → Bool
 is_based lower upper digit bytes =
     first_is (λ b. b == 48) bytes && first_is (λ b. b == lower || b == upper) (drop 1 bytes) && are_digits digit (drop 2 bytes)
 
--- what stands behind the sign: an int in base ten, sixteen or two
+-- what stands after the sign: an int in base ten, sixteen or two
 abbrev pub int_of_digits : Bool → List ℕ → Result Int Reason
 int_of_digits negative bytes =
     if is_whole bytes then int_in_range negative (digits_value 10 bytes)

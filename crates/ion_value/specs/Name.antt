@@ -10,7 +10,7 @@ use Rattle.ion_value.specs.Digits.{is_between, is_digit, digit_value, first_is, 
 
 -- ---- types
 
--- the name of a type in text, as it stands behind `null.`
+-- the name of a type in text, as it stands after `null.`
 abbrev pub type_name : IonType → List ℕ
 type_name type.Null = codes "null"
 type_name type.Bool = codes "bool"
@@ -71,13 +71,13 @@ is_identifier_byte b = is_identifier_start b || is_digit b
 abbrev pub is_identifier : List ℕ → Bool
 is_identifier name = first_is is_identifier_start name && all_are is_identifier_byte name
 
--- words that are values and never symbols: a null, where what stands behind `null.` may be no type's name, a truth value, and `nan`
+-- words that are values and never symbols: a null, where what stands after `null.` may be no type's name, a truth value, and `nan`
 pub data Keyword : Type 0 where
   a_null : (type : Option IonType) → Keyword
   a_bool : (truth : Bool) → Keyword
   a_nan : Keyword
 
--- the keyword that a word is, if it is one: `null.` begins one whatever stands behind it
+-- the keyword that a word is, if it is one: `null.` begins one whatever stands after it
 abbrev pub keyword : List ℕ → Option Keyword
 keyword word =
     if bytes_eq (codes "null") word then Some (a_null (Some type.Null))

@@ -66,7 +66,7 @@ signed false n = pos n
 
 -- ---- where a field ends
 
--- the octets of the VarUInt or VarInt at the front of a body, at most so many, and those behind it
+-- the octets of the VarUInt or VarInt at the front of a body, at most so many, and those after it
 unfoldable pub var_cut : ℕ → List ℕ → Option (List ℕ × List ℕ)
 var_cut zero body = None
 var_cut (suc most) [] = None

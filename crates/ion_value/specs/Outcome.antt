@@ -16,7 +16,7 @@ abbrev pub one_if_closed : List Kind → ℕ
 one_if_closed [] = 1
 one_if_closed (kind ∷ kinds) = 0
 
--- how many values at top level end among items, behind which containers of these kinds are open
+-- how many values at top level end among items, after which containers of these kinds are open
 abbrev pub values_in : List Kind → List PlacedItem → ℕ
 values_in kinds [] = 0
 values_in kinds (item ∷ items) = one_if_closed (open_after kinds item.head) + values_in (open_after kinds item.head) items
@@ -26,20 +26,20 @@ abbrev pub verdict_with : Option (Reason × ℕ) → Verdict → Verdict
 verdict_with None rest = rest
 verdict_with (Some why) rest = Rejected why.0 why.1
 
--- the verdict on a reading behind items that were all put
-abbrev pub verdict_behind : (List PlacedItem → PlacedItem → Option (Reason × ℕ)) → List PlacedItem → Reading → Verdict
-verdict_behind refusal path Finished = Accepted (values_in [] path)
-verdict_behind refusal path (Stopped reason place) = Rejected reason place
-verdict_behind refusal path (More item rest) = verdict_with (refusal path item) (verdict_behind refusal (path ++ item ∷ []) rest)
+-- the verdict on a reading after items that were all put
+abbrev pub verdict_after : (List PlacedItem → PlacedItem → Option (Reason × ℕ)) → List PlacedItem → Reading → Verdict
+verdict_after refusal path Finished = Accepted (values_in [] path)
+verdict_after refusal path (Stopped reason place) = Rejected reason place
+verdict_after refusal path (More item rest) = verdict_with (refusal path item) (verdict_after refusal (path ++ item ∷ []) rest)
 
 -- all that is put: what was put so far where the next item is refused, and else what is put with it and the rest
 abbrev pub output_with : Option (Reason × ℕ) → List ℕ → List ℕ → List ℕ
 output_with None so_far rest = rest
 output_with (Some why) so_far rest = so_far
 
--- all that is put of a reading behind items that were all put
-abbrev pub output_behind : (List PlacedItem → List ℕ) → (List PlacedItem → PlacedItem → Option (Reason × ℕ)) → List PlacedItem → Reading → List ℕ
-output_behind puts refusal path Finished = puts path
-output_behind puts refusal path (Stopped reason place) = puts path
-output_behind puts refusal path (More item rest) =
-    output_with (refusal path item) (puts path) (output_behind puts refusal (path ++ item ∷ []) rest)
+-- all that is put of a reading after items that were all put
+abbrev pub output_after : (List PlacedItem → List ℕ) → (List PlacedItem → PlacedItem → Option (Reason × ℕ)) → List PlacedItem → Reading → List ℕ
+output_after puts refusal path Finished = puts path
+output_after puts refusal path (Stopped reason place) = puts path
+output_after puts refusal path (More item rest) =
+    output_with (refusal path item) (puts path) (output_after puts refusal (path ++ item ∷ []) rest)

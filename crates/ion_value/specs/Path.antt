@@ -1,9 +1,9 @@
--- Open paths: the whole values at top level so far, and the containers that are open behind them.
+-- Open paths: the whole values at top level so far, and the containers that are open after them.
 use Rattle.std.specs.Prelude.{List, [], ◌∷◌, ◌++◌, Option, None, fold}
 use Rattle.ion_value.specs.declared.ion_type.Kind.{Kind}
 use Rattle.ion_value.specs.Value.{Value, scalar, container, Members, nothing, member, Top, version, tree, Head, whole, begin, end, marker, Item, member_items, top_items}
 
--- open containers, each with its annotations, place, kind and whole members, and behind the first with its field
+-- open containers, each with its annotations, place, kind and whole members, and after the first with its field
 pub data Nest (S P : Type 0) : Type 0 where
   outermost : (annotations : List S) → (place : P) → (kind : Kind) → (members : Members S P) → Nest S P
   inner : (around : Nest S P) → (field : Option S) → (annotations : List S) → (place : P) → (kind : Kind) → (members : Members S P) → Nest S P
@@ -35,7 +35,7 @@ abbrev pub with_member : {S P : Type 0} → Nest S P → Option S → List S →
 with_member (outermost annotations place kind members) f own at value = outermost annotations place kind (member members f own at value)
 with_member (inner around g annotations place kind members) f own at value = inner around g annotations place kind (member members f own at value)
 
--- the path behind the innermost container's end: whole top-level values, the open one's place, its containers, the end's place
+-- the path after the innermost container's end: whole top-level values, the open one's place, its containers, the end's place
 abbrev pub with_end : {S P : Type 0} → List (Top S P) → P → Nest S P → P → Path S P
 with_end tops first (outermost annotations place kind members) last = closed (tops ++ tree first annotations place (container kind members last) ∷ [])
 with_end tops first (inner around f annotations place kind members) last =
@@ -62,7 +62,7 @@ path_of items = fold with_item (closed []) items
 
 -- ---- all that is open closes at a place
 
--- the top-level values with the one that is open, each container closed behind what is added to its members
+-- the top-level values with the one that is open, each container closed after what is added to its members
 abbrev pub close_all : {S P : Type 0} → List (Top S P) → P → P → (Members S P → Members S P) → Nest S P → List (Top S P)
 close_all tops first last add (outermost annotations place kind members) = tops ++ tree first annotations place (container kind (add members) last) ∷ []
 close_all tops first last add (inner around f annotations place kind members) =

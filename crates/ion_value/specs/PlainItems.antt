@@ -21,7 +21,7 @@ abbrev pub listed : Option SymbolAt → List SymbolAt
 listed None = []
 listed (Some s) = s ∷ []
 
--- the annotations with a second one behind the first, if there is one
+-- the annotations with a second one after the first, if there is one
 abbrev pub with_second : List SymbolAt → Option TextAt → List SymbolAt
 with_second notes None = notes
 with_second notes (Some s) = notes ++ placed_text s ∷ []
@@ -104,16 +104,16 @@ pub record IsPlainItem (item : PlacedItem) : Type 0 where
 abbrev pub IsRightlyQuoted : TextAt → Type 0
 IsRightlyQuoted t = IsQuotedAs (coded t.code) t.text.now
 
--- a second annotation stands behind a first one
-abbrev pub StandsBehind : Option TextAt → TextAt → Type 0
-StandsBehind None second = ⊥
-StandsBehind (Some first) second = IsRightlyQuoted second
+-- a second annotation stands after a first one
+abbrev pub StandsAfter : Option TextAt → TextAt → Type 0
+StandsAfter None second = ⊥
+StandsAfter (Some first) second = IsRightlyQuoted second
 
 -- so are an item's name and its annotations
 pub record SaysRightly (item : PlainItem) : Type 0 where
   pub field : IfSome item.field IsRightlyQuoted
   pub annotation : IfSome item.annotation IsRightlyQuoted
-  pub second : IfSome item.second (StandsBehind item.annotation)
+  pub second : IfSome item.second (StandsAfter item.annotation)
 
 -- ---- items that come with a text
 

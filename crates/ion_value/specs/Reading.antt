@@ -15,10 +15,10 @@ items_of Finished = []
 items_of (Stopped reason place) = []
 items_of (More item rest) = item ∷ items_of rest
 
--- a reading behind items
-abbrev pub behind : List PlacedItem → Reading → Reading
-behind [] r = r
-behind (item ∷ items) r = More item (behind items r)
+-- a reading after items
+abbrev pub items_then : List PlacedItem → Reading → Reading
+items_then [] r = r
+items_then (item ∷ items) r = More item (items_then items r)
 
 -- what one step of reading does, from a state of some type: it ends, stops at a fault, gives an item, or only goes on
 pub data Step (T : Type 0) : Type 0 where
@@ -45,8 +45,8 @@ reading_by step size s = reading_for step (suc (size s)) s
 
 -- the state that a step leaves, where it leaves one
 pub data Leaves {T : Type 0} : Step T → T → Type 0 where
-  behind_item : (item : PlacedItem) (after : T) → Leaves (Gives item after) after
-  behind_nothing : (after : T) → Leaves (GoesOn after) after
+  after_item : (item : PlacedItem) (after : T) → Leaves (Gives item after) after
+  after_nothing : (after : T) → Leaves (GoesOn after) after
 
 -- each step leaves a state of a smaller size, where it leaves one
 abbrev pub Shrinks : {T : Type 0} → (T → Step T) → (T → ℕ) → Type 0

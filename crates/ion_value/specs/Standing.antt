@@ -74,13 +74,13 @@ is_marker (whole body) = false
 is_marker (begin kind) = false
 is_marker end = false
 
--- the open containers behind items, the innermost first
-abbrev pub open_behind : List Kind → List PlacedItem → List Kind
-open_behind kinds items = fold (λ k i. open_after k i.head) kinds items
+-- the open containers after items, the innermost first
+abbrev pub open_after_all : List Kind → List PlacedItem → List Kind
+open_after_all kinds items = fold (λ k i. open_after k i.head) kinds items
 
 -- an item that is no marker may come after these items
 pub record Continues (limits : Limits) (path : List PlacedItem) (item : PlacedItem) : Type 0 where
-  pub fits : Fits limits.depth (open_behind [] path) item
+  pub fits : Fits limits.depth (open_after_all [] path) item
   pub value : is_marker item.head ≡ false
 
 -- what every reader has that has not gone wrong: it holds no more than its cap, and no more containers are open than may be

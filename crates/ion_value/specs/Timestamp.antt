@@ -122,7 +122,7 @@ is_date _ = false
 
 -- ---- in octets (binary encoding, "6: timestamp")
 
--- the fields at the front of a body, at most so many, each a VarUInt or a VarInt, and the octets behind them
+-- the fields at the front of a body, at most so many, each a VarUInt or a VarInt, and the octets after them
 unfoldable pub fields_cut : ℕ → List ℕ → Option (List (List ℕ) × List ℕ)
 fields_cut zero body = Some ([], body)
 fields_cut (suc most) [] = Some ([], [])
@@ -134,16 +134,16 @@ abbrev pub fields : Precision → ℕ → ℕ → ℕ → ℕ → ℕ → ℕ �
 fields precision year month day hour minute second fraction =
     record { precision = precision; year = year; month = month; day = day; hour = hour; minute = minute; second = second; fraction = fraction; offset = None }
 
--- the digits behind the point that an exponent tells: none where it is not below zero
-abbrev pub digits_behind : List ℕ → ℕ
-digits_behind exponent = if var_int_negative exponent then var_int_magnitude exponent else 0
+-- the digits after the point that an exponent tells: none where it is not below zero
+abbrev pub digits_after_point : List ℕ → ℕ
+digits_after_point exponent = if var_int_negative exponent then var_int_magnitude exponent else 0
 
--- the precision of a second with so many digits behind its point
+-- the precision of a second with so many digits after its point
 abbrev pub second_precision : ℕ → Precision
 second_precision zero = Second
 second_precision (suc n) = Fraction (suc n)
 
--- what the fields behind the offset tell, in UTC, with the coefficient behind them
+-- what the fields after the offset tell, in UTC, with the coefficient after them
 abbrev pub utc_fields : List (List ℕ) → ℕ → Option Timestamp
 utc_fields (y ∷ []) c = Some (fields Year (var_uint y) 1 1 0 0 0 0)
 utc_fields (y ∷ m ∷ []) c = Some (fields Month (var_uint y) (var_uint m) 1 0 0 0 0)
@@ -152,7 +152,7 @@ utc_fields (y ∷ m ∷ d ∷ h ∷ i ∷ []) c = Some (fields Minute (var_uint 
 utc_fields (y ∷ m ∷ d ∷ h ∷ i ∷ s ∷ []) c =
     Some (fields Second (var_uint y) (var_uint m) (var_uint d) (var_uint h) (var_uint i) (var_uint s) 0)
 utc_fields (y ∷ m ∷ d ∷ h ∷ i ∷ s ∷ e ∷ []) c =
-    Some (fields (second_precision (digits_behind e)) (var_uint y) (var_uint m) (var_uint d) (var_uint h) (var_uint i) (var_uint s) c)
+    Some (fields (second_precision (digits_after_point e)) (var_uint y) (var_uint m) (var_uint d) (var_uint h) (var_uint i) (var_uint s) c)
 utc_fields _ c = None
 
 -- the exponent of the fraction: the eighth field
@@ -163,7 +163,7 @@ exponent_in _ = []
 -- a fraction is at least 0 and below 1, and zero may have any sign and exponent
 abbrev pub is_fraction : List ℕ → List ℕ → Bool
 is_fraction exponent c =
-    (int_magnitude c == 0) || (not (int_negative c) && nat_lt (int_magnitude c) (10 ^ digits_behind exponent))
+    (int_magnitude c == 0) || (not (int_negative c) && nat_lt (int_magnitude c) (10 ^ digits_after_point exponent))
 
 -- minus zero minutes are an offset that is unknown
 abbrev pub offset_in : List ℕ → Option ℤ
@@ -190,7 +190,7 @@ timestamp_of_fields (o ∷ others) c =
 abbrev pub timestamp_of_cut : Option (List (List ℕ) × List ℕ) → Result Timestamp Reason
 timestamp_of_cut None = Err BadVar
 timestamp_of_cut (Some cut) =
-    if nat_le (2 ^ 128) (int_magnitude cut.1) || nat_lt 38 (digits_behind (exponent_in cut.0)) then Err Range
+    if nat_le (2 ^ 128) (int_magnitude cut.1) || nat_lt 38 (digits_after_point (exponent_in cut.0)) then Err Range
     else timestamp_of_fields cut.0 cut.1
 
 -- the timestamp whose body this is, or why it is none
@@ -311,7 +311,7 @@ time_of_parts run seconds offset =
     }))
     else Err BadToken
 
--- the same, with what stands behind the minute as a pair
+-- the same, with what stands after the minute as a pair
 abbrev pub time_of_text : List ℕ → List ℕ × List ℕ → Result Timestamp Reason
 time_of_text run cut = time_of_parts run cut.0 cut.1
 

@@ -7,7 +7,7 @@ use Rattle.ion_value.specs.declared.timestamp.Precision.TheVariants.{Year, Month
 use Rattle.ion_value.specs.declared.timestamp.Timestamp.{Timestamp}
 use Rattle.ion_value.specs.declared.var.Signed.{Signed}
 use Rattle.ion_value.specs.Number.{var_int_negative, var_int_magnitude, int_magnitude, var_uint_octets}
-use Rattle.ion_value.specs.Timestamp.{is_moment, fields, second_precision, digits_behind, is_fraction, timestamp_in_utc, offset_octets}
+use Rattle.ion_value.specs.Timestamp.{is_moment, fields, second_precision, digits_after_point, is_fraction, timestamp_in_utc, offset_octets}
 
 -- the octets of a VarInt have this sign and magnitude, and no octets have those of zero
 pub record Spells (z : Signed) (octets : List ℕ) : Type 0 where
@@ -19,7 +19,7 @@ abbrev pub first_field : List (List ℕ) → List ℕ
 first_field [] = []
 first_field (field ∷ fields) = field
 
--- what the numbers of the fields behind the offset tell, in UTC
+-- what the numbers of the fields after the offset tell, in UTC
 abbrev pub utc_of_numbers : List ℕ → ℕ → ℕ → Option Timestamp
 utc_of_numbers (y ∷ []) digits c = Some (fields Year y 1 1 0 0 0 0)
 utc_of_numbers (y ∷ m ∷ []) digits c = Some (fields Month y m 1 0 0 0 0)
@@ -32,11 +32,11 @@ utc_of_numbers _ digits c = None
 abbrev pub if_moment : Timestamp → Option Timestamp
 if_moment t = if is_moment t then Some t else None
 
--- the timestamp of an offset, the numbers behind it, an exponent and a coefficient, or why it is none
+-- the timestamp of an offset, the numbers after it, an exponent and a coefficient, or why it is none
 abbrev pub timestamp_of_parts : List ℕ → List ℕ → List ℕ → List ℕ → Result Timestamp Reason
 timestamp_of_parts o numbers e c =
-    if nat_le (2 ^ 128) (int_magnitude c) || nat_lt 38 (digits_behind e) then Err Range
-    else timestamp_in_utc o (is_fraction e c) (utc_of_numbers numbers (digits_behind e) (int_magnitude c))
+    if nat_le (2 ^ 128) (int_magnitude c) || nat_lt 38 (digits_after_point e) then Err Range
+    else timestamp_in_utc o (is_fraction e c) (utc_of_numbers numbers (digits_after_point e) (int_magnitude c))
 
 -- how many of the month, day, hour, minute and second a precision tells
 abbrev pub parts_told : Precision → ℕ

@@ -1,4 +1,4 @@
--- In which steps the code reads a timestamp in text: its parts one after the other, each with what stands behind it.
+-- In which steps the code reads a timestamp in text: its parts one after the other, each with what stands after it.
 use Rattle.std.specs.Prelude.{◌≡◌, ℕ, ◌+◌, ◌*◌, ◌≤◌, Bool, true, false, not, ◌&&◌, ◌||◌, ◌==◌, nat_le, nat_lt, if◌then◌else◌, List, [], ◌∷◌, ◌++◌, length, take, drop, map, codes, Option, Some, None, ℤ, Result, Ok, Err}
 use Rattle.ion_meter.specs.declared.fault.Reason.{Reason}
 use Rattle.ion_meter.specs.declared.fault.Reason.TheVariants.{BadToken, Range}
@@ -36,17 +36,17 @@ offset_in_range t bytes = time_in_range (is_text_offset bytes) (record t { offse
 abbrev pub with_offset : Timestamp → List ℕ → Result Timestamp Reason
 with_offset t bytes = if has_offset_shape bytes then offset_in_range t bytes else Err BadToken
 
--- why a time with more than 38 digits of a fraction is none, by the bytes behind these: `Range` where they have an offset's shape
+-- why a time with more than 38 digits of a fraction is none, by the bytes after these: `Range` where they have an offset's shape
 abbrev pub too_long : List ℕ → Reason
 too_long bytes = if has_offset_shape bytes then Range else BadToken
 
--- with a fraction of so many digits, and the offset in the bytes behind it
+-- with a fraction of so many digits, and the offset in the bytes after it
 abbrev pub with_fraction : Timestamp → ℕ → ℕ → List ℕ → Result Timestamp Reason
 with_fraction t count n bytes =
     if count == 0 then Err BadToken
     else (if nat_lt 38 count then Err (too_long bytes) else with_offset (record t { precision = Fraction count; fraction = n }) bytes)
 
--- with what stands behind the second: a point and digits, or nothing, and the offset
+-- with what stands after the second: a point and digits, or nothing, and the offset
 abbrev pub with_point : Timestamp → List ℕ → List ℕ → Result Timestamp Reason
 with_point t [] offset = with_offset t offset
 with_point t (b ∷ digits) offset =
@@ -55,11 +55,11 @@ with_point t (b ∷ digits) offset =
     else offset_in_range (record t { precision = Fraction (length digits); fraction = number 10 (map digit_value digits) }) offset)
     else Err BadToken
 
--- a time to the second and all that stands behind the second, or why it is no timestamp
-abbrev pub behind_second : Timestamp → List ℕ → Result Timestamp Reason
-behind_second t bytes = with_point t (cut_at is_offset_mark bytes).0 (cut_at is_offset_mark bytes).1
+-- a time to the second and all that stands after the second, or why it is no timestamp
+abbrev pub after_second : Timestamp → List ℕ → Result Timestamp Reason
+after_second t bytes = with_point t (cut_at is_offset_mark bytes).0 (cut_at is_offset_mark bytes).1
 
--- with what stands behind the minute: seconds, or nothing, and the offset
+-- with what stands after the minute: seconds, or nothing, and the offset
 abbrev pub with_seconds : Timestamp → List ℕ → List ℕ → Result Timestamp Reason
 with_seconds t [] offset = with_offset t offset
 with_seconds t (b ∷ seconds) offset =
@@ -67,9 +67,9 @@ with_seconds t (b ∷ seconds) offset =
     then with_point (record t { precision = Second; second = digits_at 0 2 seconds }) (drop 2 seconds) offset
     else Err BadToken
 
--- a time to the minute and all that stands behind the minute, or why it is no timestamp
-abbrev pub behind_minute : Timestamp → List ℕ → Result Timestamp Reason
-behind_minute t bytes = with_seconds t (cut_at is_offset_mark bytes).0 (cut_at is_offset_mark bytes).1
+-- a time to the minute and all that stands after the minute, or why it is no timestamp
+abbrev pub after_minute : Timestamp → List ℕ → Result Timestamp Reason
+after_minute t bytes = with_seconds t (cut_at is_offset_mark bytes).0 (cut_at is_offset_mark bytes).1
 
 -- a run that begins with a date, an hour and a minute, and what it tells to the minute
 abbrev pub begins_time : List ℕ → Bool
@@ -80,30 +80,30 @@ abbrev pub to_the_minute : Timestamp → List ℕ → Timestamp
 to_the_minute t run =
     record t { precision = Minute; year = digits_at 0 4 run; month = digits_at 5 2 run; day = digits_at 8 2 run; hour = digits_at 11 2 run; minute = digits_at 14 2 run }
 
--- a date to the day and all that stands behind the day: nothing, or `T`
-abbrev pub behind_day : Timestamp → List ℕ → Result Timestamp Reason
-behind_day t bytes = if looks_like [] bytes || looks_like (codes "T") bytes then date_in_range t else Err BadToken
+-- a date to the day and all that stands after the day: nothing, or `T`
+abbrev pub after_day : Timestamp → List ℕ → Result Timestamp Reason
+after_day t bytes = if looks_like [] bytes || looks_like (codes "T") bytes then date_in_range t else Err BadToken
 
--- a date to the month and all that stands behind the month: `T`, or a day and its end
-abbrev pub behind_month : Timestamp → List ℕ → Result Timestamp Reason
-behind_month t bytes =
+-- a date to the month and all that stands after the month: `T`, or a day and its end
+abbrev pub after_month : Timestamp → List ℕ → Result Timestamp Reason
+after_month t bytes =
     if looks_like (codes "T") bytes then date_in_range t
     else (if looks_like (codes "-00") (take 3 bytes)
-    then behind_day (record t { precision = Day; day = digits_at 1 2 bytes }) (drop 3 bytes)
+    then after_day (record t { precision = Day; day = digits_at 1 2 bytes }) (drop 3 bytes)
     else Err BadToken)
 
--- a date to the year and all that stands behind the year: `T`, or a month and what is behind it
-abbrev pub behind_year : Timestamp → List ℕ → Result Timestamp Reason
-behind_year t bytes =
+-- a date to the year and all that stands after the year: `T`, or a month and what is after it
+abbrev pub after_year : Timestamp → List ℕ → Result Timestamp Reason
+after_year t bytes =
     if looks_like (codes "T") bytes then date_in_range t
     else (if looks_like (codes "-00") (take 3 bytes)
-    then behind_month (record t { precision = Month; month = digits_at 1 2 bytes }) (drop 3 bytes)
+    then after_month (record t { precision = Month; month = digits_at 1 2 bytes }) (drop 3 bytes)
     else Err BadToken)
 
--- with the year and what stands behind it
+-- with the year and what stands after it
 abbrev pub from_year : Timestamp → List ℕ → Result Timestamp Reason
 from_year t run =
-    if looks_like (codes "0000") (take 4 run) then behind_year (record t { year = digits_at 0 4 run }) (drop 4 run) else Err BadToken
+    if looks_like (codes "0000") (take 4 run) then after_year (record t { year = digits_at 0 4 run }) (drop 4 run) else Err BadToken
 
 -- an offset of a sign and so many minutes, unknown where these are minus zero
 abbrev pub offset_of : Bool → ℕ → Option ℤ

@@ -34,13 +34,13 @@ pub data Scalar (S : Type 0) : Type 0 where
   blob : (bytes : List ℕ) → Scalar S
 
 -- values without their annotations, and what a container holds, in order: each a field in a struct, annotations, the place of the value
--- behind them, and the value. Places are of some type too, so that trees may do without. A container has the place of its end.
+-- after them, and the value. Places are of some type too, so that trees may do without. A container has the place of its end.
 mutual
   pub data Value (S P : Type 0) : Type 0 where
     scalar : (body : Scalar S) → Value S P
     container : (kind : Kind) → (members : Members S P) → (last : P) → Value S P
 
-  -- the members of a container: none, or one behind those before it
+  -- the members of a container: none, or one after those before it
   pub data Members (S P : Type 0) : Type 0 where
     nothing : Members S P
     member : (before : Members S P) → (field : Option S) → (annotations : List S) → (place : P) → (value : Value S P) → Members S P

@@ -27,7 +27,7 @@ scalar_symbols (value.clob bytes) = []
 scalar_symbols (value.blob bytes) = []
 
 abbrev mutual
-  -- the symbols of a value with this field and these annotations, and behind them those of its members
+  -- the symbols of a value with this field and these annotations, and after them those of its members
   pub value_symbols : {S P : Type 0} → Option S → List S → Value S P → List S
   value_symbols f annotations (scalar body) = field_symbols f ++ (annotations ++ scalar_symbols body)
   value_symbols f annotations (container kind members last) = (field_symbols f ++ (annotations ++ [])) ++ members_symbols members

@@ -27,7 +27,7 @@ pub struct Decimal {
     pub exponent: i32,
 }
 
-/// Reads the body of a decimal: its exponent as a VarInt, and behind it its coefficient as an Int, of
+/// Reads the body of a decimal: its exponent as a VarInt, and after it its coefficient as an Int, of
 /// which no octets are positive zero; no octets at all are `0d0` (binary encoding, "5: decimal").
 ///
 /// Zeros at the front of the coefficient are allowed, in any number. It is a `BadVar` where the
@@ -122,7 +122,7 @@ fn exponent_write(exponent: i32) -> ArrayVec<u8, 9>
     })
 }
 
-// The octets of an exponent, and behind them those of a coefficient.
+// The octets of an exponent, and after them those of a coefficient.
 #[inline]
 fn joined(exponent: &[u8], coefficient: &[u8]) -> ArrayVec<u8, 22>
     requires exponent { length exponent.now ≤ 5 }

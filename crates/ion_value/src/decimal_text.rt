@@ -23,7 +23,7 @@ struct Mantissa<'a> {
     coefficient: Option<u128>,
     // Whether there is a point.
     pointed: bool,
-    // How many digits stand behind the point.
+    // How many digits stand after the point.
     places: usize,
     // The bytes from the mark on.
     power: &'a [u8],
@@ -38,13 +38,13 @@ struct Exponent {
     magnitude: Option<u128>,
 }
 
-/// Reads a decimal in text: digits with a point among or behind them, or with an exponent behind
-/// `d`, or with both, behind a minus or none (Ion specification, "Real Numbers"). A first zero
+/// Reads a decimal in text: digits with a point among or after them, or with an exponent after
+/// `d`, or with both, after a minus or none (Ion specification, "Real Numbers"). A first zero
 /// stands alone before the point, and single underscores may stand between two digits, but not in
 /// the exponent. Precision and the sign of zero are kept.
 ///
-/// What has an exponent behind `e` is a `Float`. A coefficient past 128 bits, or an exponent that is
-/// not within 2^31 - 1 once the digits behind the point are taken off, is out of `Range`, and every
+/// What has an exponent after `e` is a `Float`. A coefficient past 128 bits, or an exponent that is
+/// not within 2^31 - 1 once the digits after the point are taken off, is out of `Range`, and every
 /// other run a `BadToken`.
 #[inline]
 pub fn decimal_from_text(run: &[u8]) -> Result<Decimal, Reason>
@@ -57,7 +57,7 @@ pub fn decimal_from_text(run: &[u8]) -> Result<Decimal, Reason>
     let Some(mantissa) = read_mantissa(bytes) else {
         return Err(Reason::BadToken);
     };
-    match exponent_behind(mantissa) {
+    match exponent_after(mantissa) {
         Ok(exponent) => in_range(negative, mantissa.coefficient, exponent),
         Err(reason) => Err(reason),
     }
@@ -72,7 +72,7 @@ fn read_mantissa(bytes: &[u8]) -> Option<Mantissa<'_>>
         return None;
     };
     match whole.rest {
-        [b'.', behind @ ..] => match fraction(whole.number, behind) {
+        [b'.', after @ ..] => match fraction(whole.number, after) {
             Some(fraction) => Some(Mantissa {
                 coefficient: fraction.number,
                 pointed: true,
@@ -90,7 +90,7 @@ fn read_mantissa(bytes: &[u8]) -> Option<Mantissa<'_>>
     }
 }
 
-// The digits behind a point, where there are any, and behind the number before it.
+// The digits after a point, where there are any, and after the number before it.
 #[inline]
 fn fraction(whole: Option<u128>, bytes: &[u8]) -> Option<Digits<'_>>
     ensures { (n : ℕ) → whole ≡ in_128 n → Answers (read_fraction n bytes.now) result }
@@ -105,17 +105,17 @@ fn fraction(whole: Option<u128>, bytes: &[u8]) -> Option<Digits<'_>>
     }
 }
 
-// The exponent behind a mantissa less the number of digits behind the point, where it is within its
+// The exponent after a mantissa less the number of digits after the point, where it is within its
 // range, or why what stands there makes no decimal.
 #[inline]
-fn exponent_behind(mantissa: Mantissa<'_>) -> Result<Option<i32>, Reason>
+fn exponent_after(mantissa: Mantissa<'_>) -> Result<Option<i32>, Reason>
     ensures { ReadsPower mantissa.entry.places mantissa.entry.pointed mantissa.entry.power.now
         result }
 {
-    let [mark, behind @ ..] = mantissa.power else {
+    let [mark, after @ ..] = mantissa.power else {
         return without_power(mantissa.pointed, mantissa.places);
     };
-    let Some(exponent) = read_exponent(behind) else {
+    let Some(exponent) = read_exponent(after) else {
         return Err(Reason::BadToken);
     };
     match *mark {
@@ -140,7 +140,7 @@ fn without_power(pointed: bool, places: usize) -> Result<Option<i32>, Reason>
     Ok(less_places(none, places))
 }
 
-// The exponent behind its mark: digits alone, behind a sign or none.
+// The exponent after its mark: digits alone, after a sign or none.
 #[inline]
 fn read_exponent(bytes: &[u8]) -> Option<Exponent>
     ensures { ReadsExponent bytes.now result }
@@ -149,7 +149,7 @@ fn read_exponent(bytes: &[u8]) -> Option<Exponent>
     let Some(read) = digits_after::<10>(Some(0), digits) else {
         return None;
     };
-    // An underscore, or another byte behind the digits, leaves fewer digits than bytes.
+    // An underscore, or another byte after the digits, leaves fewer digits than bytes.
     if read.count != digits.len() {
         return None;
     }
@@ -159,7 +159,7 @@ fn read_exponent(bytes: &[u8]) -> Option<Exponent>
     })
 }
 
-// Whether there is a minus in front of an exponent, and the bytes behind its sign.
+// Whether there is a minus in front of an exponent, and the bytes after its sign.
 #[inline]
 fn exponent_sign(bytes: &[u8]) -> (bool, &[u8])
     ensures below { result.0 ≡ first_is (λ b. b == 45) bytes.now }
@@ -172,7 +172,7 @@ fn exponent_sign(bytes: &[u8]) -> (bool, &[u8])
     }
 }
 
-// The exponent that is written less the number of digits behind the point.
+// The exponent that is written less the number of digits after the point.
 #[inline]
 fn less_places(exponent: Exponent, places: usize) -> Option<i32>
     ensures { (m : ℕ) → exponent.magnitude ≡ in_128 m
@@ -223,11 +223,11 @@ fn in_range(
     }
 }
 
-/// The text of a decimal, behind a minus where it has one (Ion specification, "Real Numbers").
+/// The text of a decimal, after a minus where it has one (Ion specification, "Real Numbers").
 ///
-/// With an exponent from 0 down to -38 it has a point, and as many digits behind it as the exponent
+/// With an exponent from 0 down to -38 it has a point, and as many digits after it as the exponent
 /// says: `15.`, `1.5`, `0.015`. With any other it is the coefficient's digits, `d` and the exponent:
-/// `15d1`, `1d-39`. Zeros behind the point and the sign of zero are kept.
+/// `15d1`, `1d-39`. Zeros after the point and the sign of zero are kept.
 pub fn decimal_to_text(decimal: Decimal) -> ArrayString<64>
     requires { IsDecimal decimal }
     ensures { result.bytes ≡ decimal_text decimal }

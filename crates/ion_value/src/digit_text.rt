@@ -20,7 +20,7 @@ pub(crate) fn push_byte(text: &mut ArrayString<64>, byte: u8)
     text.push(byte as char);
 }
 
-/// Adds the digits behind a point, of which there are so many.
+/// Adds the digits after a point, of which there are so many.
 #[inline]
 pub(crate) fn push_fraction(text: &mut ArrayString<64>, count: u8, fraction: u128)
     requires some { 1 ≤ count }

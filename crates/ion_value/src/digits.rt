@@ -6,15 +6,15 @@ ghost use Rattle.ion_value.specs.DigitReading.{IsBase, is_digit_of, in_128, read
 /// The digits at the front of some bytes.
 #[derive(Clone, Copy)]
 pub(crate) struct Digits<'a> {
-    /// The number that they spell behind the one that was read before them, where 128 bits hold it.
+    /// The number that they spell after the one that was read before them, where 128 bits hold it.
     pub(crate) number: Option<u128>,
     /// How many they are, underscores apart.
     pub(crate) count: usize,
-    /// The bytes behind them.
+    /// The bytes after them.
     pub(crate) rest: &'a [u8],
 }
 
-/// Reads the digits of this base at the front of these bytes, behind a number that was read before
+/// Reads the digits of this base at the front of these bytes, after a number that was read before
 /// them, where 128 bits hold that. There is no answer where there is no digit, or where an
 /// underscore does not stand alone and between two digits.
 #[inline(always)]
@@ -38,25 +38,25 @@ fn short<const BASE: u64>(start: u64, bytes: &[u8]) -> Option<Digits<'_>>
     ensures { Answers (read_digits BASE start false 0 bytes.now) result }
 {
     let mut number = start;
-    let mut behind = false;
+    let mut after = false;
     let mut count = 0;
     let mut rest = bytes;
     while let [byte, tail @ ..] = rest {
         match digit::<BASE>(*byte) {
             Some(value) => {
                 if number >= u64::MAX / BASE {
-                    return go_on::<BASE>(Some(number as u128), behind, count, rest);
+                    return go_on::<BASE>(Some(number as u128), after, count, rest);
                 }
                 number = number * BASE + value;
                 count += 1;
-                behind = true;
+                after = true;
             }
-            None if *byte == b'_' && behind => behind = false,
+            None if *byte == b'_' && after => after = false,
             None => break,
         }
         rest = tail;
     }
-    ended(Some(number as u128), behind, count, rest)
+    ended(Some(number as u128), after, count, rest)
 }
 
 // Goes on with `long`. Its answer is taken apart, so that the caller keeps what it reads in
@@ -64,16 +64,16 @@ fn short<const BASE: u64>(start: u64, bytes: &[u8]) -> Option<Digits<'_>>
 #[inline(always)]
 fn go_on<const BASE: u64>(
     number: Option<u128>,
-    behind: bool,
+    after: bool,
     count: usize,
     bytes: &[u8],
 ) -> Option<Digits<'_>>
     requires base { IsBase BASE }
     requires room { count + length bytes.now < 2 ^ 64 }
     ensures { (n : ℕ) → number ≡ in_128 n
-        → Answers (read_digits BASE n behind count bytes.now) result }
+        → Answers (read_digits BASE n after count bytes.now) result }
 {
-    let Some(read) = long::<BASE>(number, behind, count, bytes) else {
+    let Some(read) = long::<BASE>(number, after, count, bytes) else {
         return None;
     };
     Some(Digits {
@@ -83,22 +83,22 @@ fn go_on<const BASE: u64>(
     })
 }
 
-// Reads digits behind so many that were read before, and behind the number that these spell, where
+// Reads digits after so many that were read before, and after the number that these spell, where
 // 128 bits hold it.
 #[cold]
 fn long<const BASE: u64>(
     start: Option<u128>,
-    behind: bool,
+    after: bool,
     count: usize,
     bytes: &[u8],
 ) -> Option<Digits<'_>>
     requires base { IsBase BASE }
     requires room { count + length bytes.now < 2 ^ 64 }
     ensures { (n : ℕ) → start ≡ in_128 n
-        → Answers (read_digits BASE n behind count bytes.now) result }
+        → Answers (read_digits BASE n after count bytes.now) result }
 {
     let mut number = start;
-    let mut behind = behind;
+    let mut after = after;
     let mut count = count;
     let mut rest = bytes;
     while let [byte, tail @ ..] = rest {
@@ -106,22 +106,22 @@ fn long<const BASE: u64>(
             Some(value) => {
                 number = appended::<BASE>(number, value);
                 count += 1;
-                behind = true;
+                after = true;
             }
-            None if *byte == b'_' && behind => behind = false,
+            None if *byte == b'_' && after => after = false,
             None => break,
         }
         rest = tail;
     }
-    ended(number, behind, count, rest)
+    ended(number, after, count, rest)
 }
 
 // What was read where no digit follows, and no underscore that may stand there.
 #[inline]
-fn ended(number: Option<u128>, behind: bool, count: usize, rest: &[u8]) -> Option<Digits<'_>>
-    ensures { (n : ℕ) → number ≡ in_128 n → Answers (read_end n behind count rest.now) result }
+fn ended(number: Option<u128>, after: bool, count: usize, rest: &[u8]) -> Option<Digits<'_>>
+    ensures { (n : ℕ) → number ≡ in_128 n → Answers (read_end n after count rest.now) result }
 {
-    if behind {
+    if after {
         Some(Digits {
             number,
             count,
@@ -187,7 +187,7 @@ fn hex_value(byte: u8) -> u8
     }
 }
 
-/// Whether there is a minus in front, and what stands behind it.
+/// Whether there is a minus in front, and what stands after it.
 #[inline]
 pub(crate) fn sign(run: &[u8]) -> (bool, &[u8])
     ensures negative { result.0 ≡ has_minus run.now }

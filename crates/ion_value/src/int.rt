@@ -90,7 +90,7 @@ pub fn int_to_bytes(int: Int) -> ArrayVec<u8, 16>
     ArrayVec::try_from(&octets[zeros..]).unwrap()
 }
 
-/// The text of an int: its decimal digits, behind a minus where it is negative (Ion specification,
+/// The text of an int: its decimal digits, after a minus where it is negative (Ion specification,
 /// "Integers").
 #[inline(always)]
 pub fn int_to_text(int: Int) -> ArrayString<40>

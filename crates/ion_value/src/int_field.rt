@@ -24,7 +24,7 @@ pub(crate) fn int_field_read(octets: &[u8]) -> Option<(bool, u128)>
     }
 }
 
-// The number that these seven bits and the octets behind them spell, where it has at most 128 bits.
+// The number that these seven bits and the octets after them spell, where it has at most 128 bits.
 #[inline]
 fn magnitude_read(high: u8, rest: &[u8]) -> Option<u128>
     requires { high < 128 }
@@ -83,7 +83,7 @@ fn with_sign_bit(negative: bool, octets: &[u8]) -> ArrayVec<u8, 17>
     }
 }
 
-// One octet and those behind it.
+// One octet and those after it.
 #[inline]
 fn joined(first: u8, rest: &[u8]) -> ArrayVec<u8, 17>
     requires { length rest.now ≤ 16 }

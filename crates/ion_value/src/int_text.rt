@@ -7,8 +7,8 @@ use crate::digits::{Digits, digits_after, sign, whole_digits};
 use crate::int::Int;
 use ion_meter::fault::Reason;
 
-/// Reads an int in text: digits in base ten, of which a first zero stands alone, sixteen behind
-/// `0x` or two behind `0b`, with single underscores between two digits, behind a minus or
+/// Reads an int in text: digits in base ten, of which a first zero stands alone, sixteen after
+/// `0x` or two after `0b`, with single underscores between two digits, after a minus or
 /// none (Ion specification, "Integers"). `-0` is 0.
 ///
 /// A magnitude past 128 bits is out of `Range`, and every other run a `BadToken`.
@@ -28,7 +28,7 @@ pub fn int_from_text(run: &[u8]) -> Result<Int, Reason>
     int_in_128(negative, digits.number)
 }
 
-// The digits of an int behind its sign and the mark of its base.
+// The digits of an int after its sign and the mark of its base.
 #[inline]
 fn int_digits(bytes: &[u8]) -> Option<Digits<'_>>
     ensures { Answers (read_int bytes.now) result }

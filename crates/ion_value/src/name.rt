@@ -191,8 +191,8 @@ fn are_two_numbers(bytes: &[u8]) -> bool
     ensures { result ≡ (is_number (cut_at (λ b. b == 95) bytes.now).0
         && is_number (drop 1 (cut_at (λ b. b == 95) bytes.now).1)) }
 {
-    let (major, behind) = cut_at_underscore(bytes);
-    match behind {
+    let (major, after) = cut_at_underscore(bytes);
+    match after {
         [_, minor @ ..] => is_number(major) && is_number(minor),
         [] => false,
     }

@@ -25,7 +25,7 @@ use std::alloc::Allocator;
 pub struct Fed {
     /// How many values at top level ended.
     pub values: u64,
-    /// How many containers are open behind the items.
+    /// How many containers are open after the items.
     pub level: u32,
 }
 
@@ -141,7 +141,7 @@ pub trait RawReader<A: Allocator + Copy> {
 
     /// Hands items to a writer, as many of those that lie whole in the window as both can take
     /// without a device and without a fault: plain items, by the names that are given
-    /// (`PlainItem`). The items behind them are for `next`. No clause says how many there are, nor
+    /// (`PlainItem`). The items after them are for `next`. No clause says how many there are, nor
     /// whether `item` may be called before `next` is.
     fn feed<N: Names, W: ValueWriter<O, A>, O: Output>(
         &mut self,

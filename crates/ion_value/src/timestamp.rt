@@ -51,7 +51,7 @@ pub struct Timestamp {
     pub minute: u8,
     /// 0 to 59, since there are no leap seconds.
     pub second: u8,
-    /// The digits behind the second's point as one number.
+    /// The digits after the second's point as one number.
     pub fraction: u128,
     /// Local time less UTC in minutes, -1439 to 1439, or none where it is unknown.
     pub offset: Option<i16>,
@@ -191,8 +191,8 @@ impl Timestamp {
 ///
 /// Any VarUInts and VarInts of at most nine octets are allowed as fields, and a date may have any
 /// offset. It is a `BadVar` where a field does not end. Else it is out of `Range` where the
-/// fraction's coefficient has more than 128 bits, or more than 38 digits stand behind the point. Else
-/// it is a `BadTimestamp` where the fields end before the year or behind the hour, where the calendar
+/// fraction's coefficient has more than 128 bits, or more than 38 digits stand after the point. Else
+/// it is a `BadTimestamp` where the fields end before the year or after the hour, where the calendar
 /// has no such date or the day no such time, where the fraction is below 0 or not below 1, where the
 /// offset has a day or more, and where the local year is not one of 1 to 9999.
 #[inline(never)]
@@ -217,7 +217,7 @@ pub fn timestamp_from_bytes(body: &[u8]) -> Result<Timestamp, Reason>
     from_parts(offset, numbers.as_slice(), exponent, coefficient)
 }
 
-// The VarInt at the front of these bytes, if there are any, and the bytes behind it.
+// The VarInt at the front of these bytes, if there are any, and the bytes after it.
 fn signed_field(bytes: &[u8]) -> Result<(Signed, &[u8]), Reason>
     ensures read { IfOk result (λ r. (f : List (List ℕ))
         × (fields_cut 1 bytes.now ≡ Some (f, r.1.now)) × Spells r.0 (first_field f)) }
@@ -236,7 +236,7 @@ fn signed_field(bytes: &[u8]) -> Result<(Signed, &[u8]), Reason>
     }
 }
 
-// The VarUInts at the front of these bytes, at most six, and the bytes behind them.
+// The VarUInts at the front of these bytes, at most six, and the bytes after them.
 fn number_fields(bytes: &[u8]) -> Result<(ArrayVec<u64, 6>, &[u8]), Reason>
     ensures read { IfOk result (λ r. (f : List (List ℕ))
         × (fields_cut 6 bytes.now ≡ Some (f, r.1.now)) × (r.0.items ≡ map var_uint f)) }
@@ -256,7 +256,7 @@ fn number_fields(bytes: &[u8]) -> Result<(ArrayVec<u64, 6>, &[u8]), Reason>
     Ok((numbers, rest))
 }
 
-// The timestamp that an offset, the numbers behind it, an exponent and a coefficient tell.
+// The timestamp that an offset, the numbers after it, an exponent and a coefficient tell.
 fn from_parts(
     offset: Signed,
     numbers: &[u64],
@@ -266,7 +266,7 @@ fn from_parts(
     ensures { (o e : List ℕ) → Spells offset o → Spells exponent e
         → result ≡ timestamp_of_parts o numbers.now e coefficient.now }
 {
-    let digits = digits_behind(exponent);
+    let digits = digits_after_point(exponent);
     match int_field_read(coefficient) {
         Some((negative, fraction)) if digits <= 38 => {
             if !is_fraction(negative, fraction, digits as u8) {
@@ -281,9 +281,9 @@ fn from_parts(
     }
 }
 
-// The digits behind the point that an exponent tells: none where it is not below zero.
-fn digits_behind(exponent: Signed) -> u64
-    ensures { (e : List ℕ) → Spells exponent e → result ≡ spec.digits_behind e }
+// The digits after the point that an exponent tells: none where it is not below zero.
+fn digits_after_point(exponent: Signed) -> u64
+    ensures { (e : List ℕ) → Spells exponent e → result ≡ spec.digits_after_point e }
 {
     if exponent.negative {
         exponent.magnitude
@@ -292,7 +292,7 @@ fn digits_behind(exponent: Signed) -> u64
     }
 }
 
-// Whether so many digits behind the point can have this coefficient.
+// Whether so many digits after the point can have this coefficient.
 fn is_fraction(negative: bool, coefficient: u128, digits: u8) -> bool
     requires { digits ≤ 38 }
     ensures { result ≡ ((coefficient == 0) || (not negative && nat_lt coefficient (10 ^ digits))) }
@@ -336,7 +336,7 @@ fn in_utc(numbers: &[u64], digits: u8, fraction: u128) -> Option<Timestamp>
     }
 }
 
-// To the second, or to so many digits behind its point.
+// To the second, or to so many digits after its point.
 fn to_digits(digits: u8) -> Precision
     ensures { result ≡ second_precision digits }
 {
@@ -460,7 +460,7 @@ fn offset_write(offset: Option<i16>) -> ArrayVec<u8, 9>
     }
 }
 
-// A body with a fraction of so many digits behind it: the exponent, and the coefficient.
+// A body with a fraction of so many digits after it: the exponent, and the coefficient.
 fn with_fraction(mut body: ArrayVec<u8, 26>, digits: u8, fraction: u128) -> ArrayVec<u8, 26>
     requires room { length body.items ≤ 9 }
     requires digits { digits ≤ 38 }
@@ -477,7 +477,7 @@ fn with_fraction(mut body: ArrayVec<u8, 26>, digits: u8, fraction: u128) -> Arra
     body
 }
 
-// Writes octets behind a body.
+// Writes octets after a body.
 fn append(body: &mut ArrayVec<u8, 26>, octets: &[u8])
     requires { length body.old.items + length octets.now ≤ 26 }
     ensures { body.new.items ≡ body.old.items ++ octets.now }

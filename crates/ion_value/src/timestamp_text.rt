@@ -4,7 +4,7 @@ ghost use Rattle.jiff_core.specs.Calendar.{IsCivilDate};
 ghost use Rattle.ion_value.specs.Number.{number};
 ghost use Rattle.ion_value.specs.Digits.{digit_value, first_is, all_are, is_digit, fixed_digits};
 ghost use Rattle.ion_value.specs.Timestamp.{IsTimestamp, IsMoment, IsOffset, date_in_range, digits_at, has_offset_shape, looks_like, time_in_range, timestamp_of_text, day_text, minute_text, second_text, minutes_text, offset_text, timestamp_text};
-ghost use Rattle.ion_value.specs.TimestampRuns.{outcome, with_offset, with_fraction, behind_second, begins_time, to_the_minute, unread, behind_minute, behind_day, behind_month, behind_year, from_year, offset_in_range, offset_of, IsOffsetOf, AreDigits, AreLeading, month_text};
+ghost use Rattle.ion_value.specs.TimestampRuns.{outcome, with_offset, with_fraction, after_second, begins_time, to_the_minute, unread, after_minute, after_day, after_month, after_year, from_year, offset_in_range, offset_of, IsOffsetOf, AreDigits, AreLeading, month_text};
 ghost use Rattle.ion_value.specs.TimestampRuns as spec;
 ghost use Rattle.arrayvec.specs.ArrayString.{array_string_len};
 
@@ -85,7 +85,7 @@ fn four_digits(first: u8, second: u8, third: u8, fourth: u8) -> Option<u16>
     }
 }
 
-// Reads the year and what stands behind it.
+// Reads the year and what stands after it.
 #[inline]
 fn read_year(timestamp: &mut Timestamp, run: &[u8]) -> Result<(), Reason>
     ensures { outcome result timestamp.new ≡ from_year timestamp.old run.now }
@@ -102,10 +102,10 @@ fn read_year(timestamp: &mut Timestamp, run: &[u8]) -> Result<(), Reason>
     }
 }
 
-// Reads what stands behind the year.
+// Reads what stands after the year.
 #[inline]
 fn read_month(timestamp: &mut Timestamp, bytes: &[u8]) -> Result<(), Reason>
-    ensures { outcome result timestamp.new ≡ behind_year timestamp.old bytes.now }
+    ensures { outcome result timestamp.new ≡ after_year timestamp.old bytes.now }
 {
     match bytes {
         [b'T'] => check(timestamp),
@@ -121,10 +121,10 @@ fn read_month(timestamp: &mut Timestamp, bytes: &[u8]) -> Result<(), Reason>
     }
 }
 
-// Reads what stands behind the month.
+// Reads what stands after the month.
 #[inline]
 fn read_day(timestamp: &mut Timestamp, bytes: &[u8]) -> Result<(), Reason>
-    ensures { outcome result timestamp.new ≡ behind_month timestamp.old bytes.now }
+    ensures { outcome result timestamp.new ≡ after_month timestamp.old bytes.now }
 {
     match bytes {
         [b'T'] => check(timestamp),
@@ -140,10 +140,10 @@ fn read_day(timestamp: &mut Timestamp, bytes: &[u8]) -> Result<(), Reason>
     }
 }
 
-// Reads what stands behind the day.
+// Reads what stands after the day.
 #[inline]
 fn read_end(timestamp: &Timestamp, bytes: &[u8]) -> Result<(), Reason>
-    ensures { outcome result timestamp.now ≡ behind_day timestamp.now bytes.now }
+    ensures { outcome result timestamp.now ≡ after_day timestamp.now bytes.now }
 {
     match bytes {
         [] | [b'T'] => check(timestamp),
@@ -167,7 +167,7 @@ fn read_time(timestamp: &mut Timestamp, run: &[u8]) -> Result<(), Reason>
     requires long { 16 ≤ length run.now }
     requires minute { begins_time run.now ≡ true }
     ensures { outcome result timestamp.new
-        ≡ behind_minute (to_the_minute timestamp.old run.now) (drop 16 run.now) }
+        ≡ after_minute (to_the_minute timestamp.old run.now) (drop 16 run.now) }
 {
     timestamp.precision = Precision::Minute;
     timestamp.year = of_digits(run[0], run[1]) as u16 * 100 + of_digits(run[2], run[3]) as u16;
@@ -189,10 +189,10 @@ fn of_digits(tens: u8, ones: u8) -> u8
     tens.wrapping_mul(10).wrapping_add(ones)
 }
 
-// Reads what stands behind the minute.
+// Reads what stands after the minute.
 #[inline]
 fn read_second(timestamp: &mut Timestamp, bytes: &[u8]) -> Result<(), Reason>
-    ensures { outcome result timestamp.new ≡ behind_minute timestamp.old bytes.now }
+    ensures { outcome result timestamp.new ≡ after_minute timestamp.old bytes.now }
 {
     match bytes {
         [b':', s1, s2, rest @ ..] => match two_digits(*s1, *s2) {
@@ -207,20 +207,20 @@ fn read_second(timestamp: &mut Timestamp, bytes: &[u8]) -> Result<(), Reason>
     }
 }
 
-// Reads what stands behind the second.
+// Reads what stands after the second.
 #[inline]
 fn read_fraction(timestamp: &mut Timestamp, bytes: &[u8]) -> Result<(), Reason>
-    ensures { outcome result timestamp.new ≡ behind_second timestamp.old bytes.now }
+    ensures { outcome result timestamp.new ≡ after_second timestamp.old bytes.now }
 {
     match bytes {
-        [b'.', fraction @ ..] => read_behind_digits(timestamp, leading_digits(fraction)),
+        [b'.', fraction @ ..] => read_after_digits(timestamp, leading_digits(fraction)),
         _ => read_offset(timestamp, bytes),
     }
 }
 
-// Takes these digits for the fraction, and reads the offset behind them.
+// Takes these digits for the fraction, and reads the offset after them.
 #[inline]
-fn read_behind_digits(timestamp: &mut Timestamp, digits: Digits<'_>) -> Result<(), Reason>
+fn read_after_digits(timestamp: &mut Timestamp, digits: Digits<'_>) -> Result<(), Reason>
     ensures { outcome result timestamp.new
         ≡ with_fraction timestamp.old digits.entry.count digits.entry.number digits.entry.rest.now }
 {
@@ -373,7 +373,7 @@ struct Digits<'a> {
     number: u128,
     // How many there are.
     count: usize,
-    // The bytes behind them.
+    // The bytes after them.
     rest: &'a [u8],
 }
 
@@ -393,7 +393,7 @@ fn leading_digits(bytes: &[u8]) -> Digits<'_>
     more_digits(number, &bytes[count..])
 }
 
-// The digits at the front, behind nineteen that spell this number.
+// The digits at the front, after nineteen that spell this number.
 #[cold]
 fn more_digits(high: u64, bytes: &[u8]) -> Digits<'_>
     ensures { (prefix : List ℕ) → length prefix ≡ DIGITS_IN_64_BITS → all_are is_digit prefix ≡ true

@@ -30,10 +30,10 @@ pub trait ValueWriter<O: Output, A: Allocator + Copy> {
     /// What is put for a list of items.
     ghost puts: { Limits → List PlacedItem → List ℕ };
 
-    /// What an item behind them adds.
+    /// What an item after them adds.
     ghost adds: { Limits → List PlacedItem → PlacedItem → List ℕ };
 
-    /// The reason and the place of the refusal of an item behind them, where it is refused.
+    /// The reason and the place of the refusal of an item after them, where it is refused.
     ghost refusal: { Limits → List PlacedItem → PlacedItem → Option (Reason × ℕ) };
 
     ghost limits: { Self → Limits };
@@ -79,7 +79,7 @@ pub trait ValueWriter<O: Output, A: Allocator + Copy> {
         ensures own { own self.new ≡ own self.old }
         ensures most { most self.new ≡ most self.old };
 
-    /// Takes an item that is no version marker and may stand behind those taken before, and puts
+    /// Takes an item that is no version marker and may stand after those taken before, and puts
     /// what is whole by it.
     ///
     /// It refuses what its limits do not allow, before anything of the item is put, and answers
@@ -100,7 +100,7 @@ pub trait ValueWriter<O: Output, A: Allocator + Copy> {
             × Continues (limits self.old) path (item_of N.text item.now) }
         ensures sound { sound self.new }
 
-        // What is put, for whatever items the writer stands behind.
+        // What is put, for whatever items the writer stands after.
         ensures stands { (path : List PlacedItem) → stands self.old path
             → Continues (limits self.old) path (item_of N.text item.now)
             → OnOk result (stands self.new (path ++ item_of N.text item.now ∷ [])
@@ -168,7 +168,7 @@ pub trait ValueWriter<O: Output, A: Allocator + Copy> {
             × Continues (limits self.old) path (placed_item item) }
         ensures sound { sound self.new }
 
-        // What is put, for whatever items the writer stands behind.
+        // What is put, for whatever items the writer stands after.
         ensures stands { result ≡ true → (path : List PlacedItem) → stands self.old path
             → Continues (limits self.old) path (placed_item item.entry)
             → stands self.new (path ++ placed_item item.entry ∷ [])

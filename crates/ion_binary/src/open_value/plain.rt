@@ -31,16 +31,16 @@ impl<A: Allocator + Copy> OpenValue<A> {
             self.old self.new meter.old meter.new result }
     {
         if note == 0 {
-            return self.put_behind(meter, limits, name, &[], scalar);
+            return self.put_after(meter, limits, name, &[], scalar);
         }
         let notes = var_uint_write(u64::from(note));
-        self.put_behind(meter, limits, name, notes.as_slice(), scalar)
+        self.put_after(meter, limits, name, notes.as_slice(), scalar)
     }
 
     /// Adds a scalar after the id of its field, 0 where there is none, and the octets of the ids of
     /// its annotations, as `extend_if_room` adds octets.
     #[inline(always)]
-    pub fn put_behind(
+    pub fn put_after(
         &mut self,
         meter: &mut Meter<A>,
         limits: &Limits,
@@ -131,7 +131,7 @@ impl<A: Allocator + Copy> OpenValue<A> {
         let zeros = (coefficient.leading_zeros() - 1) / 8;
         let size = 8 - zeros as usize;
         let sign = sign_bit(negative);
-        let front = Few::one(exponent).behind(81 + size as u8);
+        let front = Few::one(exponent).after(81 + size as u8);
         let body = (coefficient.wrapping_shl(8 * zeros) + sign).to_be_bytes();
         self.put_few(meter, limits, name, note, &front, body, size)
     }
@@ -205,7 +205,7 @@ impl<A: Allocator + Copy> OpenValue<A> {
             self.old self.new meter.old meter.new result }
     {
         let Some(whole) = noted_front(front, size, name, note) else {
-            return self.put_behind_long(meter, limits, name, note, front, body, size);
+            return self.put_after_long(meter, limits, name, note, front, body, size);
         };
         if !self.has_room(*limits, 16, 0) {
             return false;
@@ -217,7 +217,7 @@ impl<A: Allocator + Copy> OpenValue<A> {
     // Adds such a scalar after long ids.
     #[cold]
     #[inline(never)]
-    fn put_behind_long(
+    fn put_after_long(
         &mut self,
         meter: &mut Meter<A>,
         limits: &Limits,

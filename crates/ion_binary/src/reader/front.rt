@@ -81,13 +81,13 @@ pub(super) fn shown_field<'n, N: Names>(
     match around.level {
         Level::Top | Level::List | Level::Sexp => Some((None, 0)),
         Level::Struct => {
-            let Some((id, behind)) = shown_var(octets, 0) else {
+            let Some((id, after)) = shown_var(octets, 0) else {
                 return None;
             };
             let Some(name) = shown_text(id_of(id), here, names, any) else {
                 return None;
             };
-            Some((Some(name), behind))
+            Some((Some(name), after))
         }
     }
 }

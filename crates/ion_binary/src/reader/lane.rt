@@ -156,19 +156,19 @@ fn top_at(around: Around, top: u64, here: u64) -> u64
 
 // The place where what is shown ends, a container with its members.
 #[inline(always)]
-fn far_end(here: u64, behind: usize, found: Shown<'_>) -> u64
-    requires { here + behind < 2 ^ 64 }
-    ensures { result ≡ far_end here behind found.entry }
+fn far_end(here: u64, after: usize, found: Shown<'_>) -> u64
+    requires { here + after < 2 ^ 64 }
+    ensures { result ≡ far_end here after found.entry }
 {
     match found {
-        Shown::Scalar(_) => here + behind as u64,
+        Shown::Scalar(_) => here + after as u64,
         Shown::Begin(_, end) => end,
     }
 }
 
 // An item of what stands in front of its head, and its head.
 #[inline(always)]
-fn item_behind<'n, 'h>(
+fn item_after<'n, 'h>(
     front: Front<'n>,
     shown: SpelledHead<'h>,
     place: u64,
@@ -197,7 +197,7 @@ fn item_behind<'n, 'h>(
 
 // One value more where no container is open.
 #[inline(always)]
-pub(super) fn values_behind(values: u64, frames: &[Frame]) -> u64
+pub(super) fn values_after(values: u64, frames: &[Frame]) -> u64
     requires { values < 2 ^ 64 - 1 }
     ensures { result ≡ values + one_if_closed (kinds_of frames.now) }
 {
@@ -226,12 +226,12 @@ impl<I: Input, A: Allocator + Copy> BinReader<I, A> {
         let mut count = values;
         let mut around = around_in(self.frames.as_slice());
         'items: while self.hand::<N, W, O, RUN>(&mut around, meter, names, writer, sink) {
-            count = values_behind(count, self.frames.as_slice());
+            count = values_after(count, self.frames.as_slice());
         }
         count
     }
 
-    // Hands on items that the loop over most leaves, behind so many values at top level. It answers how many values
+    // Hands on items that the loop over most leaves, after so many values at top level. It answers how many values
     // ended.
     #[inline(always)]
     pub(super) fn hand_others<N: Names, W: ValueWriter<O, A>, O: Output>(
@@ -479,7 +479,7 @@ impl<I: Input, A: Allocator + Copy> BinReader<I, A> {
 
     // What is shown after a front of a head of this shape, and how many octets the item has.
     #[inline(always)]
-    fn shown_behind(
+    fn shown_after(
         &self,
         shape: Shape,
         around: Around,
@@ -501,14 +501,14 @@ impl<I: Input, A: Allocator + Copy> BinReader<I, A> {
         let most = inner_end(front.wrapper, around.end);
         let depth = self.frames.as_slice().len() as u32;
         let at = front.head;
-        let Some((found, behind)) = shown_value(shape, octets, here, at, most, depth, self.limits)
+        let Some((found, after)) = shown_value(shape, octets, here, at, most, depth, self.limits)
         else {
             return None;
         };
-        if !fills(front.wrapper, far_end(here, behind, found)) {
+        if !fills(front.wrapper, far_end(here, after, found)) {
             return None;
         }
-        Some((found, behind))
+        Some((found, after))
     }
 
     // Passes over an item whose octets are so many.
@@ -545,7 +545,7 @@ impl<I: Input, A: Allocator + Copy> BinReader<I, A> {
         ensures { HandsAt I.Input W.ValueWriter (named_item (N.text names.now)) self.old self.new
             writer.old writer.new sink.old sink.new meter.old meter.new around.new result }
     {
-        let Some((found, behind)) = self.shown_behind(shape, *around, front) else {
+        let Some((found, after)) = self.shown_after(shape, *around, front) else {
             return false;
         };
         let here = self.source.place();
@@ -556,15 +556,15 @@ impl<I: Input, A: Allocator + Copy> BinReader<I, A> {
                 let Some(shown) = shown_head(scalar, place, names) else {
                     return false;
                 };
-                let item = item_behind(front, shown, place, top);
+                let item = item_after(front, shown, place, top);
                 if !writer.take_plain(meter, sink, item) {
                     return false;
                 }
-                self.pass(*around, behind);
+                self.pass(*around, after);
                 true
             }
             Shown::Begin(kind, end) => {
-                let item = item_behind(front, unspelled(Head::Begin(kind)), place, top);
+                let item = item_after(front, unspelled(Head::Begin(kind)), place, top);
                 if !self.frames.push_within(meter, Frame { kind, end }) {
                     return false;
                 }
@@ -572,7 +572,7 @@ impl<I: Input, A: Allocator + Copy> BinReader<I, A> {
                     self.frames.pop(meter);
                     return false;
                 }
-                self.pass(*around, behind);
+                self.pass(*around, after);
                 *around = inside(Frame { kind, end });
                 true
             }

@@ -50,7 +50,7 @@ impl<A: Allocator + Copy> BinWriter<A> {
         let spelled = spell(item.head, symbol);
         let scalar = spelled.octets();
         self.open_value
-            .put_behind(meter, &self.limits, name, notes.as_slice(), &scalar)
+            .put_after(meter, &self.limits, name, notes.as_slice(), &scalar)
     }
 
     // The octets of the ids of both annotations, where their texts have ids, wherever the second

@@ -309,7 +309,7 @@ pub fn has_more<I: Input, A: Allocator + Copy>(rt: &impl Abort, source: &mut Sou
 pub enum Call<'a> {
     Put(&'a [u8], Result<(), Fault>),
     Flush(Result<(), Fault>),
-    /// Puts a byte and then these, for which the window has room. Behind them it has room for so many.
+    /// Puts a byte and then these, for which the window has room. After them it has room for so many.
     Within(&'a [u8], usize),
 }
 
@@ -363,7 +363,7 @@ fn has_taken(rt: &impl Abort, device: Narrow, taken: &[u8], calls: usize, failur
 
 const WRITE_FAULT: Result<(), Fault> = Err(Fault::WriteFault);
 
-/// Puts the text and flushes it, where the output fails behind fewer bytes, then puts and flushes more.
+/// Puts the text and flushes it, where the output fails after fewer bytes, then puts and flushes more.
 const WRITE_FAULTS: &[Call] = &[
     Call::Put(TEXT, Ok(())),
     Call::Flush(WRITE_FAULT),

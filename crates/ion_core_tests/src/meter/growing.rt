@@ -150,7 +150,7 @@ impl<A: Allocator + Copy> Growing<A> for Spliced<A> {
                 if let Err(fault) = self.buf.extend_zeros(meter, 1) {
                     return Err(fault);
                 }
-                self.buf.move_behind(place, end, 1, &[byte]);
+                self.buf.move_after(place, end, 1, &[byte]);
                 Ok(())
             }
         }

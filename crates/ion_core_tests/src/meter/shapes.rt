@@ -25,8 +25,8 @@ enum ByteCall<'a> {
     InsertSlice(usize, &'a [u8]),
     ExtendZeros(usize),
     /// Those from a place up to an end are moved by a gap, and these are put before them.
-    MoveBehind(usize, usize, usize, &'a [u8]),
-    /// Whether these and more behind them are added, since there is room.
+    MoveAfter(usize, usize, usize, &'a [u8]),
+    /// Whether these and more after them are added, since there is room.
     ExtendIfRoom(&'a [u8], &'a [u8], bool),
     /// Whether these are put in, since there is room.
     InsertIfRoom(usize, &'a [u8], bool),
@@ -86,12 +86,12 @@ fn change(rt: &impl Abort, meter: &mut Meter<Global>, buf: &mut Buf<Global>, cal
     let length = buf.as_slice().len();
     holds(rt, length as u64 <= meter.held());
     match call {
-        ByteCall::MoveBehind(place, end, gap, bytes) => {
+        ByteCall::MoveAfter(place, end, gap, bytes) => {
             holds(
                 rt,
                 place <= end && end <= length && gap <= length - end && bytes.len() <= gap,
             );
-            buf.move_behind(place, end, gap, bytes);
+            buf.move_after(place, end, gap, bytes);
         }
         ByteCall::Set(place, byte) => {
             holds(rt, place < length);
@@ -155,8 +155,8 @@ const PUT_IN: &[(ByteCall, &[u8])] = &[
 const MOVED: &[(ByteCall, &[u8])] = &[
     (ByteCall::Extend(b"abcd"), b"abcd"),
     (ByteCall::ExtendZeros(3), b"abcd\0\0\0"),
-    (ByteCall::MoveBehind(3, 4, 3, b"x"), b"abcd\0xd"),
-    (ByteCall::MoveBehind(1, 3, 2, b"yz"), b"ayzbcxd"),
+    (ByteCall::MoveAfter(3, 4, 3, b"x"), b"abcd\0xd"),
+    (ByteCall::MoveAfter(1, 3, 2, b"yz"), b"ayzbcxd"),
 ];
 
 const WHERE_ROOM_IS: &[(ByteCall, &[u8])] = &[

@@ -291,7 +291,7 @@ enum Order {
     Mixed,
 }
 
-/// The rank of the table that is added behind so many.
+/// The rank of the table that is added after so many.
 fn rank_in(order: Order, number: usize) -> usize
     requires { number < MANY }
 {

@@ -1,4 +1,4 @@
-//! Calls on tables that grow, each over an allocator that refuses it: alone, and with all behind it.
+//! Calls on tables that grow, each over an allocator that refuses it: alone, and with all after it.
 ghost use Rattle.std.specs.Prelude.{◌≡◌, ◌+◌, ◌≤◌, MatchOption};
 ghost use Rattle.ion_symbols.specs.Table.{catalog_cost, shared_cost};
 ghost use Rattle.ion_symbols.specs.Output.{texts_cost};
@@ -252,7 +252,7 @@ pub fn give<A: Allocator + Copy>(
     texts.give_id(meter, text.as_bytes())
 }
 
-/// Asks for the id of a text behind so many others, and once more where that is refused. Whether it
+/// Asks for the id of a text after so many others, and once more where that is refused. Whether it
 /// has one.
 fn id_again<A: Allocator + Copy>(
     rt: &impl Abort,
@@ -327,7 +327,7 @@ fn refusals(is_met: bool, onward: bool) -> u64 {
     }
 }
 
-/// Whether a script meets its nth growth, which is refused: alone, or with all behind it. A call that
+/// Whether a script meets its nth growth, which is refused: alone, or with all after it. A call that
 /// is refused is made again.
 fn is_met(rt: &impl Abort, alloc: Global, script: Script, nth: u64, onward: bool) -> bool {
     let refusing = Refusing::new(alloc, 0);
@@ -338,7 +338,7 @@ fn is_met(rt: &impl Abort, alloc: Global, script: Script, nth: u64, onward: bool
     is_met
 }
 
-/// How many growths a script has. Each is refused once alone, and once with all behind it.
+/// How many growths a script has. Each is refused once alone, and once with all after it.
 fn refuse_each(rt: &impl Abort, alloc: Global, script: Script) -> u64 {
     for nth in 1..1_000 {
         let alone = is_met(rt, alloc, script, nth, false);

@@ -363,7 +363,7 @@ const OF_ONE_HASH: &[Step] = &[
     Step::Known("aaaaaaaaaaaaaaaa10bbbbbbbbbbbbbbbb", None),
 ];
 
-const BEHIND_THEM: &[Step] = &[
+const AFTER_THEM: &[Step] = &[
     Step::Known("aaaaaaaaaaaaaaaa4000bbbbbbbbbbbbbbbb", None),
     Step::Known("aaaaaaaaaaaaaaaa0999bbbbbbbbbbbbbbbb", None),
     Step::Id("aaaaaaaaaaaaaaaa1000bbbbbbbbbbbbbbbb", Some(10)),
@@ -378,12 +378,12 @@ fn texts_of_one_hash_have_their_ids(rt: HostRuntime) {
     for known in [false, true] {
         texting.expect_alike(&rt, rt.alloc(), known);
     }
-    texting.expect_each(&rt, BEHIND_THEM);
+    texting.expect_each(&rt, AFTER_THEM);
     texting.finish(&rt);
 }
 
 // As many texts of one hash as are linked stand before: one more puts all in order.
-const BEHIND_THE_LAST_LINK: &[Step] = &[
+const AFTER_THE_LAST_LINK: &[Step] = &[
     Step::Known("aaaaaaaaaaaaaaaa2000bbbbbbbbbbbbbbbb", None),
     Step::Give("another", Some(42)),
     Step::Next("aaaaaaaaaaaaaaaa2000bbbbbbbbbbbbbbbb", 8, false),
@@ -413,7 +413,7 @@ fn too_many_texts_of_one_hash_are_put_in_order(rt: HostRuntime) {
     for number in 0..32_u32 {
         texting.expect_of_one_hash(&rt, rt.alloc(), number + 1_000, None, number + 10);
     }
-    texting.expect_each(&rt, BEHIND_THE_LAST_LINK);
+    texting.expect_each(&rt, AFTER_THE_LAST_LINK);
     texting.finish(&rt);
 }
 

@@ -172,7 +172,7 @@ enum Call<'a> {
     Kept(&'a [u8]),
     /// A text, what is read of it: precision, date, time, fraction and offset, and the text that is written.
     Spelled(&'a [u8], Precision, (u16, u8, u8), (u8, u8, u8), u128, Option<i16>, &'a [u8]),
-    /// A text of the second 7 of 2000 in UTC that is written as it is read, the number of digits behind its point, and these
+    /// A text of the second 7 of 2000 in UTC that is written as it is read, the number of digits after its point, and these
     /// as one number.
     Digits(&'a [u8], u8, u128),
     /// A run that spells no timestamp, and why.
@@ -619,7 +619,7 @@ const TEXTS: &[Call] = &[
     Call::NoText(b"2000-01-01T00:00+00:60", Reason::BadTimestamp),
     Call::NoText(b"0001-01-01T00:00+00:01", Reason::BadTimestamp),
     Call::NoText(b"9999-12-31T23:59-00:01", Reason::BadTimestamp),
-    // 39 digits behind the point.
+    // 39 digits after the point.
     Call::NoText(
         b"2000-01-01T00:00:00.000000000000000000000000000000000000001Z",
         Reason::Range,

@@ -6,7 +6,7 @@ use ion_meter::fault::Reason;
 use ion_value::var::{Signed, var_int_read, var_int_write, var_uint_read, var_uint_write};
 use std::process::Abort;
 
-/// The largest, in nine octets, or ten with one behind it.
+/// The largest, in nine octets, or ten with one after it.
 const UINT_9: [u8; 9] = [0x7F, 0x7F, 0x7F, 0x7F, 0x7F, 0x7F, 0x7F, 0x7F, 0xFF];
 
 const UINT_10: [u8; 10] = [0x7F, 0x7F, 0x7F, 0x7F, 0x7F, 0x7F, 0x7F, 0x7F, 0xFF, 0x7F];

@@ -6,7 +6,7 @@ ghost use Rattle.ion_text_in.specs.Token.{an_end};
 
 use super::spot::{Bounds, Next, Spot, innermost, pass_value};
 use crate::expected::{is_same, member_kind};
-use crate::slice::behind;
+use crate::slice::after;
 use ion_meter::device::Output;
 use ion_meter::meter::Meter;
 use ion_meter::sink::Sink;
@@ -58,6 +58,6 @@ pub(super) fn close<'a, W: ValueWriter<O, A>, O: Output, A: Allocator + Copy>(
     let _closed = kinds.pop(meter);
     let outer = innermost(kinds);
     at.kind = member_kind(outer);
-    pass_value(at, behind(1, next.rest), at.top, outer);
+    pass_value(at, after(1, next.rest), at.top, outer);
     true
 }

@@ -18,7 +18,7 @@ use crate::number::{Number, scan_number};
 use crate::quick::{Quick, scaled, scan_quick, signed_int};
 use crate::quoted::Quote;
 use crate::scanned::Scanned;
-use crate::slice::{behind, front};
+use crate::slice::{after, front};
 use crate::word::{Word, is_zero_id, scan_simple};
 use ion_meter::limits::Limits;
 use ion_value::ion_type::Kind;
@@ -58,7 +58,7 @@ pub(super) fn begin_head<'a>(limits: Limits, place: u64, kind: Kind, bytes: &'a 
     requires { BeginsAs (a_begin kind) bytes.now }
     ensures { IsFound limits place bytes.now result }
 {
-    found_as(Head::Begin(kind), behind(1, bytes))
+    found_as(Head::Begin(kind), after(1, bytes))
 }
 
 /// An int that was read in one pass, as a head.
@@ -118,7 +118,7 @@ pub(super) fn run_head<'a>(limits: Limits, place: u64, bytes: &'a [u8]) -> Optio
     ensures { IfSome result (IsFound limits place bytes.now) }
 {
     match scan_number(limits.scalar, bytes) {
-        Scanned::Whole(number, count) => Some(found_as(head_of(number), behind(count, bytes))),
+        Scanned::Whole(number, count) => Some(found_as(head_of(number), after(count, bytes))),
         _ => None,
     }
 }
@@ -135,7 +135,7 @@ fn number_head<'a>(limits: Limits, place: u64, bytes: &'a [u8]) -> Option<Found<
     Some(Found {
         head: quick_head(quick),
         spelled: spelled_quick(quick, front(quick.count, bytes)),
-        rest: behind(quick.count, bytes),
+        rest: after(quick.count, bytes),
     })
 }
 
@@ -178,7 +178,7 @@ pub(super) fn keyword_head<'a>(
         (Scanned.Whole word count) (token_of (Some limits.scalar) a_word) }
     ensures { IfSome result (IsFound limits place bytes.now) }
 {
-    let rest = behind(count, bytes);
+    let rest = after(count, bytes);
     match word {
         Word::Null(ion_type) => Some(found_as(Head::Null(ion_type), rest)),
         Word::Bool(truth) => Some(found_as(Head::Bool(truth), rest)),
@@ -198,7 +198,7 @@ pub(super) fn symbol_head<'a>(
     requires word { IsSimpleWord limits.scalar bytes.now count }
     ensures { IfSome result (IsFound limits place bytes.now) }
 {
-    let rest = behind(count, bytes);
+    let rest = after(count, bytes);
     if next_told(rest).told == 0 {
         return None;
     }
@@ -241,7 +241,7 @@ pub(super) fn zero_head<'a>(limits: Limits, place: u64, bytes: &'a [u8]) -> Opti
     if !is_zero_id(limits.scalar, bytes) {
         return None;
     }
-    let rest = behind(2, bytes);
+    let rest = after(2, bytes);
     if next_told(rest).told == 0 {
         return None;
     }

@@ -6,12 +6,12 @@ ghost use Rattle.ion_text_in.specs.Feeding.{lane, place_in, Begins, CanFeed, IsF
 
 use super::forward::forward_any;
 use super::heads::{scan_head, zero_head};
-use super::names::{behind_name, to_start};
+use super::names::{after_name, to_start};
 use super::noted::begins_dollar;
-use super::spot::{Bounds, Found, Further, Next, Spot, Start, next_told, place_behind, to_member};
+use super::spot::{Bounds, Found, Further, Next, Spot, Start, next_told, place_after, to_member};
 use crate::blank::run_without;
 use crate::scanned::Scanned;
-use crate::slice::behind;
+use crate::slice::after;
 use crate::word::{Word, scan_word};
 use ion_meter::device::Output;
 use ion_meter::limits::Limits;
@@ -119,7 +119,7 @@ fn id_start<'a, N: Names>(
                 next.rest,
                 names,
                 bounds.limits,
-                place_behind(bounds, spot, next),
+                place_after(bounds, spot, next),
             )
         }
         _ => to_start(spot, next, bounds),
@@ -145,7 +145,7 @@ fn id_name<'a, N: Names>(
         code: BARE,
         place,
     };
-    behind_name(name, behind(id.count, bytes))
+    after_name(name, after(id.count, bytes))
 }
 
 // The id at the front of these bytes, where it has a simple text.
@@ -219,7 +219,7 @@ fn id_head<'a, N: Names>(
     let Some(id) = id_text(bytes, names, limits.scalar) else {
         return None;
     };
-    let rest = behind(id.count, bytes);
+    let rest = after(id.count, bytes);
     if next_told(rest).told == 0 {
         return None;
     }

@@ -1,14 +1,14 @@
 //! The names of fields in a lane, and where a value begins.
 ghost use Rattle.std.specs.Prelude.{◌≡◌, ◌<◌, ◌≤◌, length, None, IfSome};
-ghost use Rattle.ion_text_in.specs.Feeding.{Begins, BeginsText, IsBehindName, IsNamed, IsNext, IsStart, ToColon};
+ghost use Rattle.ion_text_in.specs.Feeding.{Begins, BeginsText, IsAfterName, IsNamed, IsNext, IsStart, ToColon};
 
 use super::heads::token;
-use super::spot::{Bounds, Next, Spot, Start, WORD, next_told, place_behind, value_start};
+use super::spot::{Bounds, Next, Spot, Start, WORD, next_told, place_after, value_start};
 use super::texts::{quoted_text, text_between};
-use crate::comments::behind_blanks;
+use crate::comments::after_blanks;
 use crate::first::{First, shows_colon};
 use crate::quoted::Quote;
-use crate::slice::{behind, front};
+use crate::slice::{after, front};
 use crate::word::simple_word;
 use ion_meter::limits::Limits;
 use ion_value::ion_type::Kind;
@@ -28,7 +28,7 @@ pub(super) fn to_start<'a>(spot: Spot<'a>, next: Next<'a>, bounds: Bounds) -> Op
         return None;
     }
     match spot.kind {
-        Kind::Struct => field_start(next, bounds.limits, place_behind(bounds, spot, next)),
+        Kind::Struct => field_start(next, bounds.limits, place_after(bounds, spot, next)),
         Kind::List | Kind::Sexp => value_start(next),
     }
 }
@@ -51,7 +51,7 @@ fn field_start<'a>(next: Next<'a>, limits: Limits, place: u64) -> Option<Start<'
         code: BARE,
         place,
     };
-    behind_name(name, behind(count, next.rest))
+    after_name(name, after(count, next.rest))
 }
 
 /// What the value begins with after a field's name between quotes.
@@ -76,18 +76,18 @@ fn text_start<'a>(quote: Quote, limits: Limits, place: u64, bytes: &'a [u8]) -> 
     let Some(name) = text_between(quote, limits.scalar, bytes) else {
         return None;
     };
-    behind_name(quoted_text(name.text, place), name.rest)
+    after_name(quoted_text(name.text, place), name.rest)
 }
 
 /// What the value begins with after a name, where a colon stands after that.
 #[inline(always)]
-pub(super) fn behind_name<'a>(name: TextAt<'a>, bytes: &'a [u8]) -> Option<Start<'a>>
-    ensures { IfSome result (IsBehindName name.entry bytes.now) }
+pub(super) fn after_name<'a>(name: TextAt<'a>, bytes: &'a [u8]) -> Option<Start<'a>>
+    ensures { IfSome result (IsAfterName name.entry bytes.now) }
 {
     let Some(colon) = to_colon(bytes) else {
         return None;
     };
-    let value = next_told(behind(1, colon));
+    let value = next_told(after(1, colon));
     if value.rest.is_empty() {
         return None;
     }
@@ -106,7 +106,7 @@ fn to_colon(bytes: &[u8]) -> Option<&[u8]>
     if shows_colon(bytes) {
         return Some(bytes);
     }
-    let rest = behind_blanks(bytes);
+    let rest = after_blanks(bytes);
     if !shows_colon(rest) {
         return None;
     }

@@ -1,14 +1,14 @@
 //! Annotations in a lane.
 ghost use Rattle.std.specs.Prelude.{◌≡◌, ◌==◌, ◌-◌, ◌≤◌, true, Some, length, sum_by, IfSome};
 ghost use Rattle.ion_value.specs.Digits.{first_is};
-ghost use Rattle.ion_text_in.specs.Feeding.{notes, Begins, BeginsAs, IsBehindColons, IsBehindNote, IsNoted, IsSimpleWord, LeadsFurther};
+ghost use Rattle.ion_text_in.specs.Feeding.{notes, Begins, BeginsAs, IsAfterColons, IsAfterNote, IsNoted, IsSimpleWord, LeadsFurther};
 ghost use Rattle.ion_text_in.specs.Reading.{cost};
 ghost use Rattle.ion_text_in.specs.Token.{a_quoted, a_word, two_colons};
 
 use super::spot::{Bounds, Further, Next, Start, WORD, next_told};
 use super::texts::{quoted_text, text_between};
 use crate::quoted::Quote;
-use crate::slice::{behind, front};
+use crate::slice::{after, front};
 use crate::word::simple_word;
 use ion_meter::limits::Limits;
 use ion_value::plain_item::TextAt;
@@ -30,7 +30,7 @@ pub(super) fn noted<'a>(start: Start<'a>, room: u64, place: u64, count: usize) -
         code: BARE,
         place,
     };
-    behind_note(start, note, behind(count, start.next.rest), room)
+    after_note(start, note, after(count, start.next.rest), room)
 }
 
 /// After an annotation in quotes of plain bytes alone that does not begin with a dollar sign: where
@@ -52,7 +52,7 @@ pub(super) fn quoted_noted<'a>(
     if begins_dollar(note.text) {
         return None;
     }
-    behind_note(start, quoted_text(note.text, place), note.rest, room)
+    after_note(start, quoted_text(note.text, place), note.rest, room)
 }
 
 // What is left of the limit on scalars after an annotation.
@@ -66,19 +66,19 @@ fn room_after(note: TextAt<'_>, limits: Limits) -> u64
 // After an annotation: where two colons stand here, there is room for its bytes, and a value begins
 // after them.
 #[inline(always)]
-fn behind_note<'a>(
+fn after_note<'a>(
     start: Start<'a>,
     note: TextAt<'a>,
     colons: &'a [u8],
     room: u64,
 ) -> Option<Start<'a>>
     ensures { (limits : Limits) → room ≡ limits.scalar - sum_by cost (notes start.entry.note)
-        → IfSome result (IsBehindNote limits start.entry note.entry colons.now) }
+        → IfSome result (IsAfterNote limits start.entry note.entry colons.now) }
 {
     if room < 16 + note.text.len() as u64 {
         return None;
     }
-    let Some(value) = behind_colons(colons) else {
+    let Some(value) = after_colons(colons) else {
         return None;
     };
     Some(Start {
@@ -90,13 +90,13 @@ fn behind_note<'a>(
 
 // What a value begins with after two colons, where these stand here.
 #[inline(always)]
-fn behind_colons(colons: &[u8]) -> Option<Next<'_>>
-    ensures { IfSome result (IsBehindColons colons.now) }
+fn after_colons(colons: &[u8]) -> Option<Next<'_>>
+    ensures { IfSome result (IsAfterColons colons.now) }
 {
     if !shows_colons(colons) {
         return None;
     }
-    let value = next_told(behind(2, colons));
+    let value = next_told(after(2, colons));
     if value.rest.is_empty() {
         return None;
     }

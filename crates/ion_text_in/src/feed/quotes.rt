@@ -9,7 +9,7 @@ use super::forward::forward;
 use super::heads::quoted_head;
 use super::names::quoted_start;
 use super::noted::quoted_noted;
-use super::spot::{Bounds, Next, Spot, Start, place_behind, to_member};
+use super::spot::{Bounds, Next, Spot, Start, place_after, to_member};
 use ion_meter::device::Output;
 use ion_meter::meter::Meter;
 use ion_meter::sink::Sink;
@@ -53,7 +53,7 @@ fn to_quoted<'a>(spot: Spot<'a>, next: Next<'a>, bounds: Bounds) -> Option<Start
         return None;
     }
     match spot.kind {
-        Kind::Struct => quoted_start(next, bounds.limits, place_behind(bounds, spot, next)),
+        Kind::Struct => quoted_start(next, bounds.limits, place_after(bounds, spot, next)),
         Kind::List | Kind::Sexp => None,
     }
 }

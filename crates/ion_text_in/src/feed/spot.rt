@@ -9,10 +9,10 @@ ghost use Rattle.ion_value.specs.Outcome.{one_if_closed};
 ghost use Rattle.ion_text_in.specs.Reading.{top_of};
 ghost use Rattle.ion_text_in.specs.Token.{a_comma, an_end, first_at};
 
-use crate::comments::behind_blanks;
+use crate::comments::after_blanks;
 use crate::expected::is_separated;
 use crate::first::told_first;
-use crate::slice::behind;
+use crate::slice::after;
 use ion_meter::limits::Limits;
 use ion_meter::stack::Stack;
 use ion_value::ion_type::Kind;
@@ -99,7 +99,7 @@ pub(super) fn next_told(bytes: &[u8]) -> Next<'_>
     if told > 0 {
         return Next { told, rest: bytes };
     }
-    let rest = behind_blanks(bytes);
+    let rest = after_blanks(bytes);
     Next {
         told: told_first(rest),
         rest,
@@ -119,12 +119,12 @@ pub(super) fn to_member<'a>(at: &mut Spot<'a>) -> Next<'a>
     if !at.separator {
         return Next { told: 0, rest: &[] };
     }
-    behind_separator(at, next.rest)
+    after_separator(at, next.rest)
 }
 
 // Passes over the comma that stands here, and looks after it.
 #[inline(always)]
-fn behind_separator<'a>(at: &mut Spot<'a>, rest: &'a [u8]) -> Next<'a>
+fn after_separator<'a>(at: &mut Spot<'a>, rest: &'a [u8]) -> Next<'a>
     requires separator { at.old.separator ≡ true }
     requires passes { PassesBlanks at.old.rest.now rest.now }
     requires some { 0 < length rest.now }
@@ -133,14 +133,14 @@ fn behind_separator<'a>(at: &mut Spot<'a>, rest: &'a [u8]) -> Next<'a>
     ensures comma { PassesComma at.old at.new }
     ensures next { IsNext at.new.rest.now result }
 {
-    at.rest = behind(1, rest);
+    at.rest = after(1, rest);
     at.separator = false;
     next_told(at.rest)
 }
 
 /// The place of the next token after blanks. It is counted from the spot on, whose place is at hand.
 #[inline(always)]
-pub(super) fn place_behind(bounds: Bounds, spot: Spot<'_>, next: Next<'_>) -> u64
+pub(super) fn place_after(bounds: Bounds, spot: Spot<'_>, next: Next<'_>) -> u64
     requires next { IsNext spot.rest.now next }
     requires within { length spot.rest.now ≤ bounds.end }
     ensures { result ≡ place_in bounds next.entry.rest.now }

@@ -6,7 +6,7 @@ ghost use Rattle.ion_text_in.specs.Quotes.{quote_of};
 
 use crate::quoted::{Quote, scan_text};
 use crate::scanned::Scanned;
-use crate::slice::{behind, front};
+use crate::slice::{after, front};
 use ion_value::plain_item::TextAt;
 use ion_value::quoting::{Quoting, code_of};
 
@@ -23,11 +23,11 @@ pub(super) fn text_between(quote: Quote, limit: u64, bytes: &[u8]) -> Option<Bet
     requires { 0 < length bytes.now }
     ensures { IfSome result (IsBetween (quote_of quote) limit bytes.now) }
 {
-    let inside = behind(1, bytes);
+    let inside = after(1, bytes);
     match scan_text(quote, limit, inside) {
         Scanned::Whole(plain, count) => Some(Between {
             text: front(plain, inside),
-            rest: behind(count, inside),
+            rest: after(count, inside),
         }),
         _ => None,
     }

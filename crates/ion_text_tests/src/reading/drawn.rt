@@ -147,7 +147,7 @@ pub const TEXTS: &[Row] = &[
 ];
 
 /// What stands after a fault in some of them.
-pub const BEHIND: &[Row] = &[
+pub const AFTER: &[Row] = &[
     (
         1048576,
         b"([]_$4 :x-1) 1",

@@ -14,11 +14,11 @@ pub const ROWS: &str = r#"
 %E0%01%00%EA%D2%84!|Overrun 6|{||FA0A52F09A0BED6B|.%#%@=8|
 %E0%01%00%EA%D3%84%10%85|Overrun 8|{name:false||4E3682D2AFC0ECD7|.%2%@>G1|
 %E0%01%00%EA%D2%8A%10|BadSymbol 5|{||FC09A069B5512852|.%N%@IQ|
-~ Behind D1 a VarUInt has the length of a struct that has fields.
+~ After D1 a VarUInt has the length of a struct that has fields.
 %E0%01%00%EA%D1%82%84%11|1|{name:true}%0A||689B5C8623E83E6D|.%I%Q:9O|
 %E0%01%00%EA%D1%80|BadDescriptor 4|||9E75B27B2F0E8A7B|.%;%X,|
 %E0%01%00%EA%D1|Truncated 4|||461886A3C8341A87|.%,%<|
-~ Whether the ids behind D1 rise is not checked.
+~ Whether the ids after D1 rise is not checked.
 %E0%01%00%EA%D1%84%85 %84 |1|{version:0,name:0}%0A||0AC5EBC9971C456C|.%+%Q[>FW4|
 %E0%01%00%EA%D1%84%85 %8A |BadSymbol 8|{version:0||5D6A32A9359E78A3|.%V%Q3WAW'|
 ~ The id before a NOP pad in a struct means nothing.
@@ -31,7 +31,7 @@ pub const ROWS: &str = r#"
 %E0%01%00%EA%E3%81%84%11|1|name::true%0A||766D5330BFD07F05|.%[%Q[WF|
 %E0%01%00%EA%E1%81|BadDescriptor 4|||FA1A3EDC2334DBE2|.%;%@N|
 %E0%01%00%EA%E2%81%84|BadDescriptor 4|||A6A5E8DA88B9F714|.%;%QNN|
-~ Or it has the length 14, and behind it a VarUInt of at least 3.
+~ Or it has the length 14, and after it a VarUInt of at least 3.
 %E0%01%00%EA%EE%83%81%84%11|1|name::true%0A||793BCBA7055AEDD7|.%[%QO[3H|
 %E0%01%00%EA%EE%82%81%84|BadAnnotation 4|||0A4E525D716E2510|.%H%Q@[G|
 %E0%01%00%EA%EE%80|Overrun 4|||E5561269AF1206A6|.%=%XZ|

@@ -5,7 +5,7 @@ pub const ROWS: &str = r#"
 %E0%01%00%EA|0|||BB67D2922F34DCC9|.%:%|
 %E0%01|Truncated 0|||44473DFCAF3645E4|.K|
 %E0%01%01%EA|BadVersion 0|||BB67D2922F34DCC9|.%:%|
-~ Behind it stand values, NOP pads and further markers at top level, and markers nowhere else.
+~ After it stand values, NOP pads and further markers at top level, and markers nowhere else.
 %E0%01%00%EA!%05%01%FF%E0%01%00%EA%11|2|5%0Atrue%0A||54B0E1271145C096|.%1%V:7Q9K<KR|
 %E0%01%00%EA%B4%E0%01%00%EA|BadDescriptor 5|[||DCAA22609F81DD08|.%F%<V&&&|
 ~ Each marker sets the symbol table back to the system's.
@@ -47,7 +47,7 @@ pub const ROWS: &str = r#"
 ~ A length below 14 is the body's.
 %E0%01%00%EA%8Dabcdefghijklm|1|"abcdefghijklm"%0A||07512376DAC402D5|.%Z%@#3B*,#++S0$@$|
 %E0%01%00%EA%B1%82a|Overrun 5|[||737A571937E5F4F0|.%:%@')|
-~ Behind the length 14 a VarUInt has the body's.
+~ After the length 14 a VarUInt has the body's.
 %E0%01%00%EA%8E%8Eabcdefghijklmn|1|"abcdefghijklmn"%0A||A28C6F2B4813AF19|.%;%@</C;QJIK93QK2,N|
 %E0%01%00%EA%B3%8E%82a|Overrun 5|[||6C8C97C053B6C7B2|.%:%@BC)|
 ~ The length 15 is the null of the type.

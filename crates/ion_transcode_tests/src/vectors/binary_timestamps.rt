@@ -33,7 +33,7 @@ pub const ROWS: &str = r#"
 ~ Each field is a VarUInt, and ends in the body.
 %E0%01%00%EAi%80%0F%D0%81%81%80%80%00%BB|1|2000-01-01T00:00:59Z%0A||5554719BF97B2596|.%B%:7+K##BBV)|
 %E0%01%00%EAi%80%0F%D0%81%81%80%80%00%00|BadVar 4|||28C1FA4C9438065D|.%4%:)))))))))|
-~ Behind the second comes a fraction: a VarInt, the exponent, and an Int, the coefficient.
+~ After the second comes a fraction: a VarInt, the exponent, and an Int, the coefficient.
 %E0%01%00%EAj%80%0F%D0%81%81%80%80%80%C1%05|1|2000-01-01T00:00:00.5Z%0A||CBA3DB8FD335CDCD|.%1%:K)4??YYY3Z|
 %E0%01%00%EAi%80%0F%D0%81%81%80%80%80A|BadVar 4|||030B7E0E9EBC2EDD|.%4%:)?)))))):|
 ~ A fraction's coefficient without octets is 0.

@@ -28,7 +28,7 @@ pub const ROWS: &str = r#"
 {null:1}|BadToken 1|{|%E0%01%00%EA|5DC29DFF06457DDB|.Y,;%FFF|
 {[]:1}|BadToken 1|{|%E0%01%00%EA|BEA075278F81B7F5|.YFFFF|
 {$10:1}|BadSymbol 1|{|%E0%01%00%EA|F4AEB1DB72A6F7A3|.Y,;%'G|
-~ Behind it stands a colon.
+~ After it stands a colon.
 {a : 1,b/**/:2}|1|{a:1,b:2}%0A|%E0%01%00%EA%EC%81%83%D9%86q%03%87%B4%81a%81b%D6%8A!%01%8B!%02|AB5495445140DDFF|.Y,;%'9VL100*Z[|
 {a 1}|BadToken 3|{|%E0%01%00%EA|3B46FB86CC9FE239|.Y,;V|
 {a::1}|BadToken 2|{|%E0%01%00%EA|595118CDBCA7A52B|.Y,;--|
@@ -39,7 +39,7 @@ a::'b'::$4::1 a::[]|2|a::b::name::1%0Aa::[]%0A|%E0%01%00%EA%EC%81%83%D9%86q%03%8
 1::2|BadToken 0||%E0%01%00%EA|584A00A894CB3249|.B88|
 a::|Truncated 3||%E0%01%00%EA|8479B37C6534A95B|.RW|
 $10::1|BadSymbol 0||%E0%01%00%EA|BF65568959D1BDBF|.$:VVW|
-~ White space and comments may stand before the colons and behind them.
+~ White space and comments may stand before the colons and after them.
 a /*x*/ :: //y%0A b|1|a::b%0A|%E0%01%00%EA%EC%81%83%D9%86q%03%87%B4%81a%81b%E4%81%8Aq%0B|CD11B9E65BEADE8F|.RD;QZZ#E.,A6A6EO|
 a : : b|BadToken 2|a%0A|%E0%01%00%EA%EA%81%83%D7%86q%03%87%B2%81aq%0A|8F5B7294AFCAAB20|.RD;;;;|
 a :/**/: b|BadToken 2|a%0A|%E0%01%00%EA%EA%81%83%D7%86q%03%87%B2%81aq%0A|3FAFD2F8FB9567E3|.RD;;;;;;;|

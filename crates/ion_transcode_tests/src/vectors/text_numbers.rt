@@ -1,7 +1,7 @@
 //! Of the text encoding: decimals and floats. Written by tests/vectors/make.py.
 
 pub const ROWS: &str = r#"
-~ A decimal has a point, with or without digits behind it.
+~ A decimal has a point, with or without digits after it.
 1. 1.50 -0. 0.05|4|1.%0A1.50%0A-0.%0A0.05%0A|%E0%01%00%EAR%80%01S%C2%00%96R%80%80R%C2%05|47B1914DF76D93E2|.B.V2#7D?OAYXNM$|
 .5|BadToken 0||%E0%01%00%EA|82AA392BD94C7662|.8|
 00.5|BadToken 0||%E0%01%00%EA|0D62F8B1A102CCE8|.088|
@@ -13,7 +13,7 @@ pub const ROWS: &str = r#"
 1d-|BadToken 0||%E0%01%00%EA|28E1B21907776E7D|.B8|
 1.5dd1|BadToken 0||%E0%01%00%EA|852A853C7586D0F5|.B.H88|
 d1 1.d+|BadToken 3|d1%0A|%E0%01%00%EA%EB%81%83%D8%86q%03%87%B3%82d1q%0A|FD013BA4C3EFF403|.OJF=:T|
-~ A decimal's exponent is less by the digits behind the point.
+~ A decimal's exponent is less by the digits after the point.
 1.50d1 1.0d2147483648|2|15.0%0A10d2147483647%0A|%E0%01%00%EAS%C1%00%96V%07%7F%7F%7F%FF%0A|1D7B63C787C6B7B8|.B.H08PA<N:QT8OW-CE;3|
 1.0d-2147483648|Range 0||%E0%01%00%EA|D418D7661F05A35A|.B.988+.889[-IN|
 1d2147483648|Range 0||%E0%01%00%EA|2F16621F5BD0B5FC|.B8%;DAWR,U9|

@@ -20,7 +20,7 @@ a"|Truncated 1|a%0A|%E0%01%00%EA%EA%81%83%D7%86q%03%87%B2%81aq%0A|0AA12D3E66EE19
 '' ['',a]|2|''%0A['',a]%0A|%E0%01%00%EA%E9%81%83%D6%86q%03%87%B1%80q%0A%EA%81%83%D7%86q%03%87%B2%81a%B4q%0Aq%0B|32AF357CF5F801E6|.=YZ+SJ@-|
 '''|Truncated 0||%E0%01%00%EA|9CC8C50D816AE74C|.<Y|
 ''''|Truncated 0||%E0%01%00%EA|2D27999EC57170EE|.-Y@|
-~ Escapes are a b t n f r v 0 ? " ' \ / behind a backslash.
+~ Escapes are a b t n f r v 0 ? " ' \ / after a backslash.
 "\a\b\t\n\f\r\v\0\?\"\'\\\/"|1|"\a\b\t\n\f\r\v\x00?\"'\\/"%0A|%E0%01%00%EA%8D%07%08%09%0A%0C%0D%0B%00?"'\/|4B0BBC0008D66705|.#[G[2[X[G[5['[([*[P[F[N[=[@|
 "\e"|BadText 0||%E0%01%00%EA|E769058582011FE1|.$[D|
 "\1"|BadText 0||%E0%01%00%EA|E09052F11A426DA8|.P[D|
@@ -54,7 +54,7 @@ a"|Truncated 1|a%0A|%E0%01%00%EA%EA%81%83%D7%86q%03%87%B2%81aq%0A|0AA12D3E66EE19
 ~ CR and CR LF in long strings are LF.
 '''a%0Db%0D%0Ac%0A%0Dd'''|1|"a\nb\nc\n\nd"%0A|%E0%01%00%EA%88a%0Ab%0Ac%0A%0Ad|A0A437E6F6C92FDE|.-YL-:$5FE(T@@@|
 "a%0D%0A"|BadText 0||%E0%01%00%EA|3388DD58B7D8B716|.[[DD|
-~ A high surrogate joins with the low one behind it, both by \u.
+~ A high surrogate joins with the low one after it, both by \u.
 "\uD83D\uDE00"|1|"%F0%9F%98%80"%0A|%E0%01%00%EA%84%F0%9F%98%80|46F8AE5C18C68D5D|.[[[[[[[[[[[[@|
 "\uD83D"|BadText 0||%E0%01%00%EA|1F1F6D91A87E119C|.K[[[[[[|
 "\uDE00"|BadText 0||%E0%01%00%EA|315895AE57CF7E4F|.C[[[[[D|

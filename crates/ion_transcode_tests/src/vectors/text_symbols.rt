@@ -26,7 +26,7 @@ false::a|BadToken 5|false%0A|%E0%01%00%EA%10|DF6F33315C96964F|.4AL-*JJ|
 nanx 'nan'|2|nanx%0A'nan'%0A|%E0%01%00%EA%ED%81%83%DA%86q%03%87%B5%84nanxq%0A%EC%81%83%D9%86q%03%87%B4%83nanq%0B|93B6D99DFDDA86A5|.Z>5US>3P4|
 nan|Float 0||%E0%01%00%EA|DC1922A73605A126|.Z>|
 {nan:1}|BadToken 1|{|%E0%01%00%EA|BCFEC56EC5CE63C1|.Y,;FFF|
-~ Behind null and a point stands the name of a type.
+~ After null and a point stands the name of a type.
 null null.null null.bool null.int null.float null.decimal null.timestamp null.symbol null.string null.clob null.blob null.list null.sexp null.struct|14|null%0Anull%0Anull.bool%0Anull.int%0Anull.float%0Anull.decimal%0Anull.timestamp%0Anull.symbol%0Anull.string%0Anull.clob%0Anull.blob%0Anull.list%0Anull.sexp%0Anull.struct%0A|%E0%01%00%EA%0F%0F%1F/O_o%7F%8F%9F%AF%BF%CF%DF|9D899D00D01A9121|.ZT$<G1L%Y;;;;;3KTK7KKKKU3D-RYWWW(UC,7SKKKKK@A'@C%ZZZZZZZ;-G8+=PPPPPPPPP&(0(P8NNNNNN1#.55@YYYYYY$VP=>?OOOO8)69[.>>>>*H%;,55555P<A%-W7777-J=+;8444444|
 null.ints|BadToken 0||%E0%01%00%EA|4E406054701FDBE6|.ZT$<888W|
 null.|BadToken 0||%E0%01%00%EA|1E56C10A2F0D9940|.ZT$<|

@@ -36,7 +36,7 @@ loop-source-preserved g c =
       octets = λ h.
           let same = peek.kept.same_left (inv.passed.moves.still_observable.1 h) in
           let piece = ap (λ (l : List ℕ). take here l) c.buffer-octets.ensures ∙ sym (lent-take g.I.Input.rest p here fits) in
-          extended.ok ∙ (take_on all text (left g.I.Input.rest p) (take here octets) here (inv.octets h) (same ∙ inv.passed.behind h) piece ∙ ap (λ n. take n all) (sym long));
+          extended.ok ∙ (take_on all text (left g.I.Input.rest p) (take here octets) here (inv.octets h) (same ∙ inv.passed.after h) piece ∙ ap (λ n. take n all) (sym long));
       held = let paid = length-take-le here octets there in omega (arith, inv.held, cost.held, paid, long);
       peak = let paid = length-take-le here octets there in grind (arith, common_steps, cost.held, cost.peak, inv.held, inv.peak, paid, long);
       rises = grind (arith, common_steps, cost.peak, inv.rises);

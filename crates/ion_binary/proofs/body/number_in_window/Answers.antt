@@ -23,8 +23,8 @@ returns-clause-gives g c = λ text.
     let s = c.args.source.now in
     let same = ap (λ (l : List ℕ). take c.args.count l) c.buffer.ensures ∙ sym (lent-take g.I.Input.rest s c.args.count c.requires.there) in
     let read = c.in_default.ensures.gives in
-    let behind = IsPassed-cursor g.I.Input s c.consume.new.self c.args.count c.requires.there c.consume.ensures in
-    rw behind (body_here-read c.args.limits c.args.type_code c.args.count (cursor g.I.Input s) (as_scalar text c.number.new.body) c.requires.small (lent-there g.I.Input.rest s c.args.count c.requires.there)
+    let after = IsPassed-cursor g.I.Input s c.consume.new.self c.args.count c.requires.there c.consume.ensures in
+    rw after (body_here-read c.args.limits c.args.type_code c.args.count (cursor g.I.Input s) (as_scalar text c.number.new.body) c.requires.small (lent-there g.I.Input.rest s c.args.count c.requires.there)
     (ap (scalar_of_body c.args.type_code) (sym same) ∙ read text))
 
 pub consume-requires : goal.consume-requires

@@ -11,7 +11,7 @@ returns-then-inside-lt14-clause-octets c x e =
     let few : c.args.note < 128 = let f = c.if-note-ge128.false in omega (arith, f) in
     let is : length y + 2 ≡ m = let l = length-append c.args.front.now x in let k = c.len.ensures.len in omega (arith, l, k, e) in
     ap (λ (os : List ℕ). os ++ x)
-    (c.behind-then-inside-lt14.ensures ∙ ap (λ (os : List ℕ). (224 + m) ∷ os) (c.behind-ids.ensures ∙ ap (λ (os : List ℕ). 129 ∷ os) c.behind.ensures))
+    (c.after-then-inside-lt14.ensures ∙ ap (λ (os : List ℕ). (224 + m) ∷ os) (c.after-ids.ensures ∙ ap (λ (os : List ℕ). 129 ∷ os) c.after.ensures))
     ∙ within-one c.args.note y some few m is c.if-inside-lt14.true
 
 pub returns-clause-octets : goal.returns-clause-octets
@@ -24,23 +24,23 @@ returns-clause-octets c x e =
     let least : 14 ≤ m = let f = c.if-inside-lt14.false in omega (arith, f) in
     let short : m < 128 = let f = c.if-more-ge124.false in let k = c.len.ensures.len in let r = c.requires.few in omega (arith, f, k, r) in
     ap (λ (os : List ℕ). os ++ x)
-    (c.behind-3.ensures ∙ ap (λ (os : List ℕ). 238 ∷ os) (c.behind-2.ensures ∙ ap (λ (os : List ℕ). (128 + m) ∷ os) (c.behind-ids.ensures ∙ ap (λ (os : List ℕ). 129 ∷ os) c.behind.ensures)))
+    (c.after-3.ensures ∙ ap (λ (os : List ℕ). 238 ∷ os) (c.after-2.ensures ∙ ap (λ (os : List ℕ). (128 + m) ∷ os) (c.after-ids.ensures ∙ ap (λ (os : List ℕ). 129 ∷ os) c.after.ensures)))
     ∙ within-two c.args.note y some few m is least short
 
 pub returns-clause-few : goal.returns-clause-few
 returns-clause-few c = grind (arith, common_steps) steps 400000
 
-pub behind-requires-3 : goal.behind-requires-3
-behind-requires-3 c = grind (arith, common_steps) steps 400000
+pub after-requires-3 : goal.after-requires-3
+after-requires-3 c = grind (arith, common_steps) steps 400000
 
 pub returns-then-inside-lt14-clause-few : goal.returns-then-inside-lt14-clause-few
 returns-then-inside-lt14-clause-few c = grind (arith, common_steps) steps 400000
 
-pub behind-requires-2 : goal.behind-requires-2
-behind-requires-2 c = grind (arith, common_steps) steps 400000
+pub after-requires-2 : goal.after-requires-2
+after-requires-2 c = grind (arith, common_steps) steps 400000
 
-pub behind-ids-requires : goal.behind-ids-requires
-behind-ids-requires c = grind (arith, common_steps) steps 400000
+pub after-ids-requires : goal.after-ids-requires
+after-ids-requires c = grind (arith, common_steps) steps 400000
 
-pub behind-requires-then-inside-lt14 : goal.behind-requires-then-inside-lt14
-behind-requires-then-inside-lt14 c = grind (arith, common_steps) steps 400000
+pub after-requires-then-inside-lt14 : goal.after-requires-then-inside-lt14
+after-requires-then-inside-lt14 c = grind (arith, common_steps) steps 400000

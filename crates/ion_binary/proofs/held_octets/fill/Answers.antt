@@ -13,7 +13,7 @@ loop-i-preserved g c =
     let left : ℕ = c.loop-i.left in
     let os : List ℕ = c.loop-i.octets in
     let inv = c.loop-i.invariant in
-    let new : List ℕ = c.move_behind.new.self in
+    let new : List ℕ = c.move_after.new.self in
     let d : LateHeader = record { offset = 0; inside = 0; code = 0 } in
     let h : LateHeader = get_or hs i d in
     let rest : List LateHeader = drop (i + 1) hs in
@@ -28,8 +28,8 @@ loop-i-preserved g c =
     let few : length x ≤ left = omega (arith, size, gap) in
     let order = late.0.within in
     let within = inv.within in
-    let long : length new ≡ length os = moved-length h.offset end left os new x order within few c.move_behind.ensures in
-    let moved : around_gap h.offset (left - length x) new ≡ put_at h.offset x (around_gap end left os) = moved-put h.offset end left os new x order within few c.move_behind.ensures in
+    let long : length new ≡ length os = moved-length h.offset end left os new x order within few c.move_after.ensures in
+    let moved : around_gap h.offset (left - length x) new ≡ put_at h.offset x (around_gap end left os) = moved-put h.offset end left os new x order within few c.move_after.ensures in
     record {
       long = long ∙ inv.long;
       within = omega (arith, long, order, within, same);

@@ -4,7 +4,7 @@ use Rattle.ion_value.specs.Shares.{Charges, GrowsWithin}
 use Rattle.ion_binary.specs.Reading.{ids_at}
 use Rattle.ion_meter.specs.Sources.{cursor, Stands, Moves}
 use Rattle.ion_binary.specs.Wrappers.{as_annotations}
-use Rattle.ion_binary.proofs.Annotations.{behind}
+use Rattle.ion_binary.proofs.Annotations.{after}
 use Rattle.ion_binary.proofs.wrapper.next_annotations.Given as goal
 
 abbrev pub invariant-loop-limits : goal.invariant-loop-limits
@@ -18,7 +18,7 @@ invariant-loop-limits g l = record {
   taken : length l.annotations ≤ l.source.place;
   same : g.I.Input.observable l.fn.source.device
       → ids_at l.end l.limits l.end 0 (cursor g.I.Input l.fn.source)
-      ≡ behind (as_annotations l.annotations) (ids_at (l.end - length l.annotations) l.limits l.end (length l.annotations) (cursor g.I.Input l.source));
+      ≡ after (as_annotations l.annotations) (ids_at (l.end - length l.annotations) l.limits l.end (length l.annotations) (cursor g.I.Input l.source));
 }
 
 abbrev pub decreases-loop-limits : goal.decreases-loop-limits

@@ -40,8 +40,8 @@ returns-then-is_no_wrapper-clause-gives g c t =
     let old = cursor g.I.Input c.args.source.now in
     let sized = cursor g.I.Input c.next_length.new.source in
     let new = cursor g.I.Input c.next_var_uint.new.source in
-    let e = wrapper_at-tested c.args.region c.args.length_code c.in-Ok.count c.in-Ok-next_var_uint.ids c.place-here.result c.place-behind.result old sized new false true
-    (c.in-Ok.ensures.gives t) c.place-here.ensures (c.in-Ok-next_var_uint.ensures.gives (c.in-Ok.ensures.reads.moves.still_observable.1 t)) c.place-behind.ensures
+    let e = wrapper_at-tested c.args.region c.args.length_code c.in-Ok.count c.in-Ok-next_var_uint.ids c.place-here.result c.place-after.result old sized new false true
+    (c.in-Ok.ensures.gives t) c.place-here.ensures (c.in-Ok-next_var_uint.ensures.gives (c.in-Ok.ensures.reads.moves.still_observable.1 t)) c.place-after.ensures
     c.if-passes_end.ensures c.if-is_no_wrapper.ensures in
     (e, refl)
 
@@ -50,8 +50,8 @@ returns-clause-gives g c t =
     let old = cursor g.I.Input c.args.source.now in
     let sized = cursor g.I.Input c.next_length.new.source in
     let new = cursor g.I.Input c.next_var_uint.new.source in
-    wrapper_at-tested c.args.region c.args.length_code c.in-Ok.count c.in-Ok-next_var_uint.ids c.place-here.result c.place-behind.result old sized new false false
-    (c.in-Ok.ensures.gives t) c.place-here.ensures (c.in-Ok-next_var_uint.ensures.gives (c.in-Ok.ensures.reads.moves.still_observable.1 t)) c.place-behind.ensures
+    wrapper_at-tested c.args.region c.args.length_code c.in-Ok.count c.in-Ok-next_var_uint.ids c.place-here.result c.place-after.result old sized new false false
+    (c.in-Ok.ensures.gives t) c.place-here.ensures (c.in-Ok-next_var_uint.ensures.gives (c.in-Ok.ensures.reads.moves.still_observable.1 t)) c.place-after.ensures
     c.if-passes_end.ensures c.if-is_no_wrapper.ensures
 
 pub returns-then-is_no_wrapper-clause-reads : goal.returns-then-is_no_wrapper-clause-reads

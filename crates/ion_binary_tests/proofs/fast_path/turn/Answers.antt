@@ -10,7 +10,7 @@ feed-fed-requires-clause-writer g c =
     let comes = c.next.ensures.comes taken in
     let may = may-go-on w t c.item-item.ensures comes in
     takes-put w t comes c.item-item.ensures c.next.ensures.kept.0 c.item.ensures.sound c.in_default-item.ensures.failed (c.in_default-item.ensures.well t.well) c.item.ensures.limits
-    (c.in_default-item.ensures.stands t.behind.0 t.behind.1 may).0
+    (c.in_default-item.ensures.stands t.after.0 t.after.1 may).0
 
 pub returns-clause-writer : goal.returns-clause-writer
 returns-clause-writer g c = λ _.
@@ -20,5 +20,5 @@ returns-clause-writer g c = λ _.
     let comes = c.next.ensures.comes taken in
     let may = may-go-on w t c.item-item.ensures comes in
     let put = takes-put w t comes c.item-item.ensures c.next.ensures.kept.0 c.item.ensures.sound c.in_default-item.ensures.failed (c.in_default-item.ensures.well t.well) c.item.ensures.limits
-    (c.in_default-item.ensures.stands t.behind.0 t.behind.1 may).0 in
+    (c.in_default-item.ensures.stands t.after.0 t.after.1 may).0 in
     takes-fed w _ _ _ _ _ _ _ _ _ put c.feed-fed.ensures.feeds c.feed-fed.ensures.writer c.feed-fed.ensures.kept.0

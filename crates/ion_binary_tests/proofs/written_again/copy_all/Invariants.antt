@@ -1,7 +1,7 @@
 use Rattle.std.proofs.Common.{◌≡◌, ◌+◌, ◌≤◌, List}
 use Rattle.std.specs.Prelude.{[]}
 use Rattle.ion_symbols.specs.User.{IsReady, owned_by}
-use Rattle.ion_value.specs.Standing.{open_behind}
+use Rattle.ion_value.specs.Standing.{open_after_all}
 use Rattle.ion_value.specs.Value.{PlacedItem}
 use Rattle.ion_binary_tests.proofs.written_again.copy_all.Given as goal
 
@@ -12,7 +12,7 @@ invariant-items g l =
     record {
       ready : IsReady r.sound r.opened r.failed r.ended l.reader;
       sound : w.sound l.writer;
-      stands : (path : List PlacedItem) × w.stands l.writer path × (open_behind [] path ≡ r.opened l.reader.raw);
+      stands : (path : List PlacedItem) × w.stands l.writer path × (open_after_all [] path ≡ r.opened l.reader.raw);
       depth : (w.limits l.writer).depth ≡ r.depth l.reader.raw;
       held : 4096 + owned_by r.own l.reader + w.own l.writer ≤ l.meter.held;
     }

@@ -14,7 +14,7 @@ loop-low-preserved-in-Less g c =
       below = omega (arith, c.loop-low-test.true);
       within = h.within;
       before = ranked_less c.args.tables.now c.args.order.now (key_of c.args.name.now c.args.version) middle c.index-tables-order.result c.requires l c.index-tables-order.is c.in-Less.ensures;
-      behind = h.behind;
+      after = h.after;
     }
 
 pub loop-low-preserved : goal.loop-low-preserved
@@ -26,7 +26,7 @@ loop-low-preserved g c =
       below = omega arith;
       within = omega (arith, c.loop-low-test.true, h.within);
       before = h.before;
-      behind = ranked_greater c.args.tables.now c.args.order.now (key_of c.args.name.now c.args.version) middle c.index-tables-order.result c.requires l c.index-tables-order.is c.in-Greater.ensures;
+      after = ranked_greater c.args.tables.now c.args.order.now (key_of c.args.name.now c.args.version) middle c.index-tables-order.result c.requires l c.index-tables-order.is c.in-Greater.ensures;
     }
 
 pub returns-in-Equal-clause-found : goal.returns-in-Equal-clause-found
@@ -42,7 +42,7 @@ returns-clause-belongs g c =
     record {
       within = simp length-map (omega (arith, h.below, h.within));
       before = h.before;
-      behind = rw (← same) h.behind;
+      after = rw (← same) h.after;
     }
 
 pub loop-low-init : goal.loop-low-init
@@ -50,7 +50,7 @@ loop-low-init g c = record {
   below = omega arith;
   within = omega arith;
   before = λ k d l. absurd (omega (arith, l));
-  behind = λ k d l. let m = simp (length-drop, length-map) at l in absurd (omega (arith, m));
+  after = λ k d l. let m = simp (length-drop, length-map) at l in absurd (omega (arith, m));
 }
 
 pub bounds-tables-order : goal.bounds-tables-order

@@ -10,7 +10,7 @@ invariant-loop-low g l = record {
   below : l.low ≤ l.high;
   within : l.high ≤ length l.order;
   before : All (λ k. text_cmp k (key_of l.name l.version) ≡ Less) (take l.low (in_order (keys l.tables) l.order));
-  behind : All (λ k. text_cmp k (key_of l.name l.version) ≡ Greater) (drop l.high (in_order (keys l.tables) l.order));
+  after : All (λ k. text_cmp k (key_of l.name l.version) ≡ Greater) (drop l.high (in_order (keys l.tables) l.order));
 }
 
 abbrev pub decreases-loop-low : goal.decreases-loop-low

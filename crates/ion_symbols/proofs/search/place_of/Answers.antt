@@ -24,7 +24,7 @@ loop-low-preserved-in-Less c =
       below = omega (arith, c.loop-low-test.true);
       within = h.within;
       before = answers_less c.loop-low.search.texts c.args.search.now.texts (c.loop-low.low + size / 2) c.args.text.now h.texts e.ascend (omega (arith, c.loop-low-test.true, h.within)) e.order;
-      behind = h.behind;
+      after = h.after;
       probes = omega (arith, d, h.probes, e.probes);
       exact = omega (arith, probes_less c.loop-low.search.texts c.args.search.now.texts c.loop-low.low c.loop-low.high c.args.text.now h.texts c.loop-low-test.true h.within e.order, h.exact, e.probes);
     }
@@ -42,7 +42,7 @@ loop-low-preserved c =
       below = omega arith;
       within = omega (arith, c.loop-low-test.true, h.within);
       before = h.before;
-      behind = answers_greater c.loop-low.search.texts c.args.search.now.texts (c.loop-low.low + size / 2) c.args.text.now h.texts e.ascend e.order;
+      after = answers_greater c.loop-low.search.texts c.args.search.now.texts (c.loop-low.low + size / 2) c.args.text.now h.texts e.ascend e.order;
       probes = omega (arith, d, h.probes, e.probes);
       exact = omega (arith, probes_greater c.loop-low.search.texts c.args.search.now.texts c.loop-low.low c.loop-low.high c.args.text.now h.texts c.loop-low-test.true h.within e.order, h.exact, e.probes);
     }

@@ -10,7 +10,7 @@ invariant-loop-low l = record {
   below : l.low ≤ l.high;
   within : l.high ≤ length l.fn.search.texts;
   before : All (λ s. text_cmp s l.text ≡ Less) (take l.low l.fn.search.texts);
-  behind : All (λ s. text_cmp s l.text ≡ Greater) (drop l.high l.fn.search.texts);
+  after : All (λ s. text_cmp s l.text ≡ Greater) (drop l.high l.fn.search.texts);
   probes : l.search.probes + binary_digits (l.high - l.low) ≤ binary_digits (length l.fn.search.texts);
   exact : l.search.probes + probes_for (between l.low l.high l.fn.search.texts) l.text ≡ probes_for l.fn.search.texts l.text;
 }

@@ -2,7 +2,7 @@ use Rattle.std.proofs.Common.{◌-◌, ◌<◌, ◌≤◌, length}
 use Rattle.ion_symbols.proofs.Importing.{start_at}
 use Rattle.ion_symbols.proofs.symbols.import_at.Given as goal
 
--- the import at `low` begins at the place or before, and the one at `high`, if there is one, behind it
+-- the import at `low` begins at the place or before, and the one at `high`, if there is one, after it
 abbrev pub invariant-loop-high : goal.invariant-loop-high
 invariant-loop-high l = record {
   order : l.low < l.high;

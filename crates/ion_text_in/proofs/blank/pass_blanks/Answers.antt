@@ -6,7 +6,7 @@ use Rattle.ion_text_in.specs.Blanks.{is_white, blanks}
 use Rattle.ion_text_in.proofs.BlankTurns.{found-other}
 use Rattle.ion_text_in.proofs.Runs.{ends-shown, first-shown, at-front}
 use Rattle.ion_text_in.proofs.BlankRuns.{white-over}
-use Rattle.ion_text_in.proofs.Turns.{turn, turn-then, turn-behind, extends-not}
+use Rattle.ion_text_in.proofs.Turns.{turn, turn-then, turn-after, extends-not}
 use Rattle.ion_text_in.proofs.WhiteRuns.{first-at, none-at, not-ended, white-passed}
 use Rattle.ion_text_in.proofs.blank.pass_blanks.Goals.{else-run-bytes-via-then-run-bytes+else-bytes-run-ne47, else-run-bytes-via-else-run-bytes}
 use Rattle.ion_text_in.proofs.blank.pass_blanks.Goals as goal
@@ -20,10 +20,10 @@ returns-then-bytes-run-ne47-clause-gives g c = λ h.
     let run = c.white_run-run.ensures in
     let passed = turn g.I.Input s s t bytes n c.requires.stands (extends-not g.I.Input s) c.requires.stands.well (omega arith) c.buffer-bytes.ensures run.within c.consume.ensures in
     let over = white-over s.place (take n bytes) (left g.I.Input.rest t) run.run in
-    let behind = turn-behind g.I.Input s t bytes n c.buffer-bytes.ensures run.within c.consume.ensures in
-    let dark = ap (λ (l : List ℕ). first_is is_white l) behind.1 ∙ ends-shown is_white bytes behind.0 n c.if-run-bytes.true run.ends in
+    let after = turn-after g.I.Input s t bytes n c.buffer-bytes.ensures run.within c.consume.ensures in
+    let dark = ap (λ (l : List ℕ). first_is is_white l) after.1 ∙ ends-shown is_white bytes after.0 n c.if-run-bytes.true run.ends in
     let first : slice_get (left g.I.Input.rest t) 0 ≡ Some (get_or bytes n 0) =
-    ap (λ (l : List ℕ). slice_get l 0) behind.1 ∙ first-shown (drop n bytes) behind.0 (get_or bytes n 0) (at-front bytes n c.if-run-bytes.true) in
+    ap (λ (l : List ℕ). slice_get l 0) after.1 ∙ first-shown (drop n bytes) after.0 (get_or bytes n 0) (at-front bytes n c.if-run-bytes.true) in
     turn-then g.I.Input s t (take n bytes) blanks blanks passed h over ∙ found-other t.place (get_or bytes n 0) (left g.I.Input.rest t) dark first c.if-bytes-run-ne47.true
 
 pub returns-then-bytes-run-ne47-clause-reads : goal.returns-then-bytes-run-ne47-clause-reads

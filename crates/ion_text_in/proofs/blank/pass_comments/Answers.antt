@@ -8,8 +8,8 @@ use Rattle.ion_value.specs.Digits.{first_is}
 use Rattle.ion_text_in.specs.Meaning.{at}
 use Rattle.ion_text_in.specs.declared.blank.Comment.{Comment}
 use Rattle.ion_text_in.specs.Overrun.{begun, overrun, stays_in, within}
-use Rattle.ion_text_in.specs.Places.{behind_run}
-use Rattle.ion_text_in.proofs.BlankTurns.{behind-ends, ends-before, turned-off, turned-on, within-behind, within-end}
+use Rattle.ion_text_in.specs.Places.{after_run}
+use Rattle.ion_text_in.proofs.BlankTurns.{after-ends, ends-before, turned-off, turned-on, within-after, within-end}
 use Rattle.ion_text_in.proofs.Runs.{first-off, no-byte}
 use Rattle.ion_text_in.proofs.Turns.{extends-then, given-kept, gone-then, reads-gone}
 use Rattle.ion_text_in.proofs.blank.pass_comments.Goals as goal
@@ -21,10 +21,10 @@ returns-in_default-clause-gives g c = λ h.
     let there = c.blanks.invariant.gone.moves.still_observable.1 h in
     let at_run = c.in_ok-pass_run.ensures.reads.moves.still_observable.1 there in
     let none = no-byte (left g.I.Input.rest w) (sym (c.in_ok-first.ensures.gives at_run) ∙ c.in_default.is) in
-    let behind = c.in_ok-pass_run.ensures.behind there in
-    c.blanks.invariant.behind h
-    ∙ within-behind c.blanks.comment c.blanks.start s.place (left g.I.Input.rest s)
-    ∙ ap (λ (d : Cursor). within c.blanks.comment c.blanks.start d) (sym behind ∙ ap (λ (l : List ℕ). at w.place l) none)
+    let after = c.in_ok-pass_run.ensures.after there in
+    c.blanks.invariant.after h
+    ∙ within-after c.blanks.comment c.blanks.start s.place (left g.I.Input.rest s)
+    ∙ ap (λ (d : Cursor). within c.blanks.comment c.blanks.start d) (sym after ∙ ap (λ (l : List ℕ). at w.place l) none)
     ∙ within-end c.blanks.comment c.blanks.start w.place
     ∙ ap (λ (o : Option ℕ). overrun o (at w.place [])) (sym c.cut_at.ensures)
     ∙ ap (λ (d : Cursor). overrun c.cut_at.result d) (ap (λ (l : List ℕ). at w.place l) (sym none) ∙ sym (cursor-extends g.I.Input w c.peek.new.self c.in_ok-first.ensures.kept at_run))
@@ -39,11 +39,11 @@ returns-in_default-clause-used_up g c = λ h.
     let at_run = c.in_ok-pass_run.ensures.reads.moves.still_observable.1 (c.blanks.invariant.gone.moves.still_observable.1 h) in
     if-some c.cut_at.result _ (c.in_ok-first.ensures.kept.same_left at_run ∙ no-byte (left g.I.Input.rest w) (sym (c.in_ok-first.ensures.gives at_run) ∙ c.in_default.is))
 
--- what is read on is read on behind a run, which no byte goes on with
-run-passed : (c : Comment) (start : ℕ) (s w : Cursor) → w ≡ behind_run (first_is (stays_in c)) s → (within c start s ≡ within c start w) × (first_is (stays_in c) w.rest ≡ false)
+-- what is read on is read on after a run, which no byte goes on with
+run-passed : (c : Comment) (start : ℕ) (s w : Cursor) → w ≡ after_run (first_is (stays_in c)) s → (within c start s ≡ within c start w) × (first_is (stays_in c) w.rest ≡ false)
 run-passed c start s w e = (
-  within-behind c start s.place s.rest ∙ ap (λ (d : Cursor). within c start d) (sym e),
-  ap (λ (d : Cursor). first_is (stays_in c) d.rest) e ∙ behind-ends (stays_in c) s.place s.rest,
+  within-after c start s.place s.rest ∙ ap (λ (d : Cursor). within c start d) (sym e),
+  ap (λ (d : Cursor). first_is (stays_in c) d.rest) e ∙ after-ends (stays_in c) s.place s.rest,
 )
 
 pub returns-then-ends_blanks-clause-gives : goal.returns-then-ends_blanks-clause-gives
@@ -52,8 +52,8 @@ returns-then-ends_blanks-clause-gives g c = λ h.
     let w = c.pass_run.new.source in
     let there = c.blanks.invariant.gone.moves.still_observable.1 h in
     let at_run = c.in_ok-pass_run.ensures.reads.moves.still_observable.1 there in
-    let run = run-passed c.blanks.comment c.blanks.start (cursor device c.blanks.source) (cursor device w) (c.in_ok-pass_run.ensures.behind there) in
-    c.blanks.invariant.behind h
+    let run = run-passed c.blanks.comment c.blanks.start (cursor device c.blanks.source) (cursor device w) (c.in_ok-pass_run.ensures.after there) in
+    c.blanks.invariant.after h
     ∙ run.0
     ∙ ends-before c.blanks.comment c.blanks.start w.place c.in-Some.first (left device.rest w) run.1 (sym c.ends_blanks.ensures ∙ c.if-ends_blanks.true) (sym (c.in_ok-first.ensures.gives at_run) ∙ c.in-Some.is)
     ∙ ap (λ (d : Cursor). Ok d) (sym (cursor-extends device w c.peek.new.self c.in_ok-first.ensures.kept at_run))
@@ -68,11 +68,11 @@ returns-in_default-turn-clause-gives g c = λ h.
     let kept = c.in_ok-first.ensures.kept in
     let there = c.blanks.invariant.gone.moves.still_observable.1 h in
     let at_run = c.in_ok-pass_run.ensures.reads.moves.still_observable.1 there in
-    let run = run-passed comment c.blanks.start (cursor device c.blanks.source) (cursor device w) (c.in_ok-pass_run.ensures.behind there) in
+    let run = run-passed comment c.blanks.start (cursor device c.blanks.source) (cursor device w) (c.in_ok-pass_run.ensures.after there) in
     let first = sym (c.in_ok-first.ensures.gives at_run) ∙ c.in-Some.is in
     let second = ap (λ (l : List ℕ). slice_get l 1) (sym (kept.same_left at_run)) ∙ sym (c.in_ok-peek.ensures.gives (kept.still_observable.1 at_run)) in
     let off = first-off (stays_in comment) (left device.rest w) c.in-Some.first first run.1 in
-    c.blanks.invariant.behind h
+    c.blanks.invariant.after h
     ∙ run.0
     ∙ turned-off comment c.in-Some.first c.in_ok-peek.field-0 off (sym c.ends_blanks.ensures ∙ c.if-ends_blanks.false) (sym c.turn.ensures.is ∙ c.in_default-turn.is) c.blanks.start w.place (left device.rest w) first second
     ∙ ap (λ (d : Cursor). Ok d) (sym (cursor-extends device w q (extends-then device w p q kept c.in_ok-peek.ensures.kept) at_run))
@@ -103,21 +103,21 @@ blanks-preserved g c =
     let over = Passed-lent device w q u count reads.stands kept two.well.1 fits c.consume.ensures in
     let before = rw reads.stands.well at one.count in
     let after = rw one.well.1 at two.count in
-    let still : device.failure_count q.device ≡ device.failure_count w.device = omega (arith, before, after) in
+    let still : device.failure_count q.device ≡ device.failure_count w.device = omega (arith, before, later) in
     record {
       gone = gone-then device s0 w u (gone-then device s0 s w c.blanks.invariant.gone (reads-gone device s w c.in_ok-pass_run.field-0 reads))
           (record { stands = over.stands; moves = over.moves; steady = ap device.failure_count c.consume.ensures.device ∙ still });
-      behind = λ h.
+      after = λ h.
           let there = c.blanks.invariant.gone.moves.still_observable.1 h in
           let at_run = reads.moves.still_observable.1 there in
-          let run = run-passed comment c.blanks.start (cursor device s) (cursor device w) (c.in_ok-pass_run.ensures.behind there) in
+          let run = run-passed comment c.blanks.start (cursor device s) (cursor device w) (c.in_ok-pass_run.ensures.after there) in
           let first = sym (one.gives at_run) ∙ c.in-Some.is in
           let second = ap (λ (l : List ℕ). slice_get l 1) (sym (one.kept.same_left at_run)) ∙ sym (two.gives (one.kept.still_observable.1 at_run)) in
           let off = first-off (stays_in comment) (left device.rest w) c.in-Some.first first run.1 in
-          c.blanks.invariant.behind h
+          c.blanks.invariant.after h
           ∙ run.0
           ∙ turned-on comment c.in-Some.first c.in_ok-peek.field-0 (next, count) off (sym c.ends_blanks.ensures ∙ c.if-ends_blanks.false) (sym c.turn.ensures.is ∙ c.in-Some-turn.is) c.blanks.start w.place (left device.rest w) first second
           ∙ ap (λ (n : ℕ). within next n (at (w.place + count) (drop count (left device.rest w)))) (sym (c.begun-start.ensures ∙ ap (begun comment c.blanks.start) (c.place.ensures ∙ kept.place)))
           ∙ ap (λ (n : ℕ). within next c.begun-start.result (at n (drop count (left device.rest w)))) (sym over.place)
-          ∙ ap (λ (l : List ℕ). within next c.begun-start.result (at u.place l)) (sym (over.behind at_run));
+          ∙ ap (λ (l : List ℕ). within next c.begun-start.result (at u.place l)) (sym (over.after at_run));
     }

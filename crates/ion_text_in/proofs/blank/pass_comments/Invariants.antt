@@ -8,7 +8,7 @@ use Rattle.ion_text_in.proofs.blank.pass_comments.Given as goal
 abbrev pub invariant-blanks : goal.invariant-blanks
 invariant-blanks g l = record {
   gone : Gone g.I.Input l.fn.source l.source;
-  behind : g.I.Input.observable l.fn.source.device → blanks (cursor g.I.Input l.fn.source) ≡ within l.comment l.start (cursor g.I.Input l.source);
+  after : g.I.Input.observable l.fn.source.device → blanks (cursor g.I.Input l.fn.source) ≡ within l.comment l.start (cursor g.I.Input l.source);
 }
 
 abbrev pub decreases-blanks : goal.decreases-blanks

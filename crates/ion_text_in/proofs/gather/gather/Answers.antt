@@ -41,10 +41,10 @@ returns-in_err-append-clause-gives g c = λ h.
     ∙ ap (λ (d : Cursor). with_run run (Some most) c.parts.text d) (sym (cursor-extends g.I.Input c.parts.source p part.kept hs))
     ∙ run-over-limit run most n c.parts.text (cursor g.I.Input p) (lent-there g.I.Input.rest p n part.there) (part.goes hs) over))
 
--- a part was looked at, and put behind the text
-part-behind : {I N T : Type 0} (device : InputOf I) (limits : Limits) (s t u v : Incoming I) (a b c : Counts) (k l n : List ℕ) (x : N) (y : T) → length k ≤ a.held → Gathers {T = Unit {0}} device limits s t a b k l (Ok tt)
+-- a part was looked at, and put after the text
+part-after : {I N T : Type 0} (device : InputOf I) (limits : Limits) (s t u v : Incoming I) (a b c : Counts) (k l n : List ℕ) (x : N) (y : T) → length k ≤ a.held → Gathers {T = Unit {0}} device limits s t a b k l (Ok tt)
     → Reads device t u (Ok x) → ReadsInto device u v b c (length l) (length n) limits.scalar (Ok y) → GrowsWithin b c (length l) (length n) (8 * passed_over u v) → Gathers {T = Unit {0}} device limits s v a c k n (Ok tt)
-part-behind device limits s t u v a b c k l n x y holds one looked added grows = record { reads = grind (arith, common_steps); goes = grind (arith, common_steps) }
+part-after device limits s t u v a b c k l n x y holds one looked added grows = record { reads = grind (arith, common_steps); goes = grind (arith, common_steps) }
 
 pub parts-preserved : goal.parts-preserved
 parts-preserved g c =
@@ -59,7 +59,7 @@ parts-preserved g c =
     let text : List ℕ = c.parts.text in
     let after : List ℕ = c.append.new.text in
     record {
-      gathers = part-behind device c.args.limits c.args.source.now s p t c.args.meter.now c.parts.meter c.append.new.meter c.args.text.now text after n _ c.requires.can_append.holds inv.gathers part.reads added.reads added.goes;
+      gathers = part-after device c.args.limits c.args.source.now s p t c.args.meter.now c.parts.meter c.append.new.meter c.args.text.now text after n _ c.requires.can_append.holds inv.gathers part.reads added.reads added.goes;
       same = λ h.
           let hs = inv.gathers.reads.moves.still_observable.1 h in
           let run = c.args.run in

@@ -1,7 +1,7 @@
 use Rattle.std.proofs.Common.{◌≡◌, ◌∙◌, ◌≤◌, ap, sym, subst, List, ℕ, length, slice_get, arith}
 use Rattle.ion_meter.specs.Windows.{left, lent}
 use Rattle.ion_meter.proofs.Lent.{lent-IsGiven}
-use Rattle.ion_text_in.specs.Runs.{goes_on, opens_comment, GoOn, EndBehind}
+use Rattle.ion_text_in.specs.Runs.{goes_on, opens_comment, GoOn, EndAfter}
 use Rattle.ion_text_in.proofs.Shown.{lent-left}
 use Rattle.ion_text_in.proofs.RunEnds.{run-empty, go-left, end-left, slash-left, slash-ends, slash-stays}
 use Rattle.ion_text_in.proofs.gather.next_part.Goals.{then-extent-via-then-extent, then-extent-via-else-extent+then-extent-gt0}
@@ -30,7 +30,7 @@ returns-then-extent-clause-ends g c = λ h e.
     let none : n ≡ 0 = cc e in
     elim c.then-extent.branch [
       | then-extent-via-then-extent w ↦
-          let ends : EndBehind test (lent p) n = subst (λ (l : List ℕ). EndBehind test l n) c.buffer.ensures (c.run_extent-extent.ensures.ends w.if-extent.true) in
+          let ends : EndAfter test (lent p) n = subst (λ (l : List ℕ). EndAfter test l n) c.buffer.ensures (c.run_extent-extent.ensures.ends w.if-extent.true) in
           end-left test (lent p) _ (left g.I.Input.rest p) n none (lent-left g.I.Input.rest p) ends
       | then-extent-via-else-extent+then-extent-gt0 w ↦ let some = w.if-extent-gt0.true in absurd (omega (arith, some, none))
     ]

@@ -1,5 +1,5 @@
-use Rattle.ion_text_in.proofs.Behind.{step-behind}
+use Rattle.ion_text_in.proofs.After.{step-after}
 use Rattle.ion_text_in.proofs.laws.blanks_change_no_step.Goals as goal
 
 pub returns : goal.returns
-returns c = step-behind
+returns c = step-after

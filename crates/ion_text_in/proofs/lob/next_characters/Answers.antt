@@ -17,11 +17,11 @@ returns-in_default-clause-gives g c = λ h.
     let s = c.loop-i.source in
     let w = c.pass_white.new.source in
     let there = inv.gone.moves.still_observable.1 h in
-    let behind = c.in_ok-pass_white.ensures.behind there in
+    let after = c.in_ok-pass_white.ensures.after there in
     let white = c.in_ok-pass_white.ensures.reads.moves.still_observable.1 there in
     let found = sym (c.in_ok-byte.ensures.gives white) ∙ c.in_default.is in
     inv.group h
-    ∙ characters-end c.loop-i.i c.loop-i.group (cursor g.I.Input s) (cursor g.I.Input w) c.loop-i-test.true behind (group-ends (3 - c.loop-i.i) (left g.I.Input.rest w) found)
+    ∙ characters-end c.loop-i.i c.loop-i.group (cursor g.I.Input s) (cursor g.I.Input w) c.loop-i-test.true after (group-ends (3 - c.loop-i.i) (left g.I.Input.rest w) found)
     ∙ ap (λ (l : List ℕ). (take c.loop-i.i c.loop-i.group, l)) (sym (c.in_ok-byte.ensures.kept.same_left white))
 
 pub returns-then-byte-eq125-clause-gives : goal.returns-then-byte-eq125-clause-gives
@@ -30,12 +30,12 @@ returns-then-byte-eq125-clause-gives g c = λ h.
     let s = c.loop-i.source in
     let w = c.pass_white.new.source in
     let there = inv.gone.moves.still_observable.1 h in
-    let behind = c.in_ok-pass_white.ensures.behind there in
+    let after = c.in_ok-pass_white.ensures.after there in
     let white = c.in_ok-pass_white.ensures.reads.moves.still_observable.1 there in
-    let dark = ap (λ (d : Cursor). first_is is_white d.rest) behind ∙ white-ends s.place (left g.I.Input.rest s) in
+    let dark = ap (λ (d : Cursor). first_is is_white d.rest) after ∙ white-ends s.place (left g.I.Input.rest s) in
     let found = sym (c.in_ok-byte.ensures.gives white) ∙ c.in-Some.is in
     inv.group h
-    ∙ characters-end c.loop-i.i c.loop-i.group (cursor g.I.Input s) (cursor g.I.Input w) c.loop-i-test.true behind
+    ∙ characters-end c.loop-i.i c.loop-i.group (cursor g.I.Input s) (cursor g.I.Input w) c.loop-i-test.true after
     (group-closes (3 - c.loop-i.i) c.in-Some.byte (left g.I.Input.rest w) dark found c.if-byte-eq125.true)
     ∙ ap (λ (l : List ℕ). (take c.loop-i.i c.loop-i.group, l)) (sym (c.in_ok-byte.ensures.kept.same_left white))
 
@@ -56,15 +56,15 @@ loop-i-preserved g c =
       four = length-set c.loop-i.group c.loop-i.i c.in-Some.byte ∙ inv.four;
       group = λ h.
           let there = inv.gone.moves.still_observable.1 h in
-          let behind = c.in_ok-pass_white.ensures.behind there in
+          let after = c.in_ok-pass_white.ensures.after there in
           let at_white = white.moves.still_observable.1 there in
-          let dark = ap (λ (d : Cursor). first_is is_white d.rest) behind ∙ white-ends s.place (left g.I.Input.rest s) in
+          let dark = ap (λ (d : Cursor). first_is is_white d.rest) after ∙ white-ends s.place (left g.I.Input.rest s) in
           let found = sym (peek.gives at_white) ∙ c.in-Some.is in
           let passed = passed-cursor g.I.Input w c.peek.new.self t 0 white.stands peek.kept peek.well.1 given c.advance.ensures at_white in
           let rest : drop 1 (left g.I.Input.rest w) ≡ left g.I.Input.rest t = sym (ap (λ (d : Cursor). d.rest) passed) in
           let now : List ℕ = slice_set c.loop-i.group c.loop-i.i c.in-Some.byte in
           inv.group h
-          ∙ characters-on c.loop-i.i c.in-Some.byte c.loop-i.group (cursor g.I.Input s) (cursor g.I.Input w) c.loop-i-test.true inv.four behind
+          ∙ characters-on c.loop-i.i c.in-Some.byte c.loop-i.group (cursor g.I.Input s) (cursor g.I.Input w) c.loop-i-test.true inv.four after
           (group-more (3 - c.loop-i.i) c.in-Some.byte (left g.I.Input.rest w) dark found c.if-byte-eq125.false)
           ∙ ap (λ (l : List ℕ). (take (c.loop-i.i + 1) now ++ (group_of (4 - (c.loop-i.i + 1)) l).0, (group_of (4 - (c.loop-i.i + 1)) l).1)) rest;
     }

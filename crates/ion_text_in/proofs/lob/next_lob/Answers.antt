@@ -21,7 +21,7 @@ returns-clause-gives g c = λ h.
     let one = gone-passed g.I.Input s s t 1 c.requires.can_read.stands (extends-not g.I.Input s) well (omega arith) c.requires.braces c.consume.ensures in
     let at_first = one.0.moves.still_observable.1 h in
     let at_white = c.in_ok-pass_white.ensures.reads.moves.still_observable.1 at_first in
-    let token = lob-token limit (cursor g.I.Input s) (cursor g.I.Input t) (cursor g.I.Input c.pass_white.new.source) first (c.in_ok-pass_white.ensures.behind at_first) in
+    let token = lob-token limit (cursor g.I.Input s) (cursor g.I.Input t) (cursor g.I.Input c.pass_white.new.source) first (c.in_ok-pass_white.ensures.after at_first) in
     let made = λ (o : Result (Scalar SymbolAt × Cursor) Reason). o >>= (λ l. Ok (plain l.0, l.1)) in
     continues-answers (λ lob. plain (as_scalar c.next_opened.new.text s.place lob)) c.next_opened.result (cursor g.I.Input c.next_opened.new.source) s.place s.place _ _ _ refl
     (λ _ k. token ∙ ap made k) (λ _ k. token ∙ ap made k) (rw c.place-place.ensures at (c.next_opened.ensures.gives at_white))

@@ -17,10 +17,10 @@ not-double : (bytes : List ℕ) → begins_with (39 ∷ 39 ∷ 39 ∷ []) bytes 
 not-double [] e = absurd (cc e)
 not-double (b ∷ bytes) e = grind (arith, common_steps)
 
--- behind the text of a long clob its braces are refused
+-- after the text of a long clob its braces are refused
 braces-refused : (limit : Option ℕ) (c d x : Cursor) (text : List ℕ) (start : Option ℕ) (e : Reason) → begins_with (39 ∷ 39 ∷ 39 ∷ []) c.rest ≡ true → text_at (long_quote true) limit (skip 3 c) ≡ Ok (text, d)
     → passed true d ≡ overrun start x → false ≡ are_cut_quotes x.rest → closed_at x ≡ Err e → lob_in {S = SymbolAt} limit c ≡ Err e
-braces-refused limit c d x text start e quotes read behind whole closed = let short = not-double c.rest quotes in grind (arith, common_steps)
+braces-refused limit c d x text start e quotes read after whole closed = let short = not-double c.rest quotes in grind (arith, common_steps)
 
 pub returns-in_err-pass_braces-2-clause-gives : goal.returns-in_err-pass_braces-2-clause-gives
 returns-in_err-pass_braces-2-clause-gives g c = λ h.

@@ -1,7 +1,7 @@
 use Rattle.std.proofs.Common.{ℕ, true, false, List, Ok, Err, nat_lt, length, take, refl, ap, ◌∙◌}
 use Rattle.std.proofs.lemmas.List.{length-take-le}
 use Rattle.ion_meter.specs.Sources.{cursor}
-use Rattle.ion_text_in.specs.Lobs.{with_groups_behind}
+use Rattle.ion_text_in.specs.Lobs.{with_groups_after}
 use Rattle.ion_value.specs.Parts.{◌>>=◌}
 use Rattle.ion_text_in.proofs.Gathering.{continues-puts, continues-err}
 use Rattle.ion_text_in.proofs.Holding.{handed-on}
@@ -45,7 +45,7 @@ returns-in_err-put-clause-gives g c = λ h.
     let read = cut-read g.I.Input c.args.source.now c.next_characters.new.source c.args.limits.scalar c.args.text.now false c.next_characters.new.group c.in_ok-count.count _ n.reads.moves h (n.gives h) c.next_characters.array_long c.if-count-lt4.false
     (group-given c.next_characters.new.group bytes c.in-Some.ensures.octets c.in-Some.ensures.some) in
     rw (handed-on c.from_residual-in_err-put.result c.in_err-put.field-0.0 c.from_residual-in_err-put.ensures) (continues-err _ _ c.in_err-put.field-0.0 c.args.place (λ e k. rw c.if-padded.false (read ∙ k))
-    (continues-puts {T = Unit {0}} (Err c.in_err-put.field-0.0) c.args.text.now c.put.new.text bytes c.args.limits.scalar c.args.place (λ (l : List ℕ). with_groups_behind c.args.limits.scalar l (nat_lt (length bytes) 3) d) c.in_err-put.ensures.puts))
+    (continues-puts {T = Unit {0}} (Err c.in_err-put.field-0.0) c.args.text.now c.put.new.text bytes c.args.limits.scalar c.args.place (λ (l : List ℕ). with_groups_after c.args.limits.scalar l (nat_lt (length bytes) 3) d) c.in_err-put.ensures.puts))
 
 pub returns-clause-gives : goal.returns-clause-gives
 returns-clause-gives g c = λ h.
@@ -55,5 +55,5 @@ returns-clause-gives g c = λ h.
     let read = cut-read g.I.Input c.args.source.now c.next_characters.new.source c.args.limits.scalar c.args.text.now false c.next_characters.new.group c.in_ok-count.count _ n.reads.moves h (n.gives h) c.next_characters.array_long c.if-count-lt4.false
     (group-given c.next_characters.new.group bytes c.in-Some.ensures.octets c.in-Some.ensures.some) in
     rw c.if-padded.false (read
-    ∙ continues-puts (Ok c.in_ok-put.field-0) c.args.text.now c.put.new.text bytes c.args.limits.scalar c.args.place (λ (l : List ℕ). with_groups_behind c.args.limits.scalar l (nat_lt (length bytes) 3) d) c.in_ok-put.ensures.puts
-    ∙ ap (λ (k : ℕ). with_groups_behind c.args.limits.scalar c.put.new.text (nat_lt k 3) d) (length-take-le c.in-Some.n c.decode.new.room c.in-Some.ensures.within))
+    ∙ continues-puts (Ok c.in_ok-put.field-0) c.args.text.now c.put.new.text bytes c.args.limits.scalar c.args.place (λ (l : List ℕ). with_groups_after c.args.limits.scalar l (nat_lt (length bytes) 3) d) c.in_ok-put.ensures.puts
+    ∙ ap (λ (k : ℕ). with_groups_after c.args.limits.scalar c.put.new.text (nat_lt k 3) d) (length-take-le c.in-Some.n c.decode.new.room c.in-Some.ensures.within))

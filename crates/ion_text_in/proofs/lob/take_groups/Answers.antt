@@ -5,7 +5,7 @@ use Rattle.std.proofs.lemmas.List.{length-take-le}
 use Rattle.ion_meter.specs.Windows.{left}
 use Rattle.ion_meter.specs.Sources.{cursor}
 use Rattle.ion_text_in.specs.Limit.{passes}
-use Rattle.ion_text_in.specs.Lobs.{with_groups_behind, is_padded}
+use Rattle.ion_text_in.specs.Lobs.{with_groups_after, is_padded}
 use Rattle.ion_text_in.proofs.Blobs.{length-encode_of}
 use Rattle.ion_text_in.proofs.LobTurns.{block-of}
 use Rattle.ion_text_in.proofs.Turns.{turn, turn-then, extends-not}
@@ -39,10 +39,10 @@ returns g c =
           let held = ap (λ (l : List ℕ). length l) c.as_slice.ensures in
           let free : passes (Some limit) (length text + length bytes) ≡ false =
           le-ltb limit (length text + length bytes) (omega (arith, long, held, c.if-left-n.false, c.requires.can_gather.grows.share)) in
-          turn-then g.I.Input s t chars (with_groups_behind limit text false) (with_groups_behind limit (text ++ bytes) (is_padded (length bytes))) passed h
+          turn-then g.I.Input s t chars (with_groups_after limit text false) (with_groups_after limit (text ++ bytes) (is_padded (length bytes))) passed h
           (block-of limit text s.place chars bytes (left g.I.Input.rest t) d.some d.octets free)
-          ∙ ap (λ (k : ℕ). with_groups_behind limit (text ++ bytes) (is_padded k) (cursor g.I.Input t)) long
-          ∙ ap (λ (l : List ℕ). with_groups_behind limit l (is_padded n) (cursor g.I.Input t)) (sym c.in_ok-extend.ensures.ok);
+          ∙ ap (λ (k : ℕ). with_groups_after limit (text ++ bytes) (is_padded k) (cursor g.I.Input t)) long
+          ∙ ap (λ (l : List ℕ). with_groups_after limit l (is_padded n) (cursor g.I.Input t)) (sym c.in_ok-extend.ensures.ok);
       none = λ e. absurd (cc e);
       plain = λ r p e. cc e;
       gathers = record { reads = grind (arith, common_steps); goes = grind (arith, common_steps) };

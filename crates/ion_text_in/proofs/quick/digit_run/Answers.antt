@@ -1,7 +1,7 @@
 use Rattle.std.proofs.Common.{arith}
 use Rattle.std.proofs.lemmas.List.{take_rest}
 use Rattle.ion_value.specs.Digits.{is_digit}
-use Rattle.ion_text_in.proofs.Blocks.{run-behind, run-block, run-found, run-front}
+use Rattle.ion_text_in.proofs.Blocks.{run-after, run-block, run-found, run-front}
 use Rattle.ion_text_in.proofs.quick.digit_run.Goals as goal
 
 pub skip-preserved : goal.skip-preserved
@@ -15,7 +15,7 @@ returns-then-others-ne0-2 c =
     (run-found is_digit c.args.bytes.now c.skip.at 16 c.no_digits-others-in-skip.result (omega (arith, c.skip-test.true)) (omega arith) c.no_digits-others-in-skip.ensures (omega (arith, c.if-others-ne0-2.true)) c.skip.invariant.run).0
 
 pub returns : goal.returns
-returns c = run-behind is_digit c.args.bytes.now c.skip.at c.few_digits.result c.skip.invariant.within c.skip.invariant.run (rw (take_rest c.args.bytes.now c.skip.at) at c.few_digits.ensures)
+returns c = run-after is_digit c.args.bytes.now c.skip.at c.few_digits.result c.skip.invariant.within c.skip.invariant.run (rw (take_rest c.args.bytes.now c.skip.at) at c.few_digits.ensures)
 
 pub returns-then-others-ne0 : goal.returns-then-others-ne0
 returns-then-others-ne0 c =

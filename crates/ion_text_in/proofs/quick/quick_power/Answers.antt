@@ -24,9 +24,9 @@ returns c =
       | then-below w ↦ let length : sign_length below ≡ 1 = ap sign_length w.if-below.true in let is = w.count-is in omega (arith, is, length)
       | else-below w ↦ let length : sign_length below ≡ 0 = ap sign_length w.if-below.false in let is = w.count-is in omega (arith, is, length)
     ] in
-    let behind : signed_text below ys ≡ drop (at + 1) digits = c.sign-below.ensures ∙ take_rest digits (at + 1) in
+    let after : signed_text below ys ≡ drop (at + 1) digits = c.sign-below.ensures ∙ take_rest digits (at + 1) in
     let stop = ap (λ (i : ℕ). stops (get_or digits i 0)) (sym count) ∙ (sym c.stops_number.ensures ∙ c.if-not-stops_number.false) in
-    let quick = quick-power c.args.negative below digits ys n places at m j c.requires.mantissa c.requires.mark behind power (omega arith) (omega (arith, count)) stop (omega arith) (omega (arith, c.number_after-magnitude.ensures)) in
+    let quick = quick-power c.args.negative below digits ys n places at m j c.requires.mantissa c.requires.mark after power (omega arith) (omega (arith, count)) stop (omega arith) (omega (arith, c.number_after-magnitude.ensures)) in
     let fits : SFits w32 c.exponent_of.result = search rules in
     let kept : to_z w32 (of_z w32 c.exponent_of.result) ≡ signed below m -ℤ pos places
     = to_z-of_z w32 c.exponent_of.result fits ∙ c.exponent_of.ensures ∙ ap (λ (k : ℕ). signed below k -ℤ pos places) c.number_after-magnitude.ensures in

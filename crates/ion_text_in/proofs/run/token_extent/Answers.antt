@@ -9,4 +9,4 @@ returns c =
     let bytes = c.args.bytes.now in
     let extent = rw (take_rest bytes 1) at c.run_extent-extent.ensures in
     let ended = not-false _ c.if-not-extent.false in
-    token-shown (goes_on c.args.run) bytes c.run_extent-extent.result.len c.in-len1-up.len_at_least (extent.behind ended) (extent.ends ended)
+    token-shown (goes_on c.args.run) bytes c.run_extent-extent.result.len c.in-len1-up.len_at_least (extent.after ended) (extent.ends ended)

@@ -6,7 +6,7 @@ use Rattle.ion_text_in.specs.Quotes.{quote_of}
 use Rattle.ion_text_in.specs.Gathered.{passed}
 use Rattle.ion_text_in.proofs.Quotes.{quote_of-is}
 use Rattle.ion_text_in.proofs.Holding.{handed-on}
-use Rattle.ion_text_in.proofs.SegmentTexts.{behind_text, long-err, long-ends, long-goes, next-cut, next-by}
+use Rattle.ion_text_in.proofs.SegmentTexts.{after_text, long-err, long-ends, long-goes, next-cut, next-by}
 use Rattle.ion_text_in.proofs.TextTokens.{overruns-refused}
 use Rattle.ion_text_in.proofs.text.next_long_text.Goals as goal
 
@@ -24,12 +24,12 @@ returns-in-Some-clause-gives g c = λ h.
     let q = quote_of c.args.quote in
     let t = cursor g.I.Input c.next_segment.new.source in
     let ht = c.in_ok-next_segment.ensures.gathers.reads.moves.still_observable.1 (inv.gathers.reads.moves.still_observable.1 h) in
-    let behind : passed q.in_clob t ≡ overrun (Some c.in-Some.start) (cursor g.I.Input c.pass_between.new.source) = rw c.in-Some.is at (c.in_ok-start.ensures.gives ht) in (
+    let after : passed q.in_clob t ≡ overrun (Some c.in-Some.start) (cursor g.I.Input c.pass_between.new.source) = rw c.in-Some.is at (c.in_ok-start.ensures.gives ht) in (
       t,
       inv.same h
           ∙ long-ends q c.args.limits.scalar c.segments.text c.next_segment.new.text (cursor g.I.Input c.segments.source) t (quote_of-is c.args.quote) (c.in_ok-next_segment.ensures.gives (inv.gathers.reads.moves.still_observable.1 h))
-          (next-cut q t (cursor g.I.Input c.pass_between.new.source) c.in-Some.start c.requires.long behind),
-      behind,
+          (next-cut q t (cursor g.I.Input c.pass_between.new.source) c.in-Some.start c.requires.long after),
+      after,
     )
 
 pub returns-then-not-branch-clause-gives : goal.returns-then-not-branch-clause-gives
@@ -39,13 +39,13 @@ returns-then-not-branch-clause-gives g c = λ h.
     let t = cursor g.I.Input c.next_segment.new.source in
     let u = cursor g.I.Input c.pass_between.new.source in
     let ht = c.in_ok-next_segment.ensures.gathers.reads.moves.still_observable.1 (inv.gathers.reads.moves.still_observable.1 h) in
-    let behind : passed q.in_clob t ≡ overrun None u = rw c.in_default.is at (c.in_ok-start.ensures.gives ht) in
+    let after : passed q.in_clob t ≡ overrun None u = rw c.in_default.is at (c.in_ok-start.ensures.gives ht) in
     let none = c.in_ok-pass_quotes.ensures.none (c.in_ok-start.ensures.reads.moves.still_observable.1 ht) (ap (λ (b : Bool). Ok b) c.if-not-branch.true) in (
       t,
       inv.same h
           ∙ long-ends q c.args.limits.scalar c.segments.text c.next_segment.new.text (cursor g.I.Input c.segments.source) t (quote_of-is c.args.quote) (c.in_ok-next_segment.ensures.gives (inv.gathers.reads.moves.still_observable.1 h))
-          (next-by c.args.quote t u false c.requires.long behind none.0),
-      behind ∙ ap (λ (d : Cursor). Ok d) (sym none.1),
+          (next-by c.args.quote t u false c.requires.long after none.0),
+      after ∙ ap (λ (d : Cursor). Ok d) (sym none.1),
     )
 
 pub segments-preserved : goal.segments-preserved
@@ -60,10 +60,10 @@ segments-preserved g c =
       same = λ h.
           let hs = inv.gathers.reads.moves.still_observable.1 h in
           let ht = c.in_ok-next_segment.ensures.gathers.reads.moves.still_observable.1 hs in
-          let behind : passed q.in_clob t ≡ overrun None u = rw c.in_default.is at (c.in_ok-start.ensures.gives ht) in
+          let after : passed q.in_clob t ≡ overrun None u = rw c.in_default.is at (c.in_ok-start.ensures.gives ht) in
           let some = c.in_ok-pass_quotes.ensures.some (c.in_ok-start.ensures.reads.moves.still_observable.1 ht) (ap (λ (b : Bool). Ok b) c.if-not-branch.false) in
           inv.same h
           ∙ long-goes q limit c.segments.text c.next_segment.new.text (cursor g.I.Input c.segments.source) t (skip 3 u) (quote_of-is c.args.quote) (c.in_ok-next_segment.ensures.gives hs)
-          (next-by c.args.quote t u true c.requires.long behind some.0)
-          ∙ ap (λ (d : Cursor). behind_text q limit c.next_segment.new.text d) (sym some.1);
+          (next-by c.args.quote t u true c.requires.long after some.0)
+          ∙ ap (λ (d : Cursor). after_text q limit c.next_segment.new.text d) (sym some.1);
     }

@@ -5,7 +5,7 @@ use Rattle.ion_meter.specs.Windows.{lent}
 use Rattle.ion_value.proofs.Cursors.{cursor-extends}
 use Rattle.ion_value.proofs.Passing.{IsPassed-cursor}
 use Rattle.ion_text_in.specs.Quotes.{quote_of}
-use Rattle.ion_text_in.specs.Pieces.{behind_piece, taken_of}
+use Rattle.ion_text_in.specs.Pieces.{after_piece, taken_of}
 use Rattle.ion_text_in.proofs.Quotes.{quote_of-is}
 use Rattle.ion_text_in.proofs.Gathering.{onward-piece}
 use Rattle.ion_text_in.proofs.Taking.{takes-there}
@@ -21,4 +21,4 @@ returns-clause-gives g c = λ h limit text.
     let q = quote_of c.args.quote in
     let end = IsPassed-cursor g.I.Input p c.consume.new.self (taken_of piece) (takes-there (lent p) piece c.in_ok-piece.ensures.takes) (rw took at c.consume.ensures)
     ∙ ap (λ (d : Cursor). skip (taken_of piece) d) (cursor-extends g.I.Input s p c.in_ok-piece.ensures.looks.kept h) in
-    rw same (onward-piece q limit text (cursor g.I.Input s) piece (quote_of-is c.args.quote) (c.in_ok-piece.ensures.gives h) ∙ ap (λ (d : Cursor). behind_piece q limit text d piece) (sym end))
+    rw same (onward-piece q limit text (cursor g.I.Input s) piece (quote_of-is c.args.quote) (c.in_ok-piece.ensures.gives h) ∙ ap (λ (d : Cursor). after_piece q limit text d piece) (sym end))

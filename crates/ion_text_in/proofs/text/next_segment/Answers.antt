@@ -3,7 +3,7 @@ use Rattle.std.specs.Str.{is_utf8}
 use Rattle.ion_meter.specs.Sources.{cursor}
 use Rattle.ion_text_in.specs.Quotes.{quote_of}
 use Rattle.ion_text_in.proofs.Segments.{segment-err, segment-bad, segment-good}
-use Rattle.ion_text_in.proofs.Utf8.{is_utf8-behind}
+use Rattle.ion_text_in.proofs.Utf8.{is_utf8-after}
 use Rattle.ion_text_in.proofs.Gathering.{continues-err}
 use Rattle.ion_text_in.proofs.text.next_segment.Goals.{else-not-in_clob-via-then-not-in_clob+else-not-is_text, else-not-in_clob-via-else-not-in_clob}
 use Rattle.ion_text_in.proofs.Holding.{handed-on}
@@ -29,7 +29,7 @@ pub returns-then-not-is_text-clause-gives : goal.returns-then-not-is_text-clause
 returns-then-not-is_text-clause-gives g c = λ h.
     let q = quote_of c.args.quote in
     let all = c.gather_pieces.new.text in
-    let test = is_utf8-behind c.args.text.now all c.as_slice-start.result.now c.as_slice.result.now c.is_text.result c.as_slice-start.ensures c.as_slice.ensures c.is_text.ensures in
+    let test = is_utf8-after c.args.text.now all c.as_slice-start.result.now c.as_slice.result.now c.is_text.result c.as_slice-start.ensures c.as_slice.ensures c.is_text.ensures in
     let clob : q.in_clob ≡ false = sym c.in_clob.ensures ∙ c.if-not-in_clob.true in
     let none : (q.in_clob || is_utf8 (drop (length c.args.text.now) all)) ≡ false = rw (clob, ← test) c.if-not-is_text.true in
     (segment-bad q c.args.limits.scalar c.args.text.now all (cursor g.I.Input c.args.source.now) (cursor g.I.Input c.gather_pieces.new.source) (c.in_ok-gather_pieces.ensures.gives h) none, refl)
@@ -41,7 +41,7 @@ returns-clause-gives g c = λ h.
     segment-good q c.args.limits.scalar c.args.text.now all (cursor g.I.Input c.args.source.now) (cursor g.I.Input c.gather_pieces.new.source) (c.in_ok-gather_pieces.ensures.gives h)
     (elim c.else-not-in_clob.branch [
       | else-not-in_clob-via-then-not-in_clob+else-not-is_text w ↦
-          let test = is_utf8-behind c.args.text.now all c.as_slice-start.result.now w.as_slice.result.now w.is_text.result c.as_slice-start.ensures w.as_slice.ensures w.is_text.ensures in
+          let test = is_utf8-after c.args.text.now all c.as_slice-start.result.now w.as_slice.result.now w.is_text.result c.as_slice-start.ensures w.as_slice.ensures w.is_text.ensures in
           let yes : is_utf8 (drop (length c.args.text.now) all) ≡ true = sym test ∙ w.if-not-is_text.false in
           either q.in_clob (is_utf8 (drop (length c.args.text.now) all)) yes
       | else-not-in_clob-via-else-not-in_clob w ↦

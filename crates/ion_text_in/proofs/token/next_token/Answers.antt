@@ -17,7 +17,7 @@ use Rattle.ion_text_in.proofs.ReaderSteps.{overrun-going}
 use Rattle.ion_text_in.proofs.TextTokens.{made, long-token, quoted-token, short-token, text-refused}
 use Rattle.ion_text_in.proofs.token.next_token.Goals as goal
 
--- a token behind which nothing was passed over
+-- a token after which nothing was passed over
 alone : (limit : ℕ) (text : List ℕ) (place : ℕ) (first f : First) (from to : Cursor) (token : Token) (x : tokens.Token) → first ≡ f → token_of (Some limit) (first_of f) from ≡ Ok (x, to)
     → token_view text place token ≡ x → overrun_of token ≡ None → TokenGives text place (Ok token) to (token_of (Some limit) (first_of first) from)
 alone limit text place first f from to token x is gives view none =
@@ -26,8 +26,8 @@ alone limit text place first f from to token x is gives view none =
 -- a mark of so many bytes
 marked : (limit : ℕ) (text : List ℕ) (place : ℕ) (first f : First) (from to : Cursor) (token mark : Token) (n : ℕ) → first ≡ f → token ≡ mark → to ≡ skip n from
     → token_of (Some limit) (first_of f) from ≡ Ok (token_view text place mark, skip n from) → overrun_of mark ≡ None → TokenGives text place (Ok token) to (token_of (Some limit) (first_of first) from)
-marked limit text place first f from to token mark n is same behind gives none =
-    alone limit text place first f from to token (token_view text place mark) is (gives ∙ ap (λ (d : Cursor). Ok (token_view text place mark, d)) (sym behind)) (ap (λ (t : Token). token_view text place t) same)
+marked limit text place first f from to token mark n is same after gives none =
+    alone limit text place first f from to token (token_view text place mark) is (gives ∙ ap (λ (d : Cursor). Ok (token_view text place mark, d)) (sym after)) (ap (λ (t : Token). token_view text place t) same)
     (ap overrun_of same ∙ none)
 
 -- what is read from a token between quotes on, by its text

@@ -11,7 +11,7 @@ returns-then-not-has_type c =
     let n = c.word_run-extent.result.len in
     let extent = rw (take_rest bytes 1) at c.word_run-extent.ensures in
     let ended = not-false _ c.if-not-extent.false in
-    word-untyped bytes n c.in-len1-up.len_at_least (extent.behind ended) (extent.ends ended) (rw (take_rest bytes (1 + n)) at (sym c.has_type.ensures ∙ c.if-not-has_type.true))
+    word-untyped bytes n c.in-len1-up.len_at_least (extent.after ended) (extent.ends ended) (rw (take_rest bytes (1 + n)) at (sym c.has_type.ensures ∙ c.if-not-has_type.true))
 
 pub returns : goal.returns
 returns c =
@@ -21,8 +21,8 @@ returns c =
     let ended = not-false _ c.if-not-extent.false in
     let name = rw (take_rest bytes (1 + n + 1)) at c.word_run-name.ensures in
     let named = not-false _ c.if-not-name.false in
-    word-typed bytes n c.word_run-name.result.len c.in-len1-up.len_at_least (extent.behind ended) (extent.ends ended) (rw (take_rest bytes (1 + n)) at (sym c.has_type.ensures ∙ c.if-not-has_type.false))
-    (name.behind named) (name.ends named)
+    word-typed bytes n c.word_run-name.result.len c.in-len1-up.len_at_least (extent.after ended) (extent.ends ended) (rw (take_rest bytes (1 + n)) at (sym c.has_type.ensures ∙ c.if-not-has_type.false))
+    (name.after named) (name.ends named)
 
 pub slice_bounds-word_run-start : goal.slice_bounds-word_run-start
 slice_bounds-word_run-start c = grind (arith, common_steps)

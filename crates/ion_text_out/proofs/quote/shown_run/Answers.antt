@@ -3,7 +3,7 @@ use Rattle.std.proofs.lemmas.Grind.{common_steps}
 use Rattle.std.proofs.lemmas.List.{take_rest}
 use Rattle.ion_text_out.specs.Escape.{is_shown}
 use Rattle.ion_text_out.proofs.ShownRuns.{over_block, to_hidden}
-use Rattle.ion_text_out.proofs.Quoted.{all_behind}
+use Rattle.ion_text_out.proofs.Quoted.{all_after}
 use Rattle.ion_text_out.proofs.quote.shown_run.Goals as goal
 
 pub skip-preserved : goal.skip-preserved
@@ -28,7 +28,7 @@ returns-then-hidden-ne0-clause-ends c =
 pub returns-clause-shown : goal.returns-clause-shown
 returns-clause-shown c =
     let few = rw (take_rest c.args.bytes.now c.skip.at) at c.few_shown.ensures.shown in
-    all_behind (is_shown c.args.quote c.args.top) c.args.bytes.now c.skip.at c.few_shown.result c.skip.invariant.shown few
+    all_after (is_shown c.args.quote c.args.top) c.args.bytes.now c.skip.at c.few_shown.result c.skip.invariant.shown few
 
 pub returns-clause-ends : goal.returns-clause-ends
 returns-clause-ends c = grind (arith, common_steps)

@@ -1,6 +1,6 @@
 use Rattle.std.proofs.Common.{◌≡◌, ◌+◌, List}
 use Rattle.std.specs.Prelude.{[]}
-use Rattle.ion_value.specs.Standing.{open_behind}
+use Rattle.ion_value.specs.Standing.{open_after_all}
 use Rattle.ion_value.specs.Value.{PlacedItem}
 use Rattle.ion_text_tests.proofs.writing.put_all.Given as goal
 
@@ -9,7 +9,7 @@ invariant-steps g l =
     let w = g.W.ValueWriter in
     record {
       sound : w.sound l.writer;
-      stands : (path : List PlacedItem) × w.stands l.writer path × (open_behind [] path ≡ l.kinds.items);
+      stands : (path : List PlacedItem) × w.stands l.writer path × (open_after_all [] path ≡ l.kinds.items);
       depth : (w.limits l.writer).depth ≡ 3;
       held : l.meter.held ≡ 4096 + w.own l.writer;
     }

@@ -6,10 +6,10 @@ use Rattle.ion_value.specs.Items.{item_of}
 use Rattle.ion_value.specs.Value.{PlacedItem}
 use Rattle.ion_value.specs.Reading.{More}
 use Rattle.ion_value.specs.Standing.{Continues, open_after}
-use Rattle.ion_value.specs.Outcome.{one_if_closed, Accepted, verdict_behind, output_behind}
+use Rattle.ion_value.specs.Outcome.{one_if_closed, Accepted, verdict_after, output_after}
 use Rattle.ion_symbols.specs.Table.{text_at}
 use Rattle.ion_symbols.specs.User.{coming_to, lent_by, owned_by, share_of}
-use Rattle.ion_value.proofs.Outcomes.{open_behind-append, walk-more, walk-prefix, walk-fault, walk-refused, prefix-then, prefix-behind, output_behind-prefix}
+use Rattle.ion_value.proofs.Outcomes.{open_after_all-append, walk-more, walk-prefix, walk-fault, walk-refused, prefix-then, prefix-after, output_after-prefix}
 use Rattle.ion_meter.specs.declared.limits.Limits.{Limits}
 use Rattle.ion_value.specs.Feeding.{Joint, Feeds}
 use Rattle.ion_value.proofs.Handing.{feeds-under}
@@ -27,7 +27,7 @@ returns-in_err-begin-clause-puts g c r o =
       accepted = search rules;
       rejected = search rules;
       prefix = prefix-then _ (before ++ w.puts limits []) _
-          (prefix-behind before _ _ (output_behind-prefix (w.puts limits) (w.adds limits) (w.refusal limits) (g.met.W.ValueWriter.grows limits) [] (coming_to g.R.RawReader.reading c.args.reader.now)))
+          (prefix-after before _ _ (output_after-prefix (w.puts limits) (w.adds limits) (w.refusal limits) (g.met.W.ValueWriter.grows limits) [] (coming_to g.R.RawReader.reading c.args.reader.now)))
           ((c.begin.ensures.part c.requires.writer.well).prefix o);
     }
 
@@ -40,7 +40,7 @@ returns-in_err-next-clause-says g c = λ o.
     let given : c.from_residual-in_err-next.result ≡ Err c.in_err-next.field-0.0 = search rules in
     rw given (record {
       accepted = λ n e. absurd (err_is e);
-      rejected = λ reason place e. t.verdict o ∙ ap (verdict_behind (g.W.ValueWriter.refusal (g.W.ValueWriter.limits c.args.writer.now)) t.path)
+      rejected = λ reason place e. t.verdict o ∙ ap (verdict_after (g.W.ValueWriter.refusal (g.W.ValueWriter.limits c.args.writer.now)) t.path)
           (c.next.ensures.refuses (c.items.invariant.read.1 o) c.items.invariant.well reason place (refused_as c.in_err-next.was e));
     })
 
@@ -56,7 +56,7 @@ returns-in_err-next-clause-puts g c r o =
       accepted = tt;
       rejected = λ reason place e.
           let stops = c.next.ensures.refuses (i.read.1 r) i.well reason place (refused_as c.in_err-next.was e) in
-          t.put o ∙ ap (λ l. before ++ l) (sym (t.output r ∙ ap (output_behind (w.puts limits) (w.refusal limits) t.path) stops));
+          t.put o ∙ ap (λ l. before ++ l) (sym (t.output r ∙ ap (output_after (w.puts limits) (w.refusal limits) t.path) stops));
       prefix = walk-prefix t (w.adds limits) (g.met.W.ValueWriter.grows limits) _ r o (i.prefix o);
     })
 
@@ -201,8 +201,8 @@ returns-in-Err-clause-charges g c =
     charges_written r_old w_old r_new w_now (w.own c.item.new.self) r_most w_most
     (charges_read r_old w_old r_now w_now r_new r_most w_most i.charges c.next.ensures.charges share c.requires.room.held few) c.item.ensures.charges i.writer_most c.requires.room.held most
 
-pub level_behind-now-requires : goal.level_behind-now-requires
-level_behind-now-requires g c =
+pub depth_after-now-requires : goal.depth_after-now-requires
+depth_after-now-requires g c =
     let i = c.items.invariant in
     let w = g.met.R.RawReader.within c.items.reader.raw i.ready.raw in
     subst (λ n. n ≤ 65535) i.level (le_trans w.level w.deep)
@@ -272,7 +272,7 @@ feed-fed-requires-clause-writer g c =
       fresh = c.in_default.ensures.failed;
       well = c.in_default.ensures.well i.sink;
       depth_of = ap (λ (l : Limits). l.depth) (c.item.ensures.limits ∙ i.limits) ∙ c.requires.writer.depth_of ∙ sym (c.next.ensures.kept.0 ∙ i.depth);
-      behind = (walk.path ++ item ∷ [], later, open_behind-append [] walk.path item ∙ (ap (λ k. open_after k item.head) walk.kinds_at ∙ sym comes.opens));
+      after = (walk.path ++ item ∷ [], later, open_after_all-append [] walk.path item ∙ (ap (λ k. open_after k item.head) walk.kinds_at ∙ sym comes.opens));
     }
 
 pub flush_ended-requires : goal.flush_ended-requires
@@ -305,9 +305,9 @@ returns-in-Err-flush_ended-clause-puts g c reading o =
     let at : out.observable c.args.sink.now.device → out.observable c.item.new.sink.device = λ o. puts.still_observable.1 (i.written.1 o) in
     let put : out.observable c.args.sink.now.device → so_far out.written c.item.new.sink ≡ so_far out.written c.items.sink ++ w.adds limits walk.path item =
     λ o. taken_as (λ l x. so_far out.written c.item.new.sink ≡ so_far out.written c.items.sink ++ w.adds l walk.path x) i.limits c.item-item.ensures (c.in_default.ensures.puts walk.path walk.stands_at may (i.written.1 o)) in
-    let level : length (r.opened c.next.new.self.raw) ≡ c.level_behind-now.result =
-    level_with (r.opened c.items.reader.raw) _ _ item own _ comes.opens c.item-item.ensures c.head-head.ensures (c.level_behind-now.ensures (r.opened c.items.reader.raw) i.level) in
-    let counts : c.values_behind-ended.result ≡ c.items.values + one_if_closed (r.opened c.next.new.self.raw) = c.values_behind-ended.ensures (r.opened c.next.new.self.raw) level in
+    let level : length (r.opened c.next.new.self.raw) ≡ c.depth_after-now.result =
+    level_with (r.opened c.items.reader.raw) _ _ item own _ comes.opens c.item-item.ensures c.head-head.ensures (c.depth_after-now.ensures (r.opened c.items.reader.raw) i.level) in
+    let counts : c.values_after-ended.result ≡ c.items.values + one_if_closed (r.opened c.next.new.self.raw) = c.values_after-ended.ensures (r.opened c.next.new.self.raw) level in
     let with_item = walk-more walk (w.adds limits) (g.met.W.ValueWriter.grows limits) item (coming_to r.reading c.next.new.self) _ _ _ is none later put comes.opens counts in
     let kept = c.feed-fed.ensures.writer in
     let before : Joint g.row.W.Denot =
@@ -316,7 +316,7 @@ returns-in-Err-flush_ended-clause-puts g c reading o =
     record { coming = coming_to r.reading c.feed-fed.new.self; opened = r.opened c.feed-fed.new.self.raw; writer = c.feed-fed.new.writer; pending = c.feed-fed.new.sink.pending; values = c.feed-fed.result.values } in
     let reads = r.observable c.args.reader.now.raw in
     let feeds : Feeds w (λ x. x) reads before after = feeds-under w (λ o. c.next.ensures.observable.1 (i.read.1 o)) c.feed-fed.ensures.feeds in
-    let fed = walk-same (walk-feeds w limits reads (out.observable c.args.sink.now.device) _ _ (out.written c.item.new.sink.device) c.values_behind-ended.result before after (g.met.W.ValueWriter.grows limits)
+    let fed = walk-same (walk-feeds w limits reads (out.observable c.args.sink.now.device) _ _ (out.written c.item.new.sink.device) c.values_after-ended.result before after (g.met.W.ValueWriter.grows limits)
     (c.item.ensures.limits ∙ i.limits) feeds (walk-same with_item (λ _. refl) (sym (add-zero _)))) (λ _. ap (λ d. out.written d ++ c.feed-fed.new.sink.pending) kept.device) refl in
     let at_fed : out.observable c.args.sink.now.device → out.observable c.feed-fed.new.sink.device = λ o. subst out.observable (sym kept.device) (at o) in
     let flushed : HasPrefix (so_far out.written c.feed-fed.new.sink) (out.written c.flush_ended.new.sink.device) =
@@ -414,23 +414,23 @@ items-preserved g c =
     let at : out.observable c.args.sink.now.device → out.observable c.item.new.sink.device = λ o. puts.still_observable.1 (i.written.1 o) in
     let put : out.observable c.args.sink.now.device → so_far out.written c.item.new.sink ≡ so_far out.written c.items.sink ++ w.adds limits walk.path item =
     λ o. taken_as (λ l x. so_far out.written c.item.new.sink ≡ so_far out.written c.items.sink ++ w.adds l walk.path x) i.limits c.item-item.ensures (c.in_default.ensures.puts walk.path walk.stands_at may (i.written.1 o)) in
-    let level : length (r.opened c.next.new.self.raw) ≡ c.level_behind-now.result =
-    level_with (r.opened c.items.reader.raw) _ _ item own _ comes.opens c.item-item.ensures c.head-head.ensures (c.level_behind-now.ensures (r.opened c.items.reader.raw) i.level) in
-    let counts : c.values_behind-ended.result ≡ c.items.values + one_if_closed (r.opened c.next.new.self.raw) = c.values_behind-ended.ensures (r.opened c.next.new.self.raw) level in
+    let level : length (r.opened c.next.new.self.raw) ≡ c.depth_after-now.result =
+    level_with (r.opened c.items.reader.raw) _ _ item own _ comes.opens c.item-item.ensures c.head-head.ensures (c.depth_after-now.ensures (r.opened c.items.reader.raw) i.level) in
+    let counts : c.values_after-ended.result ≡ c.items.values + one_if_closed (r.opened c.next.new.self.raw) = c.values_after-ended.ensures (r.opened c.next.new.self.raw) level in
     let with_item = walk-more walk (w.adds limits) (g.met.W.ValueWriter.grows limits) item (coming_to r.reading c.next.new.self) _ _ _ is none later put comes.opens counts in
     let kept = c.feed-fed.ensures.writer in
     let before : Joint g.row.W.Denot =
     record { coming = coming_to r.reading c.next.new.self; opened = r.opened c.next.new.self.raw; writer = c.item.new.self; pending = c.item.new.sink.pending; values = 0 } in
-    let after : Joint g.row.W.Denot =
+    let further : Joint g.row.W.Denot =
     record { coming = coming_to r.reading c.feed-fed.new.self; opened = r.opened c.feed-fed.new.self.raw; writer = c.feed-fed.new.writer; pending = c.feed-fed.new.sink.pending; values = c.feed-fed.result.values } in
     let reads = r.observable c.args.reader.now.raw in
     let feeds : Feeds w (λ x. x) reads before after = feeds-under w (λ o. c.next.ensures.observable.1 (i.read.1 o)) c.feed-fed.ensures.feeds in
-    let fed = walk-same (walk-feeds w limits reads (out.observable c.args.sink.now.device) _ _ (out.written c.item.new.sink.device) c.values_behind-ended.result before after (g.met.W.ValueWriter.grows limits)
+    let fed = walk-same (walk-feeds w limits reads (out.observable c.args.sink.now.device) _ _ (out.written c.item.new.sink.device) c.values_after-ended.result before further (g.met.W.ValueWriter.grows limits)
     (c.item.ensures.limits ∙ i.limits) feeds (walk-same with_item (λ _. refl) (sym (add-zero _)))) (λ _. ap (λ d. out.written d ++ c.feed-fed.new.sink.pending) kept.device) refl in
     let at_fed : out.observable c.args.sink.now.device → out.observable c.feed-fed.new.sink.device = λ o. subst out.observable (sym kept.device) (at o) in
     let followed = i.followed in
     let follows : Continues (w.limits c.items.writer) followed.path own = continues_with i.limits c.requires.writer.depth_of i.depth followed.kinds_at c.item-item.ensures comes in
-    let behind : w.stands c.item.new.self (followed.path ++ item ∷ []) =
+    let after : w.stands c.item.new.self (followed.path ++ item ∷ []) =
     subst (λ (x : PlacedItem). w.stands c.item.new.self (followed.path ++ x ∷ [])) c.item-item.ensures (c.in_default.ensures.stands followed.path followed.stands_at follows).0 in
     let read_well = c.in_ok-next.ensures.causes i.well in
     let put_well = c.in_default.ensures.causes i.fresh i.sink in
@@ -439,7 +439,7 @@ items-preserved g c =
     let flushes = c.flush_ended.ensures.puts in
     record {
       walk = walk-same fed (λ o. c.in-Ok.ensures.same (at_fed o)) refl;
-      followed = followed-feeds w reads _ before after feeds (followed-more followed item (coming_to r.reading c.next.new.self) (r.opened c.next.new.self.raw) is behind comes.opens);
+      followed = followed-feeds w reads _ before further feeds (followed-more followed item (coming_to r.reading c.next.new.self) (r.opened c.next.new.self.raw) is after comes.opens);
       read = (λ o. i.read.0 (c.next.ensures.observable.0 (observable.0 o)), λ o. observable.1 (c.next.ensures.observable.1 (i.read.1 o)));
       written = (λ o. i.written.0 (puts.still_observable.0 (subst out.observable kept.device (flushes.still_observable.0 o))), λ o. flushes.still_observable.1 (at_fed o));
       prefix = λ o. (c.flush_ended.new.sink.pending, refl);
@@ -484,7 +484,7 @@ pub returns-clause-says : goal.returns-clause-says
 returns-clause-says g c = λ o.
     let t = c.items.invariant.walk in
     record {
-      accepted = λ n e. t.verdict o ∙ (ap (verdict_behind _ t.path) (c.next.ensures.ends (c.items.invariant.read.1 o) (c.in_ok-next.was ∙ ap Ok c.if-branch.false)).0 ∙ ap Accepted (t.values_at ∙ same_ok e));
+      accepted = λ n e. t.verdict o ∙ (ap (verdict_after _ t.path) (c.next.ensures.ends (c.items.invariant.read.1 o) (c.in_ok-next.was ∙ ap Ok c.if-branch.false)).0 ∙ ap Accepted (t.values_at ∙ same_ok e));
       rejected = λ reason place e. absurd (ok_is e);
     }
 
@@ -495,7 +495,7 @@ returns-clause-puts g c = λ o p.
     let before = so_far g.O.Output.written c.args.sink.now in
     let t = c.items.invariant.walk in
     let ends = (c.next.ensures.ends (c.items.invariant.read.1 o) (c.in_ok-next.was ∙ ap Ok c.if-branch.false)).0 in
-    let whole = t.put p ∙ ap (λ l. before ++ l) (sym (t.output o ∙ ap (output_behind (w.puts limits) (w.refusal limits) t.path) ends)) in
+    let whole = t.put p ∙ ap (λ l. before ++ l) (sym (t.output o ∙ ap (output_after (w.puts limits) (w.refusal limits) t.path) ends)) in
     record {
       accepted = whole;
       rejected = λ reason place e. absurd (ok_is e);
@@ -550,8 +550,8 @@ items-init g c = grind (arith, common_steps)
 pub feed-fed-requires-clause-level : goal.feed-fed-requires-clause-level
 feed-fed-requires-clause-level g c = grind (arith, common_steps)
 
-pub values_behind-ended-requires : goal.values_behind-ended-requires
-values_behind-ended-requires g c = grind (arith, common_steps)
+pub values_after-ended-requires : goal.values_after-ended-requires
+values_after-ended-requires g c = grind (arith, common_steps)
 
 pub returns-in_err-begin-clause-joined : goal.returns-in_err-begin-clause-joined
 returns-in_err-begin-clause-joined g c = grind (arith, common_steps)

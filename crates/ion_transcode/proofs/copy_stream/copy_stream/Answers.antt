@@ -2,7 +2,7 @@ use Rattle.std.proofs.Common.{rules, ◌≡◌, [], refl, subst, arith}
 use Rattle.std.proofs.lemmas.Grind.{common_steps}
 use Rattle.ion_meter.specs.Windows.{so_far}
 use Rattle.ion_value.specs.Reading.{Reading}
-use Rattle.ion_value.specs.Outcome.{output_behind}
+use Rattle.ion_value.specs.Outcome.{output_after}
 use Rattle.ion_value.proofs.Outcomes.{prefix-then}
 use Rattle.ion_symbols.specs.Users.{at_start, users}
 use Rattle.ion_symbols.specs.User.{coming_to}
@@ -19,7 +19,7 @@ returns-clause-writes g c r o =
     let before = so_far g.O.Output.written c.args.sink.now in
     let observable : g.R.RawReader.observable c.new-reader.result.raw = rw new.raw.0 r in
     let same : coming_to reads c.new-reader.result ≡ users c.args.catalog.now c.args.limits.symbols at_start (reads c.args.raw) = rw (new.raw.0, new.table.0, new.table.1.0, new.table.1.1.0, new.table.1.1.1) refl in
-    subst (λ (x : Reading). WritesOutput (output_behind (w.puts limits) (w.refusal limits) [] x) c.finish-outcome.result before (g.O.Output.written c.finish-outcome.new.sink.device)) same
+    subst (λ (x : Reading). WritesOutput (output_after (w.puts limits) (w.refusal limits) [] x) c.finish-outcome.result before (g.O.Output.written c.finish-outcome.new.sink.device)) same
     (c.finish-outcome.ensures.writes (copy_items.causes.still_observable.1 o) _ before (copy_items.puts observable o))
 
 pub returns-clause-causes : goal.returns-clause-causes

@@ -1,5 +1,5 @@
 use Rattle.std.proofs.Common.{◌∙◌, sym}
-use Rattle.ion_value.proofs.TextDecimals.{decimal-text, range-refused, behind-refused}
+use Rattle.ion_value.proofs.TextDecimals.{decimal-text, range-refused, after-refused}
 use Rattle.ion_value.proofs.decimal_text.decimal_from_text.Goals as goal
 
 pub returns-in_default-clause-read : goal.returns-in_default-clause-read
@@ -32,4 +32,4 @@ pub returns-in-Err-clause-refused : goal.returns-in-Err-clause-refused
 returns-in-Err-clause-refused c =
     let sign = c.sign-negative in
     let mantissa = c.in-Some.mantissa in
-    rw (c.in-Err.ensures sign.result.0 0) at (behind-refused sign.result.0 0 mantissa.places mantissa.pointed mantissa.power.now)
+    rw (c.in-Err.ensures sign.result.0 0) at (after-refused sign.result.0 0 mantissa.places mantissa.pointed mantissa.power.now)

@@ -27,10 +27,10 @@ returns-in-Some-fraction c =
     let first : get_or rest 0 0 ≡ 46 = omega arith in
     let read = c.in-Some-fraction.ensures told.0 told.2 in
     let fraction = c.in-Some-fraction.fraction in
-    let behind = ap (read_fraction told.0) (sym (tail-all rest (length rest) (omega arith))) in (
+    let after = ap (read_fraction told.0) (sym (tail-all rest (length rest) (omega arith))) in (
       read.0,
       read.2,
-      mantissa-pointed c.args.bytes.now told.0 whole.count rest read.0 fraction.count fraction.rest.now told.1 (point-first rest c.in-46.len_at_least first) (behind ∙ read.1),
+      mantissa-pointed c.args.bytes.now told.0 whole.count rest read.0 fraction.count fraction.rest.now told.1 (point-first rest c.in-46.len_at_least first) (after ∙ read.1),
     )
 
 pub returns-in-None : goal.returns-in-None
@@ -39,5 +39,5 @@ returns-in-None c =
     let whole = c.in-Some.whole in
     let rest = whole.rest.now in
     let first : get_or rest 0 0 ≡ 46 = omega arith in
-    let behind = ap (read_fraction told.0) (sym (tail-all rest (length rest) (omega arith))) in
-    mantissa-no_fraction c.args.bytes.now told.0 whole.count rest told.1 (point-first rest c.in-46.len_at_least first) (behind ∙ c.in-None.ensures told.0 told.2)
+    let after = ap (read_fraction told.0) (sym (tail-all rest (length rest) (omega arith))) in
+    mantissa-no_fraction c.args.bytes.now told.0 whole.count rest told.1 (point-first rest c.in-46.len_at_least first) (after ∙ c.in-None.ensures told.0 told.2)

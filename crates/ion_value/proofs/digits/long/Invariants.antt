@@ -5,7 +5,7 @@ use Rattle.ion_value.proofs.digits.long.Given as goal
 abbrev pub invariant-loop-rest : goal.invariant-loop-rest
 invariant-loop-rest g l = record {
   so_far : (n : ℕ) → l.fn.start ≡ in_128 n → (m : ℕ) × (l.number ≡ in_128 m)
-      × (read_digits g.row.BASE m l.behind l.count l.rest ≡ read_digits g.row.BASE n l.fn.behind l.fn.count l.fn.bytes);
+      × (read_digits g.row.BASE m l.after l.count l.rest ≡ read_digits g.row.BASE n l.fn.after l.fn.count l.fn.bytes);
   room : l.count + length l.rest ≤ l.fn.count + length l.fn.bytes;
 }
 

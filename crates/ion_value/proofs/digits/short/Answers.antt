@@ -9,7 +9,7 @@ loop-rest-preserved-else-number g c =
     let l = c.loop-rest in
     let told = c.in-Some.ensures in
     record {
-      so_far = rw told.1 (read-digit g.row.BASE l.number l.count _ l.behind l.rest.now (omega arith) (omega arith) told.0 ∙ l.invariant.so_far);
+      so_far = rw told.1 (read-digit g.row.BASE l.number l.count _ l.after l.rest.now (omega arith) (omega arith) told.0 ∙ l.invariant.so_far);
       room = room-digit l.rest.now _ l.count _ (omega arith) (omega arith) l.invariant.room;
     }
 
@@ -17,7 +17,7 @@ pub loop-rest-preserved : goal.loop-rest-preserved
 loop-rest-preserved g c =
     let l = c.loop-rest in
     record {
-      so_far = read-underscore g.row.BASE l.number l.count _ l.behind l.rest.now (omega arith) (omega arith) c.in-None.ensures c.if-byte-eq95.true c.if-behind.true ∙ l.invariant.so_far;
+      so_far = read-underscore g.row.BASE l.number l.count _ l.after l.rest.now (omega arith) (omega arith) c.in-None.ensures c.if-byte-eq95.true c.if-after.true ∙ l.invariant.so_far;
       room = room-underscore l.rest.now _ l.count _ (omega arith) (omega arith) l.invariant.room;
     }
 
@@ -28,9 +28,9 @@ returns g c =
     let answer = c.ended.ensures l.number (in_128-small l.number small) in
     rw (sym l.invariant.so_far) (
     elim c.if-rest-lt1.branch [
-      | in_default w ↦ rw (read-nothing g.row.BASE l.number l.count l.behind l.rest.now w.in_default.len_below) answer
-      | in-len1-up+in-None-2 w ↦ rw (read-bad g.row.BASE l.number l.count l.behind l.rest.now (omega arith) w.in-None.ensures w.if-behind.false) answer
-      | in-len1-up+in-None-2-2 w ↦ rw (read-other g.row.BASE l.number l.count l.behind l.rest.now (omega arith) w.in-None.ensures w.if-byte-eq95.false) answer
+      | in_default w ↦ rw (read-nothing g.row.BASE l.number l.count l.after l.rest.now w.in_default.len_below) answer
+      | in-len1-up+in-None-2 w ↦ rw (read-bad g.row.BASE l.number l.count l.after l.rest.now (omega arith) w.in-None.ensures w.if-after.false) answer
+      | in-len1-up+in-None-2-2 w ↦ rw (read-other g.row.BASE l.number l.count l.after l.rest.now (omega arith) w.in-None.ensures w.if-byte-eq95.false) answer
     ]
     )
 

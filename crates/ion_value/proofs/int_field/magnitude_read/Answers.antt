@@ -5,7 +5,7 @@ use Rattle.ion_value.proofs.Octets.{high-large, high-value, high-fits}
 use Rattle.ion_value.proofs.int_field.magnitude_read.Goals.{After-uint_value}
 use Rattle.ion_value.proofs.int_field.magnitude_read.Goals as goal
 
--- sixteen octets or more behind a bit that is not zero
+-- sixteen octets or more after a bit that is not zero
 pub returns-then-rest-gt15-clause-range : goal.returns-then-rest-gt15-clause-range
 returns-then-rest-gt15-clause-range c =
     let large = high-large c.args.high c.args.rest.now (omega arith) (omega arith) in

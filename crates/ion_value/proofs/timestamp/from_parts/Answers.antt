@@ -8,8 +8,8 @@ pub returns-then-not-is_fraction : goal.returns-then-not-is_fraction
 returns-then-not-is_fraction c =
     λ o e _ exponent.
     let read = c.in-Some.ensures.read in
-    parts-unfit o c.args.numbers.now e c.args.coefficient.now c.digits_behind-digits.result c.in-Some.negative c.in-Some.fraction (record {
-      digits_read = c.digits_behind-digits.ensures e exponent;
+    parts-unfit o c.args.numbers.now e c.args.coefficient.now c.digits_after_point-digits.result c.in-Some.negative c.in-Some.fraction (record {
+      digits_read = c.digits_after_point-digits.ensures e exponent;
       few = c.if-digits-le38.true;
       negative_read = read.0;
       fraction_read = read.1;
@@ -25,8 +25,8 @@ returns-in-Some-in_utc c =
     λ o e offset exponent.
     let read = c.in-Some.ensures.read in
     c.in_local_time.ensures o offset
-    ∙ parts-moment o c.args.numbers.now e c.args.coefficient.now c.digits_behind-digits.result c.in-Some.negative c.in-Some.fraction c.in-Some-in_utc.utc (record {
-      digits_read = c.digits_behind-digits.ensures e exponent;
+    ∙ parts-moment o c.args.numbers.now e c.args.coefficient.now c.digits_after_point-digits.result c.in-Some.negative c.in-Some.fraction c.in-Some-in_utc.utc (record {
+      digits_read = c.digits_after_point-digits.ensures e exponent;
       few = c.if-digits-le38.true;
       negative_read = read.0;
       fraction_read = read.1;
@@ -37,8 +37,8 @@ pub returns-in-None : goal.returns-in-None
 returns-in-None c =
     λ o e offset exponent.
     let read = c.in-Some.ensures.read in
-    parts-no_moment o c.args.numbers.now e c.args.coefficient.now c.digits_behind-digits.result c.in-Some.negative c.in-Some.fraction (record {
-      digits_read = c.digits_behind-digits.ensures e exponent;
+    parts-no_moment o c.args.numbers.now e c.args.coefficient.now c.digits_after_point-digits.result c.in-Some.negative c.in-Some.fraction (record {
+      digits_read = c.digits_after_point-digits.ensures e exponent;
       few = c.if-digits-le38.true;
       negative_read = read.0;
       fraction_read = read.1;

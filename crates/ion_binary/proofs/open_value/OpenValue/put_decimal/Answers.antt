@@ -41,10 +41,10 @@ returns g c =
     let eight : length all ≡ 8 = ap (λ (os : List ℕ). length os) bytes ∙ length-bytes_high_first 8 (moved + sign) in
     let long : length body ≡ size = length-take-le size all (omega (arith, eight)) in
     let b : List ℕ = c.args.exponent ∷ body in
-    let front : c.behind-front.result ≡ (81 + size) ∷ c.args.exponent ∷ [] = c.behind-front.ensures ∙ ap (λ (os : List ℕ). (81 + size) ∷ os) c.one.ensures in
+    let front : c.after-front.result ≡ (81 + size) ∷ c.args.exponent ∷ [] = c.after-front.ensures ∙ ap (λ (os : List ℕ). (81 + size) ∷ os) c.one.ensures in
     let head : 81 + size ≡ 80 + length b = omega (arith, long) in
     let few : length b < 14 = omega (arith, long) in
-    let whole : c.behind-front.result ++ body ≡ headed 5 (c.args.exponent ∷ coefficient_octets c.args.negative n) =
+    let whole : c.after-front.result ++ body ≡ headed 5 (c.args.exponent ∷ coefficient_octets c.args.negative n) =
     ap (λ (os : List ℕ). os ++ body) front
     ∙ (ap (λ (k : ℕ). k ∷ b) head ∙ (few-headed 5 b few ∙ ap (λ (os : List ℕ). headed 5 (c.args.exponent ∷ os)) spelled)) in
     adds-same (ap (noted c.args.name c.args.note) whole) c.put_few.ensures

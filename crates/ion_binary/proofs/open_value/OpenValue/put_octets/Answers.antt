@@ -6,7 +6,7 @@ use Rattle.ion_binary.proofs.PutInRoom.{adds-same}
 use Rattle.ion_binary.proofs.open_value.OpenValue.put_octets.Goals as goal
 
 pub returns-then-note-eq0 : goal.returns-then-note-eq0
-returns-then-note-eq0 g c = adds-same (ap (λ (n : ℕ). noted c.args.name n (both_octets c.args.scalar.now)) (sym c.if-note-eq0.true)) c.put_behind.ensures
+returns-then-note-eq0 g c = adds-same (ap (λ (n : ℕ). noted c.args.name n (both_octets c.args.scalar.now)) (sym c.if-note-eq0.true)) c.put_after.ensures
 
 pub returns : goal.returns
 returns g c =
@@ -14,4 +14,4 @@ returns g c =
     let same : c.from.result ≡ c.args.note = search rules in
     adds-same
     (ap (λ (ns : List ℕ). noted_by c.args.name ns (both_octets c.args.scalar.now))
-    (c.as_slice.ensures.value ∙ (c.var_uint_write-notes.ensures.spelled ∙ (ap var_uint_octets same ∙ sym (named-octets c.args.note some))))) c.put_behind-2.ensures
+    (c.as_slice.ensures.value ∙ (c.var_uint_write-notes.ensures.spelled ∙ (ap var_uint_octets same ∙ sym (named-octets c.args.note some))))) c.put_after-2.ensures

@@ -18,8 +18,8 @@ hand-requires-clause-can_hand g c =
     let can = hands-again g.I.Input g.W.ValueWriter (named_item (g.N.Names.text c.args.names.now)) c.requires c.items.invariant.hands in
     can-hand g.W.ValueWriter (g.met.W.ValueWriter.within c.items.writer can.writer.sound) can
 
-pub values_behind-count-requires : goal.values_behind-count-requires
-values_behind-count-requires g c = omega (arith, c.items.invariant.hands.falls, c.requires.few)
+pub values_after-count-requires : goal.values_after-count-requires
+values_after-count-requires g c = omega (arith, c.items.invariant.hands.falls, c.requires.few)
 
 pub items-smaller : goal.items-smaller
 items-smaller g c = (c.hand.ensures.handed.hands c.items-test.true).falls
@@ -29,12 +29,12 @@ items-preserved g c =
     let input = g.I.Input in
     let w = g.W.ValueWriter in
     let see = named_item (g.N.Names.text c.args.names.now) in
-    let counts : c.values_behind-count.result ≡ c.items.count + one_if_closed (opened_in c.hand.new.self) =
-    c.values_behind-count.ensures ∙ ap (λ fs. c.items.count + one_if_closed (kinds_of fs)) c.as_slice-in-items.ensures in
+    let counts : c.values_after-count.result ≡ c.items.count + one_if_closed (opened_in c.hand.new.self) =
+    c.values_after-count.ensures ∙ ap (λ fs. c.items.count + one_if_closed (kinds_of fs)) c.as_slice-in-items.ensures in
     record {
       hands = hands_on-then input w see c.args.self.now c.items.self c.hand.new.self c.args.writer.now c.items.writer c.hand.new.writer c.args.sink.now c.items.sink c.hand.new.sink c.args.meter.now c.items.meter c.hand.new.meter c.args.values
-          c.items.count c.values_behind-count.result c.requires.held c.items.invariant.hands
-          (hands_on-item input w see c.items.self c.hand.new.self c.items.writer c.hand.new.writer c.items.sink c.hand.new.sink c.items.meter c.hand.new.meter c.items.count c.values_behind-count.result c.items.invariant.hands.takes
+          c.items.count c.values_after-count.result c.requires.held c.items.invariant.hands
+          (hands_on-item input w see c.items.self c.hand.new.self c.items.writer c.hand.new.writer c.items.sink c.hand.new.sink c.items.meter c.hand.new.meter c.items.count c.values_after-count.result c.items.invariant.hands.takes
           (c.hand.ensures.handed.hands c.items-test.true) c.hand.ensures.handed.keeps c.hand.ensures.handed.goes counts);
       around = c.hand.ensures.around c.items-test.true;
     }

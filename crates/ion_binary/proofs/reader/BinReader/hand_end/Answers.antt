@@ -31,7 +31,7 @@ take_plain-requires-clause-path g c =
     let some = ends-some (frame_in c.args.around.now) r.source.place c.requires.ends in
     let inner = subst (λ o. IsInnermost (as_frames r.frames) o) some.1 c.requires.around.innermost in
     path_here w r.limits.depth (opened_in r) c.args.writer.now (placed_item r.top None [] c.place.result value.end) write.depth_of
-    (end_fits r.limits.depth (opened_in r) c.place.result r.top (open_one r.frames some.0 inner)) refl write.behind
+    (end_fits r.limits.depth (opened_in r) c.place.result r.top (open_one r.frames some.0 inner)) refl write.after
 
 pub close-requires-clause-held : goal.close-requires-clause-held
 close-requires-clause-held g c = grind (arith, common_steps) steps 400000

@@ -15,6 +15,6 @@ returns-in-Some-shown_text g c =
     let here = c.args.here in
     let end = c.args.around.end in
     let has = subst (λ n. texts n ≡ Some name.text.now) c.id_of.ensures shown.text in
-    subst (λ (l : Level). ShowsField texts octets here (innermost (frame_of (kind_around l) end)) (Some name) c.in-Some.behind) (sym c.in-Struct.is)
-    (shows_named texts octets here (record { kind = kind.Struct; end = end }) c.in-Some.id c.in-Some.behind name refl
+    subst (λ (l : Level). ShowsField texts octets here (innermost (frame_of (kind_around l) end)) (Some name) c.in-Some.after) (sym c.in-Struct.is)
+    (shows_named texts octets here (record { kind = kind.Struct; end = end }) c.in-Some.id c.in-Some.after name refl
     c.in-Some.ensures.shows has shown.quoted shown.place)

@@ -17,7 +17,7 @@ returns g c =
     let field = c.in-Some.ensures in
     let pair = c.in-Some-pair_ids.ensures in
     let head = c.in-Some-name_of.ensures in
-    member-noted w c.put_behind.new.self c.args.meter.now c.put_behind.new.meter item c.put_behind.result c.in-Some.name notes (both_octets c.octets-scalar.result) c.requires.can_take
+    member-noted w c.put_after.new.self c.args.meter.now c.put_after.new.meter item c.put_after.result c.in-Some.name notes (both_octets c.octets-scalar.result) c.requires.can_take
     (omega (arith, c.if-len-eq0.false, c.len.ensures)) c.requires.whole field.known (pair.known c.args.place) head.known field.octets
     (ap counted_ids (c.as_slice.ensures.value ∙ pair.octets c.args.place) ∙ counted-are (id_in texts) (map user_symbol_at item.annotations))
-    (c.octets-scalar.ensures ∙ c.spell-spelled.ensures (id_in texts) head.name) c.put_behind.ensures
+    (c.octets-scalar.ensures ∙ c.spell-spelled.ensures (id_in texts) head.name) c.put_after.ensures

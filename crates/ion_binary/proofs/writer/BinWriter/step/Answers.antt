@@ -8,14 +8,14 @@ use Rattle.ion_value.specs.Items.{item_of}
 use Rattle.ion_value.specs.Value.{PlacedItem, user_item}
 use Rattle.ion_binary.specs.Held.{held_forgotten, held_of}
 use Rattle.ion_binary.specs.Writer.{PutsOctets, held_in, item_refusal}
-use Rattle.ion_binary.proofs.WriterFollows.{adds-are, follows-err, follows-out, forgotten-is, may-add-behind}
+use Rattle.ion_binary.proofs.WriterFollows.{adds-are, follows-err, follows-out, forgotten-is, may-add-after}
 use Rattle.ion_binary.proofs.WriterSteps.{puts-none}
 use Rattle.ion_binary.proofs.writer.BinWriter.step.Goals as goal
 
 pub add-requires-clause-comes : goal.add-requires-clause-comes
 add-requires-clause-comes g c = record {
   counted = search rules;
-  follows = may-add-behind c.args.self.now c.forget.new.self c.requires.comes.0 (item_of g.N.Names.text c.args.item.now) c.requires.comes.1 c.forget.ensures.open_value c.forget.ensures.taken.limits;
+  follows = may-add-after c.args.self.now c.forget.new.self c.requires.comes.0 (item_of g.N.Names.text c.args.item.now) c.requires.comes.1 c.forget.ensures.open_value c.forget.ensures.taken.limits;
 }
 
 pub returns-in-Err-clause-follows : goal.returns-in-Err-clause-follows

@@ -1,6 +1,6 @@
 use Rattle.std.proofs.Common.{◌-◌, [], List, ℕ, take, drop, arith, sym, ◌∙◌, refl, append-nil}
 use Rattle.std.proofs.lemmas.Grind.{common_steps}
-use Rattle.ion_meter.proofs.Window.{copied_through, left_read, left_unread, read_behind, read_nothing}
+use Rattle.ion_meter.proofs.Window.{copied_through, left_read, left_unread, read_after, read_nothing}
 use Rattle.ion_meter.proofs.source.Source.fill.Goals as goal
 
 pub returns-in_default-clause-kept : goal.returns-in_default-clause-kept
@@ -22,7 +22,7 @@ returns-clause-kept g c =
     let s = c.self.inside in
     let buffered : List ℕ = drop s.start (take s.end s.window.value) in
     let copied = copied_through s.window.value c.deref_mut.result.now c.copy_within.new.self c.deref_mut-2.result.now s.start s.end c.deref_mut.ensures.value c.copy_within.ensures.after c.deref_mut-2.ensures.value in
-    let same = read_behind s.window.value c.deref_mut-2.result.now c.read.new.into s.start s.end (4096 - (s.end - s.start)) c.in-Ok.n (omega arith) (omega arith) copied c.in-Ok.ensures.within in
+    let same = read_after s.window.value c.deref_mut-2.result.now c.read.new.into s.start s.end (4096 - (s.end - s.start)) c.in-Ok.n (omega arith) (omega arith) copied c.in-Ok.ensures.within in
     rw (← c.self.view_is) (record {
       prefix = (take c.in-Ok.n c.read.new.into, same);
       place = omega arith;

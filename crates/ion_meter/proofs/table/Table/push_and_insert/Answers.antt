@@ -23,8 +23,8 @@ returns-clause-added g c = grind (arith, common_steps)
 pub push_reserved-requires : goal.push_reserved-requires
 push_reserved-requires g c = grind (arith, common_steps)
 
-pub bounds-behind-0 : goal.bounds-behind-0
-bounds-behind-0 g c = grind (arith, common_steps)
+pub bounds-after-0 : goal.bounds-after-0
+bounds-after-0 g c = grind (arith, common_steps)
 
 pub copy_within-requires-clause-dest_in_bounds : goal.copy_within-requires-clause-dest_in_bounds
 copy_within-requires-clause-dest_in_bounds g c = grind (arith, common_steps)
@@ -38,11 +38,11 @@ offset_bounds-deref_mut-place g c = grind (arith, common_steps)
 pub overflow_sub-moved : goal.overflow_sub-moved
 overflow_sub-moved g c = grind (arith, common_steps)
 
-pub slice_bounds-behind-start : goal.slice_bounds-behind-start
-slice_bounds-behind-start g c = grind (arith, common_steps)
+pub slice_bounds-after-start : goal.slice_bounds-after-start
+slice_bounds-after-start g c = grind (arith, common_steps)
 
-pub slice_bounds-behind-count : goal.slice_bounds-behind-count
-slice_bounds-behind-count g c = grind (arith, common_steps)
+pub slice_bounds-after-count : goal.slice_bounds-after-count
+slice_bounds-after-count g c = grind (arith, common_steps)
 
 pub returns-then-is_err-clause-same_other_cost : goal.returns-then-is_err-clause-same_other_cost
 returns-then-is_err-clause-same_other_cost g c = grind (arith, common_steps)

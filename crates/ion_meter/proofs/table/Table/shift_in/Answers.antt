@@ -11,8 +11,8 @@ returns-clause-items g c =
     let put = shifted_in c.deref_mut.result.now c.copy_within.new.self c.args.place c.args.end c.args.entry c.requires.order (subst (λ xs. c.args.end < length xs) (sym same) c.requires.within) c.copy_within.ensures.after in
     ap (take (c.args.end + 1)) (with_items_is c.self.inside.items _ (put.1 ∙ c.deref_mut.ensures.len)) ∙ (put.0 ∙ ap (λ xs. insert (take c.args.end xs) c.args.place c.args.entry) same)
 
-pub returns-clause-behind : goal.returns-clause-behind
-returns-clause-behind g c =
+pub returns-clause-after : goal.returns-clause-after
+returns-clause-after g c =
     let same = c.deref_mut.ensures.value ∙ ap (λ t. t.items) c.self.view_is in
     let put = shifted_in c.deref_mut.result.now c.copy_within.new.self c.args.place c.args.end c.args.entry c.requires.order (subst (λ xs. c.args.end < length xs) (sym same) c.requires.within) c.copy_within.ensures.after in
     ap (drop (c.args.end + 1)) (with_items_is c.self.inside.items _ (put.1 ∙ c.deref_mut.ensures.len)) ∙ (put.2 ∙ ap (drop (c.args.end + 1)) same)

@@ -2,20 +2,20 @@ use Rattle.std.proofs.Common.{◌+◌, ◌≤◌, arith}
 use Rattle.std.proofs.lemmas.Grind.{common_steps}
 use Rattle.ion_symbols.specs.Table.{table_cost}
 use Rattle.ion_symbols.specs.Buffer.{own_of}
-use Rattle.ion_symbols.proofs.Taking.{both_within, behind_within, behind_charges}
+use Rattle.ion_symbols.proofs.Taking.{both_within, after_within, after_charges}
 use Rattle.ion_symbols.proofs.buffer.SymbolBuffer.install.Goals as goal
 
 pub returns-clause-cheap : goal.returns-clause-cheap
 returns-clause-cheap g c =
     let old = c.args.symbols.now in
     let both : table_cost old.table + own_of c.args.self ≤ c.args.limit = both_within c.args.limit old.table c.args.self c.requires.can_install.pending c.if-not-keeps.false in
-    behind_within c.append-outcome.result old c.append-outcome.new.self c.args.self.slots c.args.limit c.append-outcome.ensures.ok c.append-outcome.ensures.err
+    after_within c.append-outcome.result old c.append-outcome.new.self c.args.self.slots c.args.limit c.append-outcome.ensures.ok c.append-outcome.ensures.err
     (omega (arith, both))
 
 pub returns-clause-charges : goal.returns-clause-charges
 returns-clause-charges g c =
     let old = c.args.symbols.now in
-    behind_charges c.append-outcome.result c.args.limit c.args.meter.now c.release.new.meter c.append-outcome.new.meter c.release-2.new.meter c.release-3.new.meter
+    after_charges c.append-outcome.result c.args.limit c.args.meter.now c.release.new.meter c.append-outcome.new.meter c.release-2.new.meter c.release-3.new.meter
     old c.append-outcome.new.self c.args.self c.append-outcome.ensures.ok c.append-outcome.ensures.err c.append-outcome.ensures.cost c.append-outcome.ensures.undone
     c.release.ensures c.release-2.ensures c.release-3.ensures.cost
     (both_within c.args.limit old.table c.args.self c.requires.can_install.pending c.if-not-keeps.false) c.requires.can_install.held

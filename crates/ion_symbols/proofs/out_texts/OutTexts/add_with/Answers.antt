@@ -2,7 +2,7 @@ use Rattle.std.proofs.Common.{◌≡◌, None, subst, ◌∙◌, arith}
 use Rattle.std.proofs.lemmas.Grind.{common_steps}
 use Rattle.ion_symbols.specs.Output.{position}
 use Rattle.ion_symbols.specs.OutTexts.{IsSpot, texts_of}
-use Rattle.ion_symbols.proofs.LinkedTexts.{added_texts, can_link_pushed, is_added, place_behind, place_small}
+use Rattle.ion_symbols.proofs.LinkedTexts.{added_texts, can_link_pushed, is_added, place_after, place_small}
 use Rattle.ion_symbols.proofs.out_texts.OutTexts.add_with.Goals as goal
 
 pub overflow_cast-stands : goal.overflow_cast-stands
@@ -16,7 +16,7 @@ link_last-requires g c =
     let at : (position (texts_of c.args.self.now) c.args.added.bytes.now ≡ None) × IsSpot c.args.self.now c.args.added.bytes.now c.in-Free.spot
     = subst (λ k. (position (texts_of k) c.args.added.bytes.now ≡ None) × IsSpot k c.args.added.bytes.now c.in-Free.spot) c.probe-probe.ensures.of c.in-Free.ensures.seeks in
     can_link_pushed c.args.self.now (record c.args.self.now { bytes = c.push_together.new.bytes; places = c.push_together.new.self; ids = c.push_together.new.others }) c.args.added.bytes.now c.in-Free.spot
-    (place_behind c.as_slice-from.result.now c.args.added.bytes.now) c.requires.kept (record { absent = at.0; no_system = c.requires.no_system }) at.1
+    (place_after c.as_slice-from.result.now c.args.added.bytes.now) c.requires.kept (record { absent = at.0; no_system = c.requires.no_system }) at.1
     (is_added c.args.self.now c.as_slice-from.result.now c.push_together.new.bytes c.args.added.bytes.now c.push_together.new.self c.push_together.new.others c.as_slice-from.ensures
     (c.push_together.ensures.bytes c.if-not-push_together.false) (c.push_together.ensures.items c.if-not-push_together.false) c.push_together.ensures.same_cost c.push_together.ensures.same_other_cost)
     c.requires.small c.if-self.false (c.push_together.ensures.others c.if-not-push_together.false)
@@ -25,7 +25,7 @@ pub returns-clause-added : goal.returns-clause-added
 returns-clause-added g c =
     λ _. c.link_last.ensures.texts
     ∙ added_texts c.args.self.now (record c.args.self.now { bytes = c.push_together.new.bytes; places = c.push_together.new.self; ids = c.push_together.new.others }) c.args.added.bytes.now
-    (place_behind c.as_slice-from.result.now c.args.added.bytes.now) c.requires.kept
+    (place_after c.as_slice-from.result.now c.args.added.bytes.now) c.requires.kept
     (is_added c.args.self.now c.as_slice-from.result.now c.push_together.new.bytes c.args.added.bytes.now c.push_together.new.self c.push_together.new.others c.as_slice-from.ensures
     (c.push_together.ensures.bytes c.if-not-push_together.false) (c.push_together.ensures.items c.if-not-push_together.false) c.push_together.ensures.same_cost c.push_together.ensures.same_other_cost)
 

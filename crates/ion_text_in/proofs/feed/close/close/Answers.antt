@@ -28,7 +28,7 @@ returns g c =
     let opened = closed-opened a.kinds.now left c.in-Some.inner c.pop-closed.result (sym c.innermost.ensures ∙ c.in-Some.is) c.pop-closed.ensures.items in
     let outer = sym c.innermost-outer.ensures in
     let now : Spot = record a.at.now {
-      rest = c.behind.result;
+      rest = c.after.result;
       values = a.at.now.values + one_if_closed (reverse left);
       separator = is_separated c.member_kind-at.result;
       kind = c.member_kind-at.result;
@@ -36,7 +36,7 @@ returns g c =
     subst (λ (s : Spot). Turns w a.bounds true (lane a.kinds.now a.at.now a.writer.now a.sink.now a.meter.now) (lane left s t.new.self t.new.sink c.pop-closed.new.meter)) (sym (c.pass_value.ensures (reverse left) outer))
     (turns-closed a.kinds.now left c.in-Some.inner a.kind a.at.now now a.next (place_in a.bounds a.next.rest.now)
     a.writer.now t.new.self a.sink.now t.new.sink a.meter.now t.new.meter c.pop-closed.new.meter c.requires.can c.requires.next c.requires.told.0 c.requires.told.1 opened
-    (sym c.is_same.ensures ∙ c.if-not-is_same.false) refl c.behind.ensures refl (c.member_kind-at.ensures (reverse left) outer) refl refl
+    (sym c.is_same.ensures ∙ c.if-not-is_same.false) refl c.after.ensures refl (c.member_kind-at.ensures (reverse left) outer) refl refl
     (record {
       sound = e.sound;
       stands = e.stands yes;

@@ -13,5 +13,5 @@ returns-in-Whole c =
     let w = c.in-Whole in
     let counts = shown-some number_token a.bytes.now w.number w.count (Some a.limits.scalar) a_run w.ensures.shows c.requires.some in
     found-as c.found_as.ensures refl
-    (subst (λ (h : Head SymbolAt). IsHead a.limits a.place a.bytes.now h c.behind.result.now) (sym c.head_of.ensures)
-    (head-number w.number c.behind.ensures (omega (arith, counts)) w.ensures.shows w.ensures.range c.requires))
+    (subst (λ (h : Head SymbolAt). IsHead a.limits a.place a.bytes.now h c.after.result.now) (sym c.head_of.ensures)
+    (head-number w.number c.after.ensures (omega (arith, counts)) w.ensures.shows w.ensures.range c.requires))

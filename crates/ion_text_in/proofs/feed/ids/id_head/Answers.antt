@@ -15,6 +15,6 @@ returns g c =
     record {
       raw = whole (symbol (at (Id is.id) a.place));
       seen = head-id-seen (g.N.Names.text a.names.now) is.id a.place id.text.now is.has;
-      head = head-id c.next_told.result is c.behind-rest.ensures c.next_told.ensures c.if-next_told-eq0.false c.requires;
+      head = head-id c.next_told.result is c.after-rest.ensures c.next_told.ensures c.if-next_told-eq0.false c.requires;
       spelled = (is.simple, refl);
     }

@@ -11,4 +11,4 @@ returns g c =
     let a = c.args in
     let id = c.in-Some.id in
     let name : TextAt = record { text = id.text; code = 0; place = a.place } in
-    named-id (g.N.Names.text a.names.now) a.limits a.place id.count name a.bytes.now c.behind.result.now c.behind_name.result refl c.in-Some.ensures.simple c.in-Some.ensures c.behind.ensures c.requires c.behind_name.ensures
+    named-id (g.N.Names.text a.names.now) a.limits a.place id.count name a.bytes.now c.after.result.now c.after_name.result refl c.in-Some.ensures.simple c.in-Some.ensures c.after.ensures c.requires c.after_name.ensures

@@ -13,7 +13,7 @@ returns c =
     let begins = c.requires some in
     let word = c.in-Some.ensures in
     let name : TextAt = record { text = c.front.result; code = 0; place = a.place } in
-    named-start name c.behind_name.result
-    (name-token (token-word c.behind.ensures word (told-begins begins (omega arith) told)) may-word
+    named-start name c.after_name.result
+    (name-token (token-word c.after.ensures word (told-begins begins (omega arith) told)) may-word
     (symbol-names a.limits a.place false name _ refl c.front.ensures))
-    (ap (λ (l : List ℕ). is_simple l) c.front.ensures ∙ word.simple) begins.some c.behind_name.ensures
+    (ap (λ (l : List ℕ). is_simple l) c.front.ensures ∙ word.simple) begins.some c.after_name.ensures

@@ -6,4 +6,4 @@ pub returns : goal.returns
 returns c =
     let says = c.quoted_text.ensures in
     let name = name-between c.quoted_text.result c.args.quote says.place says.text c.in-Some.ensures c.requires in
-    named-start c.quoted_text.result c.behind_name.result name.0 says.says name.1 c.behind_name.ensures
+    named-start c.quoted_text.result c.after_name.result name.0 says.says name.1 c.after_name.ensures

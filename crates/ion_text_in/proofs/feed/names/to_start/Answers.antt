@@ -28,7 +28,7 @@ field_start-requires c = λ told. next-begins c.requires.next (c.requires.next.s
 pub returns-in-Struct-clause-start : goal.returns-in-Struct-clause-start
 returns-in-Struct-clause-start c =
     let spot = c.args.spot in
-    start-field c.args.bounds spot c.args.next c.field_start.result c.place_behind.ensures c.requires.within (expects-field spot c.if-spot.false c.in-Struct.is) c.requires.next c.field_start.ensures
+    start-field c.args.bounds spot c.args.next c.field_start.result c.place_after.ensures c.requires.within (expects-field spot c.if-spot.false c.in-Struct.is) c.requires.next c.field_start.ensures
 
 pub returns-in-Struct-clause-bare : goal.returns-in-Struct-clause-bare
-returns-in-Struct-clause-bare c = named-bare c.args.bounds.limits c.place_behind.result c.args.next.rest.now c.field_start.result c.field_start.ensures
+returns-in-Struct-clause-bare c = named-bare c.args.bounds.limits c.place_after.result c.args.next.rest.now c.field_start.result c.field_start.ensures

@@ -8,4 +8,4 @@ quoted_start-requires c = next-begins c.requires.next (not-empty c.args.next.res
 pub returns-in-Struct : goal.returns-in-Struct
 returns-in-Struct c =
     let spot = c.args.spot in
-    start-field c.args.bounds spot c.args.next c.quoted_start.result c.place_behind.ensures c.requires.within (expects-field spot c.if-spot.false c.in-Struct.is) c.requires.next c.quoted_start.ensures
+    start-field c.args.bounds spot c.args.next c.quoted_start.result c.place_after.ensures c.requires.within (expects-field spot c.if-spot.false c.in-Struct.is) c.requires.next c.quoted_start.ensures

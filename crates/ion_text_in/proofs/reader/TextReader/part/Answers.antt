@@ -6,7 +6,7 @@ use Rattle.ion_text_in.specs.Reading.{take}
 use Rattle.ion_text_in.specs.Symbols.{prepaid}
 use Rattle.ion_text_in.specs.Tokens.{overrun_of, token_view}
 use Rattle.ion_text_in.specs.Steps.{annotations_in, comes, field_in, opened_in, part_by, state_at, taking}
-use Rattle.ion_text_in.proofs.ReaderCalls.{reached-text, steps-behind}
+use Rattle.ion_text_in.proofs.ReaderCalls.{reached-text, steps-after}
 use Rattle.ion_text_in.proofs.ReaderSteps.{part-token}
 use Rattle.ion_text_in.proofs.reader.TextReader.part.Goals as goal
 
@@ -20,7 +20,7 @@ returns-clause-steps g c =
     let e = c.in_ok-token.ensures in
     let can = c.requires.can_step in
     let here = cursor g.I.Input r.source in
-    steps-behind g.I.Input c.take.result r q c.take.new.self c.args.meter.now c.next_token.new.meter c.take.new.meter None (overrun_of token) (λ _. part_by g.I.Input r (first_of c.args.first))
+    steps-after g.I.Input c.take.result r q c.take.new.self c.args.meter.now c.next_token.new.meter c.take.new.meter None (overrun_of token) (λ _. part_by g.I.Input r (first_of c.args.first))
     (taking q c.place-place.result (token_view t c.place-place.result token)) 0 (prepaid t token) can.held (reached-text g.I.Input r s t c.args.meter.now c.next_token.new.meter token can.sized can.held e.reads.into)
     (λ h d blank.
     let o = e.gives h in (

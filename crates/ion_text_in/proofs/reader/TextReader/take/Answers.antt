@@ -11,10 +11,10 @@ use Rattle.ion_text_in.proofs.reader.TextReader.take.Goals as goal
 pub returns-in-Separator-Comma : goal.returns-in-Separator-Comma
 returns-in-Separator-Comma g c =
     let r = c.args.self.now in
-    let e = c.behind_comma-self.ensures in
+    let e = c.after_comma-self.ensures in
     let inner = c.innermost.ensures in
     rw c.in-Separator-Comma.is-1
-    (steps-comma g.I.Input r c.behind_comma-self.result c.args.place c.args.meter.now c.in-Separator-Comma.is-0 (e.is ∙ ap (λ (k : Option Kind). at_member k) inner) (e.may (opened_in r) (sym inner)) c.requires.can_step)
+    (steps-comma g.I.Input r c.after_comma-self.result c.args.place c.args.meter.now c.in-Separator-Comma.is-0 (e.is ∙ ap (λ (k : Option Kind). at_member k) inner) (e.may (opened_in r) (sym inner)) c.requires.can_step)
 
 pub returns-in-Field-Symbol : goal.returns-in-Field-Symbol
 unfolding take

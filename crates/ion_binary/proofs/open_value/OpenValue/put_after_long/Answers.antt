@@ -1,0 +1,10 @@
+use Rattle.std.proofs.Common.{◌++◌, ℕ, List, take, ap, ◌∙◌}
+use Rattle.ion_binary.specs.Opening.{noted}
+use Rattle.ion_binary.proofs.PutInRoom.{adds-same}
+use Rattle.ion_binary.proofs.open_value.OpenValue.put_after_long.Goals as goal
+
+pub returns : goal.returns
+returns g c =
+    adds-same
+    (ap (λ (os : List ℕ). noted c.args.name c.args.note (os ++ take c.args.size c.args.body))
+    (ap (λ n. take n c.block-first.result) c.len.ensures.len ∙ c.block-first.ensures)) c.put_octets.ensures

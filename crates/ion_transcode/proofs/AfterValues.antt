@@ -1,0 +1,234 @@
+-- What may stand after a value in canonical text, and that no two colons come there.
+use Rattle.std.proofs.Common.{◌≡◌, ℕ, suc, Bool, true, false, not, ◌&&◌, ◌==◌, if◌then◌else◌, List, [], ◌∷◌, codes, Option, None, Some, Result, Ok, Err, refl, ap, sym, ◌∙◌, subst, arith}
+use Rattle.std.proofs.lemmas.Bool.{false≢true}
+use Rattle.ion_meter.specs.declared.fault.Reason.{Reason}
+use Rattle.ion_meter.specs.Sources.{Cursor, skip}
+use Rattle.ion_value.specs.declared.ion_type.IonType.{IonType}
+use Rattle.ion_value.specs.declared.ion_type.IonType.TheVariants as type
+use Rattle.ion_value.specs.Scalar.{scalar_of_run}
+use Rattle.ion_value.specs.Name.{Keyword, a_null, a_bool, a_nan, keyword, is_id, id_of}
+use Rattle.ion_value.specs.Parts.{part, ◌>>=◌}
+use Rattle.ion_value.specs.Value as value
+use Rattle.ion_value.specs.Value.{Scalar, SymbolAt}
+use Rattle.ion_text_in.specs.Blanks.{no_blank, is_white, blank_at, blanks, blanks_at}
+use Rattle.ion_text_in.specs.Beginnings.{BeginsNot, EndsIdentifier, EndsNumber, NumbersEnd, IdentifiersEnd, WhatBegins, TokenBegins}
+use Rattle.ion_text_in.specs.Grammar.{NoColons}
+use Rattle.ion_text_in.specs.Lob.{lob_at}
+use Rattle.ion_text_in.specs.Meaning.{at, EndsNull}
+use Rattle.ion_text_in.specs.Quoted.{symbol_quote, short_quote, long_quote, text_at}
+use Rattle.ion_text_in.specs.Token as tokens
+use Rattle.ion_text_in.specs.Token.{First, a_run, a_word, a_quoted, a_short, a_long, a_lob, an_operator, an_infinity, a_begin, an_end, a_comma, a_colon, two_colons, no_token, first_at, Token, plain, name, text, operator, no_number, begin, end, comma, colon, colons, bytes_of, in_run, in_operator, word_of, word_token, run_token, null_token, by_keyword, token_of, token_at, next_token}
+
+-- ---- what stands after a value
+
+-- a byte that begins no blank, no colon and no binary stream
+abbrev pub is_start : ℕ → Bool
+is_start b = not (is_white b) && (not (b == 47) && (not (b == 58) && not (b == 224)))
+
+-- nothing, or such a byte first
+abbrev pub starts : List ℕ → Bool
+starts [] = true
+starts (b ∷ bytes) = is_start b
+
+-- what separates a value from the next one, or ends its container, or the line
+pub data After : List ℕ → Type 0 where
+  at_comma : {bytes : List ℕ} → After (44 ∷ bytes)
+  at_list_end : {bytes : List ℕ} → After (93 ∷ bytes)
+  at_sexp_end : {bytes : List ℕ} → After (41 ∷ bytes)
+  at_struct_end : {bytes : List ℕ} → After (125 ∷ bytes)
+  at_space : {bytes : List ℕ} → starts bytes ≡ true → After (32 ∷ bytes)
+  at_line : {bytes : List ℕ} → starts bytes ≡ true → After (10 ∷ bytes)
+
+-- and after a symbol a colon too
+pub data AfterSymbol : List ℕ → Type 0 where
+  of_value : {bytes : List ℕ} → After bytes → AfterSymbol bytes
+  at_colon : {bytes : List ℕ} → AfterSymbol (58 ∷ bytes)
+
+-- ---- it ends each token
+
+pub ends-number : NumbersEnd → (bytes : List ℕ) → After bytes → EndsNumber bytes
+ends-number law _ After.at_comma = (law _).0 refl
+ends-number law _ After.at_list_end = (law _).0 refl
+ends-number law _ After.at_sexp_end = (law _).0 refl
+ends-number law _ After.at_struct_end = (law _).0 refl
+ends-number law _ (After.at_space s) = (law _).0 refl
+ends-number law _ (After.at_line s) = (law _).0 refl
+
+pub ends-identifier : IdentifiersEnd → (bytes : List ℕ) → AfterSymbol bytes → EndsIdentifier bytes
+ends-identifier law _ (AfterSymbol.of_value After.at_comma) = (law _).0 refl
+ends-identifier law _ (AfterSymbol.of_value After.at_list_end) = (law _).0 refl
+ends-identifier law _ (AfterSymbol.of_value After.at_sexp_end) = (law _).0 refl
+ends-identifier law _ (AfterSymbol.of_value After.at_struct_end) = (law _).0 refl
+ends-identifier law _ (AfterSymbol.of_value (After.at_space s)) = (law _).0 refl
+ends-identifier law _ (AfterSymbol.of_value (After.at_line s)) = (law _).0 refl
+ends-identifier law _ AfterSymbol.at_colon = (law _).0 refl
+
+other-first : (b c : ℕ) (bytes : List ℕ) → (b == c) ≡ false → BeginsNot (c ∷ []) (b ∷ bytes)
+other-first b c bytes differ more e =
+    let same : b ≡ c = cc e in
+    let yes : (c == c) ≡ false = subst (λ x. (x == c) ≡ false) same differ in
+    grind (arith, yes)
+
+pub no-quote : (bytes : List ℕ) → AfterSymbol bytes → BeginsNot (codes "'") bytes
+no-quote _ (AfterSymbol.of_value (After.at_comma {bytes})) = other-first 44 39 bytes refl
+no-quote _ (AfterSymbol.of_value (After.at_list_end {bytes})) = other-first 93 39 bytes refl
+no-quote _ (AfterSymbol.of_value (After.at_sexp_end {bytes})) = other-first 41 39 bytes refl
+no-quote _ (AfterSymbol.of_value (After.at_struct_end {bytes})) = other-first 125 39 bytes refl
+no-quote _ (AfterSymbol.of_value (After.at_space {bytes} s)) = other-first 32 39 bytes refl
+no-quote _ (AfterSymbol.of_value (After.at_line {bytes} s)) = other-first 10 39 bytes refl
+no-quote _ (AfterSymbol.at_colon {bytes}) = other-first 58 39 bytes refl
+
+no-point : (bytes : List ℕ) → After bytes → BeginsNot (codes ".") bytes
+no-point _ (After.at_comma {bytes}) = other-first 44 46 bytes refl
+no-point _ (After.at_list_end {bytes}) = other-first 93 46 bytes refl
+no-point _ (After.at_sexp_end {bytes}) = other-first 41 46 bytes refl
+no-point _ (After.at_struct_end {bytes}) = other-first 125 46 bytes refl
+no-point _ (After.at_space {bytes} s) = other-first 32 46 bytes refl
+no-point _ (After.at_line {bytes} s) = other-first 10 46 bytes refl
+
+pub ends-null : IdentifiersEnd → (t : IonType) (bytes : List ℕ) → After bytes → EndsNull t bytes
+ends-null law type.Null bytes b = (ends-identifier law bytes (AfterSymbol.of_value b), no-point bytes b)
+ends-null law type.Bool bytes b = ends-identifier law bytes (AfterSymbol.of_value b)
+ends-null law type.Int bytes b = ends-identifier law bytes (AfterSymbol.of_value b)
+ends-null law type.Float bytes b = ends-identifier law bytes (AfterSymbol.of_value b)
+ends-null law type.Decimal bytes b = ends-identifier law bytes (AfterSymbol.of_value b)
+ends-null law type.Timestamp bytes b = ends-identifier law bytes (AfterSymbol.of_value b)
+ends-null law type.Symbol bytes b = ends-identifier law bytes (AfterSymbol.of_value b)
+ends-null law type.String bytes b = ends-identifier law bytes (AfterSymbol.of_value b)
+ends-null law type.Clob bytes b = ends-identifier law bytes (AfterSymbol.of_value b)
+ends-null law type.Blob bytes b = ends-identifier law bytes (AfterSymbol.of_value b)
+ends-null law type.List bytes b = ends-identifier law bytes (AfterSymbol.of_value b)
+ends-null law type.Sexp bytes b = ends-identifier law bytes (AfterSymbol.of_value b)
+ends-null law type.Struct bytes b = ends-identifier law bytes (AfterSymbol.of_value b)
+
+-- ---- blanks
+
+no-blank : (b : ℕ) (bytes : List ℕ) → is_start b ≡ true → blank_at b bytes ≡ no_blank
+no-blank b bytes e =
+    let white : is_white b ≡ false = grind (arith, e) in
+    let slash : (b == 47) ≡ false = grind (arith, e) in
+    rw (white, slash) refl
+
+pub no-blanks : (p : ℕ) (bytes : List ℕ) → starts bytes ≡ true → blanks (at p bytes) ≡ Ok (at p bytes)
+unfolding blanks_at
+no-blanks p [] e = refl
+no-blanks p (b ∷ bytes) e = rw (blanks_at, no-blank b bytes e) refl
+
+-- one space or line's end before it
+pub one-space : (p : ℕ) (bytes : List ℕ) → starts bytes ≡ true → blanks (at p (32 ∷ bytes)) ≡ Ok (at (suc p) bytes)
+unfolding blanks_at
+one-space p bytes e = no-blanks (suc p) bytes e
+
+pub one-line : (p : ℕ) (bytes : List ℕ) → starts bytes ≡ true → blanks (at p (10 ∷ bytes)) ≡ Ok (at (suc p) bytes)
+unfolding blanks_at
+one-line p bytes e = no-blanks (suc p) bytes e
+
+-- ---- no two colons come
+
+-- a token, and what is after it
+abbrev pub got : Token → Cursor → Result (Token × Cursor) Reason
+got t c = Ok (t, c)
+
+pub same-token : (t u : Token) (c d : Cursor) → got t c ≡ got u d → t ≡ u
+same-token t u c d e =
+    let both : ◌≡◌ {A = Token × Cursor} (t, c) (u, d) = cc e in
+    ap (λ (z : Token × Cursor). z.0) both
+
+abbrev other : Token → Bool
+other colons = false
+other _ = true
+
+other-not : (t : Token) (c d : Cursor) → other t ≡ true → got t c ≡ got colons d → ⊥
+other-not t c d is e = false≢true (sym (ap other (same-token t colons c d e)) ∙ is)
+
+bound-other : {A : Type 0} (o : Result A Reason) (f : A → Token) (g : A → Cursor) (d : Cursor) → ((x : A) → other (f x) ≡ true)
+    → (o >>= (λ x. got (f x) (g x))) ≡ got colons d → ⊥
+bound-other (Ok x) f g d is e = other-not (f x) (g x) d (is x) e
+bound-other (Err reason) f g d is e = absurd (cc e)
+
+then-other : (o : Result Token Reason) (c d : Cursor) → ((t : Token) → o ≡ Ok t → other t ≡ true)
+    → (o >>= (λ t. got t c)) ≡ got colons d → ⊥
+then-other (Ok t) c d is e = other-not t c d (is t refl) e
+then-other (Err reason) c d is e = absurd (cc e)
+
+run-other : (o : Result (Scalar SymbolAt) Reason) (t : Token) → (o >>= (λ v. Ok (plain v))) ≡ Ok t → other t ≡ true
+run-other (Ok v) t e = let same : plain v ≡ t = cc e in ap other (sym same)
+run-other (Err reason) t e = absurd (cc e)
+
+null-other : (type : Option IonType) (t : Token) → null_token type ≡ Ok t → other t ≡ true
+null-other (Some type) t e = let same : plain (value.null type) ≡ t = cc e in ap other (sym same)
+null-other None t e = absurd (cc e)
+
+keyword-other : (k : Option Keyword) (word : List ℕ) (t : Token) → by_keyword k word ≡ Ok t → other t ≡ true
+keyword-other (Some (a_null type)) word t e = null-other type t e
+keyword-other (Some (a_bool truth)) word t e = let same : plain (value.bool truth) ≡ t = cc e in ap other (sym same)
+keyword-other (Some a_nan) word t e = let same : no_number ≡ t = cc e in ap other (sym same)
+keyword-other None word t e =
+    let same : name false (if is_id word then value.Id (id_of word) else value.Text word) ≡ t = cc e in
+    ap other (sym same)
+
+word-other : (word : List ℕ) (t : Token) → word_token word ≡ Ok t → other t ≡ true
+unfolding word_token
+word-other word t e = keyword-other (keyword word) word t e
+
+not-colons : (f : First) (b d : Cursor) → (f ≡ two_colons → ⊥) → token_of None f b ≡ got colons d → ⊥
+unfolding token_of
+not-colons a_run b d none e =
+    then-other (run_token (bytes_of in_run b.rest)) _ d (λ t. run-other (scalar_of_run (bytes_of in_run b.rest)) t) e
+not-colons a_word b d none e = then-other (word_token (word_of b.rest)) _ d (λ t. word-other (word_of b.rest) t) e
+not-colons a_quoted b d none e =
+    bound-other (text_at symbol_quote None (skip 1 b)) (λ t. name true (value.Text t.0)) (λ t. t.1) d (λ t. refl) e
+not-colons a_short b d none e =
+    bound-other (text_at (short_quote false) None (skip 1 b)) (λ t. text t.0) (λ t. t.1) d (λ t. refl) e
+not-colons a_long b d none e = bound-other (text_at (long_quote false) None (skip 3 b)) (λ t. text t.0) (λ t. t.1) d (λ t. refl) e
+not-colons a_lob b d none e = bound-other (lob_at None (skip 2 b)) (λ l. plain l.0) (λ l. l.1) d (λ l. refl) e
+not-colons an_operator b d none e = other-not _ _ d refl e
+not-colons an_infinity b d none e = other-not _ _ d refl e
+not-colons (a_begin k) b d none e = other-not _ _ d refl e
+not-colons (an_end k) b d none e = other-not _ _ d refl e
+not-colons a_comma b d none e = other-not _ _ d refl e
+not-colons a_colon b d none e = other-not _ _ d refl e
+not-colons two_colons b d none e = none refl
+not-colons no_token b d none e = absurd (cc e)
+
+-- the first byte tells it
+first-colon : (sexp : Bool) (b : ℕ) (bytes : List ℕ) → TokenBegins sexp (b ∷ bytes) two_colons → b ≡ 58
+first-colon sexp _ _ TokenBegins.colons = refl
+
+cut-other : (p q : ℕ) (d : Cursor) (o : Result (Token × Cursor) Reason) → ((e : Cursor) → o ≡ got colons e → ⊥)
+    → (part p o >>= (λ t. Ok (tokens.cut t.0 p t.1))) ≡ Ok (tokens.cut colons q d) → ⊥
+cut-other p q d (Ok u) none e =
+    let same : tokens.cut u.0 p u.1 ≡ tokens.cut colons q d = cc e in
+    let is : u.0 ≡ colons = ap (λ (z : tokens.Cut). z.token) same in
+    none u.1 (ap (λ (t : Token). got t u.1) is)
+cut-other p q d (Err reason) none e = absurd (cc e)
+
+start-other : WhatBegins → (sexp : Bool) (bytes : List ℕ) → starts bytes ≡ true → first_at sexp bytes ≡ two_colons → ⊥
+unfolding first_at
+start-other law sexp [] first e = absurd (cc e)
+start-other law sexp (b ∷ bytes) first e =
+    let begins = (law sexp (b ∷ bytes) two_colons (λ no. absurd (cc no))).0 e in
+    let is : b ≡ 58 = first-colon sexp b bytes begins in
+    false≢true (subst (λ x. is_start x ≡ true) is first)
+
+no-colons-at : WhatBegins → (sexp : Bool) (c : Cursor) (p : ℕ) (bytes : List ℕ) → blanks c ≡ Ok (at p bytes)
+    → starts bytes ≡ true → NoColons sexp c
+unfolding next_token
+no-colons-at law sexp c p bytes blank first q d tok =
+    let e = rw blank at tok in
+    cut-other p q d (token_of None (first_at sexp bytes) (at p bytes))
+    (λ e. not-colons (first_at sexp bytes) (at p bytes) e (start-other law sexp bytes first)) e
+
+pub no-colons : WhatBegins → (sexp : Bool) (p : ℕ) (bytes : List ℕ) → After bytes → NoColons sexp (at p bytes)
+no-colons law sexp p _ (After.at_comma {bytes}) =
+    no-colons-at law sexp (at p (44 ∷ bytes)) p (44 ∷ bytes) (no-blanks p (44 ∷ bytes) refl) refl
+no-colons law sexp p _ (After.at_list_end {bytes}) =
+    no-colons-at law sexp (at p (93 ∷ bytes)) p (93 ∷ bytes) (no-blanks p (93 ∷ bytes) refl) refl
+no-colons law sexp p _ (After.at_sexp_end {bytes}) =
+    no-colons-at law sexp (at p (41 ∷ bytes)) p (41 ∷ bytes) (no-blanks p (41 ∷ bytes) refl) refl
+no-colons law sexp p _ (After.at_struct_end {bytes}) =
+    no-colons-at law sexp (at p (125 ∷ bytes)) p (125 ∷ bytes) (no-blanks p (125 ∷ bytes) refl) refl
+no-colons law sexp p _ (After.at_space {bytes} s) =
+    no-colons-at law sexp (at p (32 ∷ bytes)) (suc p) bytes (one-space p bytes s) s
+no-colons law sexp p _ (After.at_line {bytes} s) =
+    no-colons-at law sexp (at p (10 ∷ bytes)) (suc p) bytes (one-line p bytes s) s

@@ -4,8 +4,8 @@ use Rattle.std.proofs.lemmas.List.{length-append}
 use Rattle.ion_meter.specs.declared.limits.Limits.{Limits}
 use Rattle.ion_value.specs.declared.ion_type.Kind.{Kind}
 use Rattle.ion_value.specs.Value as value
-use Rattle.ion_value.specs.Value.{Symbol, SymbolAt, Scalar, Value, Members, Top, PlacedItem, bare_item, value_items, member_items, one_top, top_items}
-use Rattle.ion_value.specs.Path.{Path, closed, opened, nest_items, path_items}
+use Rattle.ion_value.specs.Value.{SymbolAt, Value, Members, Top, PlacedItem, value_items, member_items, one_top, top_items}
+use Rattle.ion_value.specs.Path.{Path, closed, opened, nest_items, path_items, open_in}
 use Rattle.ion_value.specs.Reading.{Reading, Finished, items_of, items_then, Ends, Gives, GoesOn, reading_by, Shrinks}
 use Rattle.ion_value.specs.ReadingLaws.{Allows}
 use Rattle.ion_value.proofs.ReadingLaws.{prefixes}
@@ -13,7 +13,7 @@ use Rattle.ion_value.proofs.Readings.{reading_by-ends, reading_by-gives, reading
 use Rattle.ion_value.proofs.Paths.{same_path}
 use Rattle.ion_binary.specs.Grammar.{IsNopPad, Annotated, Bin, Inside, Tops}
 use Rattle.ion_binary.specs.Laws.{Bodies, Complete, StreamsAreRead, OnePath, OneStream}
-use Rattle.ion_binary.specs.Paths.{FieldIn, Within, frame_of, open_in, Spells}
+use Rattle.ion_binary.specs.Paths.{FieldIn, Within, frame_of, Spells}
 use Rattle.ion_binary.specs.Positions.{placed_scalar, Frame, State}
 use Rattle.ion_binary.specs.Reading.{Around, TypedValue, a_nop_pad, a_marker, a_scalar, a_container, placed_item, step_for, region_of, top_of, step, size, start, reading}
 use Rattle.ion_binary.proofs.Fitting.{BinFits, InsideFits, TopsFit, SpellsFit, Tops-allowed, Spells-allowed}

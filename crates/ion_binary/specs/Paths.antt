@@ -2,7 +2,7 @@
 use Rattle.std.specs.Prelude.{◌≡◌, ℕ, ◌+◌, ◌≤◌, List, [], ◌∷◌, ◌++◌, length, Option, None}
 use Rattle.ion_value.specs.declared.ion_type.Kind.{Kind}
 use Rattle.ion_value.specs.Value.{SymbolAt, Members, Top}
-use Rattle.ion_value.specs.Path.{outermost, inner, Path, closed, opened, path_items}
+use Rattle.ion_value.specs.Path.{Path, closed, opened, path_items, open_in}
 use Rattle.ion_value.specs.Reading.{Step, Ends, Stops, Gives, GoesOn}
 use Rattle.ion_binary.specs.Positions.{Frame, State}
 use Rattle.ion_meter.specs.Sources.{Cursor}
@@ -21,12 +21,6 @@ Within (frame ∷ frames) q = q ≤ frame.end
 -- an open container by its kind and the place of its end
 abbrev pub frame_of : Kind → ℕ → Frame
 frame_of k end = record { kind = k; end = end }
-
--- the path after a container's beginning and some of its members
-abbrev pub open_in : Path SymbolAt ℕ → ℕ → Option SymbolAt → List SymbolAt → ℕ → Kind → Members SymbolAt ℕ → Path SymbolAt ℕ
-open_in (closed ts) q f annotations h k ms = opened ts q (outermost annotations h k ms)
-open_in (opened ts first nest) q f annotations h k ms =
-    opened ts first (inner nest f annotations h k ms)
 
 -- the bytes spell the path, whose open containers end at these places, which the input may not reach; each lies within those around it
 pub data Spells : Path SymbolAt ℕ → List Frame → List ℕ → Type 0 where

@@ -10,8 +10,8 @@ use Rattle.ion_value.specs.declared.ion_type.Kind.TheVariants as kind
 use Rattle.ion_value.specs.Digits.{cut_at}
 use Rattle.ion_value.specs.Name.{version_word}
 use Rattle.ion_value.specs.Value as value
-use Rattle.ion_value.specs.Value.{Symbol, SymbolAt, Scalar, Value, Members, Top, PlacedItem, bare_item, value_items, member_items, top_items}
-use Rattle.ion_value.specs.Path.{Path, closed, opened, begin_item, nest_items, path_items}
+use Rattle.ion_value.specs.Value.{SymbolAt, Scalar, Value, Members, Top, PlacedItem, value_items, member_items, top_items}
+use Rattle.ion_value.specs.Path.{Path, closed, opened, begin_item, nest_items, path_items, open_in}
 use Rattle.ion_value.specs.Reading.{Reading, Finished, More, items_then, Step, Ends, Gives, GoesOn, reading_by}
 use Rattle.ion_value.proofs.Readings.{items_then-append, reading_by-ends, reading_by-gives, reading_by-goes_on}
 use Rattle.ion_meter.specs.Sources.{Cursor}
@@ -22,12 +22,12 @@ use Rattle.ion_text_in.specs.Reading as reading
 use Rattle.ion_text_in.specs.Positions.{Wants, a_value, a_field, a_separator, State, innermost, in_sexp, has_commas, at, first_place}
 use Rattle.ion_text_in.specs.Reading.{member_of, at_member, after_member, top_of, item_of, cost, tells_version, after_colons, step, step_of, take, size, start}
 use Rattle.ion_text_in.specs.Grammar.{Tok, Annotations, Field, Txt, Inside, Tops, start_of}
-use Rattle.ion_text_in.specs.Paths.{open_in, Spells, IsTop}
+use Rattle.ion_text_in.specs.Paths.{Spells, IsTop}
 use Rattle.ion_text_in.specs.Laws.{Complete, StreamsAreRead, PathsWithinAreRead, StreamsWithinAreRead}
 use Rattle.ion_text_in.specs.Meaning.{counts}
 use Rattle.ion_text_in.specs.Within.{TokenWithin, NamesWithin, AnnotationsWithin, FieldWithin, TxtWithin, InsideWithin, TopsWithin, PathWithin}
 use Rattle.ion_text_in.proofs.Advancing.{tops-allowed, path-allowed}
-use Rattle.ion_text_in.proofs.Growing.{Fits}
+use Rattle.ion_value.proofs.GrowingPaths.{Fits}
 use Rattle.ion_text_in.proofs.Steps.{colons-none, version-none, fits}
 use Rattle.ion_text_in.proofs.Falling.{each_step_falls}
 use Rattle.ion_text_in.proofs.Tokens.{state, Suits, value-suits, mark-suits, end-suits, naming-suits, step-token, colons-stand, colon-stands}

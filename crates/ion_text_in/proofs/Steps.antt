@@ -10,7 +10,7 @@ use Rattle.ion_value.specs.declared.ion_type.Kind.TheVariants as kind
 use Rattle.ion_value.specs.Name.{is_version, version_word}
 use Rattle.ion_value.specs.Value as value
 use Rattle.ion_value.specs.Value.{Symbol, SymbolAt, Scalar, Value, PlacedItem}
-use Rattle.ion_value.specs.Path.{Path, closed, opened, Nest, outermost, inner, path_items}
+use Rattle.ion_value.specs.Path.{Path, closed, opened, Nest, outermost, inner, path_items, open_in}
 use Rattle.ion_value.specs.Reading.{Step, Gives, GoesOn}
 use Rattle.ion_meter.specs.Sources.{Cursor, skip}
 use Rattle.ion_value.specs.Parts.{Placed, part, refuse, ◌>>=◌, ◌>>◌}
@@ -20,10 +20,11 @@ use Rattle.ion_text_in.specs.Reading as reading
 use Rattle.ion_text_in.specs.Positions.{Wants, a_value, a_field, a_separator, State, innermost, in_sexp, has_commas, at, first_place}
 use Rattle.ion_text_in.specs.Reading.{at_member, after_member, may_come, top_of, item_of, tells_version, is_marker, after_colons, step, step_of, take, part_at}
 use Rattle.ion_text_in.specs.Grammar.{Tok, NoColons, IsVersionWord, bare, Annotations, Field, Txt, start_of}
-use Rattle.ion_text_in.specs.Paths.{open_in, Spells, Begun, at_separator, at_field, in_item, IsTop, At, Follows}
+use Rattle.ion_text_in.specs.Paths.{Spells, Begun, at_separator, at_field, in_item, IsTop, At, Follows}
 use Rattle.ion_text_in.proofs.TokenCuts.{token-free}
 use Rattle.ion_text_in.proofs.Tokens.{colons-stand}
-use Rattle.ion_text_in.proofs.Growing.{Fits, put_in, mark_in, end_in, path_items-put_in, path_items-mark_in, path_items-open_in, path_items-end_in, Spells-value, Spells-marker, Spells-comma, Spells-begin, Spells-end}
+use Rattle.ion_value.proofs.GrowingPaths.{Fits, put_in, mark_in, end_in, path_items-put_in, path_items-mark_in, path_items-open_in, path_items-end_in}
+use Rattle.ion_text_in.proofs.Growing.{Spells-value, Spells-marker, Spells-comma, Spells-begin, Spells-end}
 
 -- ---- tokens as the reading cuts them
 

@@ -3,20 +3,13 @@ use Rattle.std.specs.Prelude.{◌≡◌, ℕ, Bool, true, false, List, [], ◌�
 use Rattle.ion_value.specs.declared.ion_type.Kind.{Kind}
 use Rattle.ion_value.specs.declared.ion_type.Kind.TheVariants as kind
 use Rattle.ion_value.specs.Value.{SymbolAt, Members, Top}
-use Rattle.ion_value.specs.Path.{outermost, inner, Path, closed, opened, path_items}
+use Rattle.ion_value.specs.Path.{Path, closed, opened, path_items, open_in}
 use Rattle.ion_value.specs.Reading.{Step, Ends, Stops, Gives, GoesOn}
 use Rattle.ion_meter.specs.Sources.{Cursor}
 use Rattle.ion_text_in.specs.Blanks.{blanks}
 use Rattle.ion_text_in.specs.Token.{begin}
 use Rattle.ion_text_in.specs.Positions.{Wants, a_value, a_field, a_separator, State, innermost, in_sexp, first_place}
 use Rattle.ion_text_in.specs.Grammar.{Tok, Annotations, Field, Inside, Tops, start_of}
-
--- the path after a container's beginning and some of its members
-abbrev pub open_in : Path SymbolAt ℕ → ℕ → Option SymbolAt → List SymbolAt → ℕ → Kind → Members SymbolAt ℕ
-    → Path SymbolAt ℕ
-open_in (closed tops) q field annotations p k members =
-    opened tops q (outermost annotations p k members)
-open_in (opened tops first nest) q field annotations p k members = opened tops first (inner nest field annotations p k members)
 
 -- between the cursors b and c stand the items of the path, of which these containers are open; where the innermost is
 -- full, a comma or its end comes next

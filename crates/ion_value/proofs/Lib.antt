@@ -28,6 +28,7 @@ pub mod Readings
 pub mod ReadingLaws
 pub mod Faults
 pub mod Paths
+pub mod GrowingPaths
 pub mod Items
 pub mod Outcomes
 pub mod ValueRows

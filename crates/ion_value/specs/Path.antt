@@ -35,6 +35,11 @@ abbrev pub with_member : {S P : Type 0} → Nest S P → Option S → List S →
 with_member (outermost annotations place kind members) f own at value = outermost annotations place kind (member members f own at value)
 with_member (inner around g annotations place kind members) f own at value = inner around g annotations place kind (member members f own at value)
 
+-- the path after a container's beginning and some of its members
+abbrev pub open_in : {S P : Type 0} → Path S P → P → Option S → List S → P → Kind → Members S P → Path S P
+open_in (closed tops) first f annotations place kind members = opened tops first (outermost annotations place kind members)
+open_in (opened tops first nest) top f annotations place kind members = opened tops first (inner nest f annotations place kind members)
+
 -- the path after the innermost container's end: whole top-level values, the open one's place, its containers, the end's place
 abbrev pub with_end : {S P : Type 0} → List (Top S P) → P → Nest S P → P → Path S P
 with_end tops first (outermost annotations place kind members) last = closed (tops ++ tree first annotations place (container kind members last) ∷ [])

@@ -102,7 +102,7 @@ blanks-preserved g c =
     let fits = taken q c.in_ok-peek.field-0 count two.well.1 (given-kept device p q 0 two.kept (rw c.in-Some.is at one.byte).0) two.byte few.1 few.2 in
     let over = Passed-lent device w q u count reads.stands kept two.well.1 fits c.consume.ensures in
     let before = rw reads.stands.well at one.count in
-    let after = rw one.well.1 at two.count in
+    let later = rw one.well.1 at two.count in
     let still : device.failure_count q.device ≡ device.failure_count w.device = omega (arith, before, later) in
     record {
       gone = gone-then device s0 w u (gone-then device s0 s w c.blanks.invariant.gone (reads-gone device s w c.in_ok-pass_run.field-0 reads))

@@ -424,7 +424,7 @@ items-preserved g c =
     let further : Joint g.row.W.Denot =
     record { coming = coming_to r.reading c.feed-fed.new.self; opened = r.opened c.feed-fed.new.self.raw; writer = c.feed-fed.new.writer; pending = c.feed-fed.new.sink.pending; values = c.feed-fed.result.values } in
     let reads = r.observable c.args.reader.now.raw in
-    let feeds : Feeds w (λ x. x) reads before after = feeds-under w (λ o. c.next.ensures.observable.1 (i.read.1 o)) c.feed-fed.ensures.feeds in
+    let feeds : Feeds w (λ x. x) reads before further = feeds-under w (λ o. c.next.ensures.observable.1 (i.read.1 o)) c.feed-fed.ensures.feeds in
     let fed = walk-same (walk-feeds w limits reads (out.observable c.args.sink.now.device) _ _ (out.written c.item.new.sink.device) c.values_after-ended.result before further (g.met.W.ValueWriter.grows limits)
     (c.item.ensures.limits ∙ i.limits) feeds (walk-same with_item (λ _. refl) (sym (add-zero _)))) (λ _. ap (λ d. out.written d ++ c.feed-fed.new.sink.pending) kept.device) refl in
     let at_fed : out.observable c.args.sink.now.device → out.observable c.feed-fed.new.sink.device = λ o. subst out.observable (sym kept.device) (at o) in

@@ -1,14 +1,12 @@
 -- An item that a window shows whole is the next one of the reading.
-use Rattle.std.proofs.Common.{◌≡◌, ℕ, ◌+◌, ◌-◌, ◌*◌, ◌<◌, ◌≤◌, Bool, true, false, List, [], ◌∷◌, ◌++◌, length, take, drop, map, Option, Some, None, Ok, refl, ap, ap₂, sym, subst, ◌∙◌, arith}
+use Rattle.std.proofs.Common.{◌≡◌, ℕ, ◌+◌, ◌-◌, ◌*◌, ◌<◌, ◌≤◌, Bool, true, false, List, [], ◌∷◌, ◌++◌, length, drop, map, Option, Some, None, Ok, refl, ap, ap₂, sym, subst, ◌∙◌, arith}
 use Rattle.std.specs.Prelude.{option_map, is_some, slice_get, IfSome, ◌==◌, ◌&&◌, not}
 use Rattle.std.proofs.lemmas.Option.{slice_get-get_or}
 use Rattle.std.proofs.lemmas.Grind.{common_steps}
-use Rattle.std.proofs.lemmas.List.{take-append-drop, take_all}
 use Rattle.ion_meter.specs.Sources.{Cursor, cursor, skip}
 use Rattle.ion_meter.specs.Windows.{Incoming, left, lent}
 use Rattle.ion_meter.specs.declared.device.Input.{Ghosts as InputOf}
 use Rattle.ion_meter.specs.declared.limits.Limits.{Limits}
-use Rattle.ion_meter.proofs.Lent.{lent-take}
 use Rattle.ion_value.specs.declared.ion_type.Kind.{Kind}
 use Rattle.ion_value.specs.declared.ion_type.Kind.TheVariants as kind
 use Rattle.ion_value.specs.Digits.{first_is}
@@ -25,8 +23,10 @@ use Rattle.ion_binary.specs.Positions.{Frame, placed_scalar, symbol_id}
 use Rattle.ion_binary.specs.Descriptor.{var_uint_at}
 use Rattle.ion_binary.specs.Reading.{field_at, member_at, placed_item, region_of, step, step_for, step_of, top_of}
 use Rattle.ion_binary.specs.Reader.{IsInnermost, at_top, inside}
-use Rattle.ion_binary.specs.Shown.{Bounds, Reaches, ShowsItem, ShowsNote, ShowsVar, noted_ids, second_id, shown_value, window}
-use Rattle.ion_binary.proofs.ShownParts.{reaches-less, shows_noted, shows_plain}
+use Rattle.ion_binary.specs.Scanned.{Reaches, window}
+use Rattle.ion_binary.specs.Shown.{Bounds, ShowsItem, ShowsNote, ShowsVar, noted_ids, second_id, shown_value}
+use Rattle.ion_binary.proofs.ScannedParts.{left-window, reaches-less}
+use Rattle.ion_binary.proofs.ShownParts.{shows_noted, shows_plain}
 use Rattle.ion_value.specs.declared.plain_item.TextAt.{TextAt}
 use Rattle.ion_meter.specs.Windows.{IsPassed}
 use Rattle.ion_value.specs.declared.writer.ValueWriter.{Ghosts as WriterOf}
@@ -50,13 +50,6 @@ use Rattle.ion_binary.specs.declared.reader.front.Level.TheVariants as level
 use Rattle.ion_binary.specs.declared.reader.front.Around.{Around}
 use Rattle.ion_binary.specs.Wrappers.{as_frame, as_frames, innermost}
 use Rattle.ion_binary.proofs.ReaderParts.{innermost-field, innermost-region, inside-member, member_at-field, top-member}
-
--- what is left of a source is what its window lends, and more
-pub left-window : {I : Type 0} (device : InputOf I) (s : Incoming I) → cursor device s ≡ window s.place (lent s) (drop (length (lent s)) (left device.rest s))
-left-window device s =
-    let n = length (lent s) in
-    let prefix : take n (left device.rest s) ≡ lent s = lent-take device.rest s n (omega arith) ∙ take_all n (lent s) (omega arith) in
-    ap (λ (l : List ℕ). record { place = s.place; rest = l }) (sym (take-append-drop n (left device.rest s)) ∙ ap (λ l. l ++ drop n (left device.rest s)) prefix)
 
 step-top : (limits : Limits) (frames : List Frame) (top here : ℕ) (octets more : List ℕ) → frames ≡ [] → 0 < length octets
     → step limits (record { frames = frames; top = top; cursor = window here octets more }) ≡ step_of (member_at limits frames top (window here octets more))

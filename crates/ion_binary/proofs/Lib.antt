@@ -2,6 +2,7 @@ mod Rows
 mod Elements
 mod Termination
 mod VarLoop
+mod ScannedParts
 mod TimestampsSpelled
 mod TimestampsRead
 mod Bodies
@@ -52,6 +53,7 @@ mod ShortSymbols
 mod BodyParts
 mod TypedValueCode
 mod WrapperCode
+mod ReadParts
 mod Annotations
 mod ValueParts
 mod ReaderParts

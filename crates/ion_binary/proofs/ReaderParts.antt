@@ -17,8 +17,8 @@ use Rattle.ion_value.specs.Reading.{Step, Ends, Stops, Gives, GoesOn}
 use Rattle.ion_value.specs.Shares.{Charges}
 use Rattle.ion_value.specs.Standing.{Fits, InRange, in_struct}
 use Rattle.ion_binary.specs.declared.body.Body.{Body}
-use Rattle.ion_binary.specs.declared.typed_value.TypedValue as typed
-use Rattle.ion_binary.specs.declared.typed_value.TypedValue.TheVariants as finds
+use Rattle.ion_binary.specs.declared.value.TypedValue as typed
+use Rattle.ion_binary.specs.declared.value.TypedValue.TheVariants as finds
 use Rattle.ion_binary.specs.declared.wrapper.Field as field
 use Rattle.ion_binary.specs.declared.wrapper.Frame as frame
 use Rattle.ion_binary.specs.declared.reader.BinReader.{BinReader}

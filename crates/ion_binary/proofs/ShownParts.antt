@@ -1,11 +1,9 @@
 -- What a window shows is what reading gives, whatever follows it.
-use Rattle.std.proofs.Common.{◌≡◌, ℕ, suc, ◌+◌, ◌*◌, ◌-◌, ◌%◌, ◌<◌, ◌≤◌, Bool, true, false, ◌&&◌, leb, ltb, List, [], ◌∷◌, ◌++◌, length, take, drop, get_or, Option, Some, None, Result, Ok, refl, ap, sym, subst, ◌∙◌, arith, add-one}
+use Rattle.std.proofs.Common.{◌≡◌, ℕ, suc, ◌+◌, ◌*◌, ◌-◌, ◌%◌, ◌<◌, ◌≤◌, Bool, true, false, ◌&&◌, leb, ltb, List, [], ◌∷◌, ◌++◌, length, take, drop, get_or, Option, Some, None, Result, Ok, refl, ap, sym, subst, ◌∙◌, arith}
 use Rattle.std.specs.Prelude.{IfSome, ◌||◌, nat_eq, nat_le, nat_lt, zero}
 use Rattle.std.proofs.lemmas.Bool.{agree_below_at, le-leb, le-ltb, lt-leb, ne_eqb}
 use Rattle.std.proofs.lemmas.Grind.{common_steps}
-use Rattle.std.proofs.Math.ListN.{get_or-append}
-use Rattle.std.proofs.Math.Seq.{drop-cons}
-use Rattle.std.proofs.lemmas.List.{take-append-le, drop-append-le, drop-drop}
+use Rattle.std.proofs.lemmas.List.{take-append-le, drop-append-le}
 use Rattle.ion_meter.specs.Sources.{Cursor, skip}
 use Rattle.ion_meter.specs.declared.fault.Reason.{Reason}
 use Rattle.ion_meter.specs.declared.limits.Limits.{Limits}
@@ -15,31 +13,24 @@ use Rattle.ion_value.specs.Scalar.{scalar_of_body}
 use Rattle.ion_value.specs.Value as value
 use Rattle.ion_value.specs.Value.{Symbol, SymbolAt, Scalar}
 use Rattle.ion_binary.specs.Positions.{symbol_id}
-use Rattle.ion_binary.specs.Descriptor.{Region, Shape, null, bool, nop_pad, wrapper, body, container, sorted, marker, float, illegal, first_octet, is_at_end, is_unwrappable, octet_at, length_at, passes, shape_of, var_uint_at}
-use Rattle.ion_binary.specs.Finds.{end_by, IsOfDescriptor}
+use Rattle.ion_binary.specs.Descriptor.{Region, Shape, null, bool, nop_pad, wrapper, body, container, sorted, marker, float, illegal, is_unwrappable, length_at, passes, shape_of, var_uint_at}
+use Rattle.ion_binary.specs.Finds.{end_by}
 use Rattle.ion_binary.specs.Parts.{body_here}
 use Rattle.ion_binary.specs.Reading.{TypedValue, a_scalar, bare_at, fits, ids_at, inner_at, read_by_descriptor, typed_value_at, wrapper_length}
-use Rattle.ion_binary.specs.Shown.{Bounds, Fills, IsShown, Reaches, ShowsBegin, ShowsBody, ShowsItem, ShowsLength, ShowsNote, ShowsSecond, ShowsValue, ShowsVar, far_end, noted_ids, second_id, shown_scalar, shown_value, window}
+use Rattle.ion_binary.specs.Scanned.{Reaches, window}
+use Rattle.ion_binary.specs.Shown.{Bounds, Fills, IsShown, ShowsBegin, ShowsBody, ShowsItem, ShowsLength, ShowsNote, ShowsSecond, ShowsValue, ShowsVar, far_end, noted_ids, second_id, shown_scalar, shown_value}
 use Rattle.ion_binary.specs.declared.shown.Shown.{Shown}
 use Rattle.ion_binary.specs.declared.shown.ShownNote.{ShownNote}
 use Rattle.ion_binary.specs.declared.shown.Shown.TheVariants as shown
 use Rattle.ion_binary.specs.declared.shown.ShownScalar.TheVariants as scalars
 use Rattle.ion_value.specs.declared.ion_type.IonType.{IonType}
-use Rattle.ion_binary.proofs.TypedValueCode.{container_at-begun, scalar_at-body, shape_of-is_of_descriptor}
+use Rattle.ion_binary.proofs.ScannedParts.{octet_shown, reaches-less, skip-skip}
+use Rattle.ion_binary.proofs.TypedValueCode.{container_at-begun, scalar_at-body}
 use Rattle.ion_binary.proofs.ValueParts.{annotated_at-wrapper, inner_at-octet, value_at-plain, value_at-wrapper}
 use Rattle.ion_binary.proofs.WrapperCode.{wrapper_at-tested}
 use Rattle.ion_binary.proofs.VarLoop.{var_from-ends, var_from-goes_on, var_uint_at-prefix}
 
 -- ---- octets
-
--- a region that reaches after an octet has not ended before it
-open_before : (r : Region) (place after : ℕ) → place < after → Reaches r after → is_at_end r place ≡ false
-open_before None place after h reaches = refl
-open_before (Some end) place after h reaches = lt-leb end place (omega arith)
-
-pub reaches-less : (r : Region) (near far : ℕ) → near ≤ far → Reaches r far → Reaches r near
-reaches-less None near far h reaches = tt
-reaches-less (Some end) near far h reaches = omega arith
 
 -- a place up to the bound of a region is in it
 pub bounds-reaches : (region : Region) (most place : ℕ) → Bounds region most → place ≤ most → Reaches region place
@@ -72,18 +63,6 @@ begin_within {here = here} {after = after} region most bounds s = record {
   deep = s.deep;
   reaches = bounds-reaches region most (here + after + s.number) bounds s.reaches;
 }
-
--- the first of the octets from a place on
-drop-first : (octets more : List ℕ) (at : ℕ) → at < length octets → drop at (octets ++ more) ≡ get_or octets at 0 ∷ drop (at + 1) (octets ++ more)
-drop-first octets more at h = rw add-one (drop-cons (octets ++ more) at 0 (grind (arith, common_steps)) ∙ ap (λ x. x ∷ drop (suc at) (octets ++ more)) (get_or-append octets more 0 at h))
-
-pub octet_shown : (octets more : List ℕ) (at here : ℕ) (r : Region) → at < length octets → Reaches r (here + (at + 1))
-    → octet_at r (skip at (window here octets more)) ≡ Ok (get_or octets at 0, skip (at + 1) (window here octets more))
-unfolding octet_at
-octet_shown octets more at here r h reaches =
-    let starts : is_at_end r (here + at) ≡ false = open_before r (here + at) (here + (at + 1)) (omega arith) reaches in
-    rw starts (ap (first_octet (here + at)) (drop-first octets more at h)
-    ∙ ap (λ p. Ok (get_or octets at 0, record { place = p; rest = drop (at + 1) (octets ++ more) })) (omega arith))
 
 -- ---- lengths
 
@@ -271,12 +250,6 @@ body_shown limits octets more here from n type_code v h few meaning =
     let reads : scalar_of_body type_code (take n (drop from (octets ++ more))) ≡ Ok v = ap (scalar_of_body type_code) (body_octets octets more from n h) ∙ meaning in
     rw (short, there, reads) refl
 
-skip-skip : (octets more : List ℕ) (here m n after : ℕ) → after ≡ m + n → skip n (skip m (window here octets more)) ≡ skip after (window here octets more)
-skip-skip octets more here m n after e =
-    let place : here + m + n ≡ here + after = omega arith in
-    let rest : drop n (drop m (octets ++ more)) ≡ drop after (octets ++ more) = drop-drop n m (octets ++ more) ∙ ap (λ k. drop k (octets ++ more)) (omega arith) in
-    rw (place, rest) refl
-
 -- a scalar with a body
 pub shows_body : (limits : Limits) (octets : List ℕ) (here : ℕ) (r : Region) (depth at after type_code length_code : ℕ) (found : Shown) (b : ℕ)
     → at < length octets → b < 256 → get_or octets at 0 ≡ b → shape_of b ≡ body type_code length_code → ShowsBody limits octets here r type_code length_code at after found
@@ -409,7 +382,3 @@ shows_two octets at h low high small = record {
   within = omega arith;
   gives = λ here more r reaches. var_two octets more at here r h low high reaches ∙ ap (λ n. Ok (n, skip (at + 2) (window here octets more))) (omega arith);
 }
-
--- what the code says of a descriptor
-pub shape_read : (b : ℕ) (s : Shape) → s ≡ shape_of b → IsOfDescriptor s
-shape_read b s e = subst IsOfDescriptor (sym e) (shape_of-is_of_descriptor b)

@@ -1,28 +1,23 @@
 -- What a part is found to be, one call after the other.
-use Rattle.std.proofs.Common.{rules, arith, refl, sym, ap, subst, ◌∙◌, ◌≡◌, ℕ, zero, suc, ◌+◌, ◌/◌, ◌%◌, ◌<◌, ◌≤◌, Bool, true, false, not, ◌&&◌, eqb, ltb, List, [], ◌∷◌, length, take, inl, inr, Some, None, Result, Ok, Err}
+use Rattle.std.proofs.Common.{rules, arith, refl, sym, ap, subst, ◌∙◌, ◌≡◌, ℕ, zero, suc, ◌+◌, ◌/◌, ◌%◌, ◌<◌, ◌≤◌, Bool, true, false, not, ◌&&◌, eqb, ltb, List, [], ◌∷◌, length, take, inl, inr, None, Result, Ok, Err}
 use Rattle.std.specs.Prelude.{slice_get, slice_index_or}
 use Rattle.std.specs.List.{AllByRecursion}
-use Rattle.std.specs.Option.{is_some}
 use Rattle.std.specs.Cmp.Lexicographic.{pointwise}
 use Rattle.std.proofs.lemmas.List.{length-append}
-use Rattle.std.proofs.lemmas.Bool.{eqb-false, ne_eqb, cases_Bool}
-use Rattle.ion_meter.specs.declared.fault.Fault.{Fault}
-use Rattle.ion_meter.specs.declared.fault.Fault.TheVariants.{Refused, Memory, ReadFault, WriteFault, InputLimit}
-use Rattle.ion_meter.specs.declared.fault.Reason.{Reason}
-use Rattle.ion_meter.specs.declared.fault.Reason.TheVariants.{BadDescriptor, BadAnnotation, BadVersion, ScalarLimit, Truncated}
+use Rattle.std.proofs.lemmas.Bool.{eqb-false, cases_Bool}
+use Rattle.ion_meter.specs.declared.fault.Reason.TheVariants.{BadVersion, ScalarLimit, Truncated}
 use Rattle.ion_meter.specs.declared.limits.Limits.{Limits}
 use Rattle.ion_meter.specs.Windows.{Incoming, left, lent}
 use Rattle.ion_meter.proofs.Lent.{lent-take, lent-CanPass}
 use Rattle.ion_value.specs.declared.ion_type.Kind.{Kind}
-use Rattle.ion_value.specs.declared.ion_type.Kind.TheVariants as kind
 use Rattle.ion_value.specs.Scalar.{scalar_of_body}
 use Rattle.ion_meter.specs.Sources.{Cursor, skip}
 use Rattle.ion_value.specs.Parts.{◌>>=◌, ◌>>◌, refuse}
-use Rattle.ion_binary.specs.Descriptor.{Region, Shape, bool_shape, struct_shape, wrapper_shape, null_shapes, sized_shapes, shape_of, length_at, var_uint_at, is_unwrappable}
-use Rattle.ion_binary.specs.Reading.{Around, a_marker, a_scalar, a_container, marker_rest, marker_at, fits, body_at, scalar_at, begin_at, container_at, sorted_at, read_by_descriptor, typed_value_at}
+use Rattle.ion_binary.specs.Descriptor.{Shape, bool_shape, struct_shape, wrapper_shape, null_shapes, sized_shapes, shape_of, length_at}
+use Rattle.ion_binary.specs.Reading.{Around, a_marker, a_scalar, a_container, marker_rest, fits, body_at, scalar_at, begin_at, container_at}
 use Rattle.ion_binary.specs.Finds.{end_by, IsOfDescriptor}
-use Rattle.ion_value.specs.Answers.{Answers}
 use Rattle.ion_binary.specs.Parts.{body_here}
+use Rattle.ion_binary.specs.Scanned.{version_at}
 
 -- ---- steps one after the other
 
@@ -44,16 +39,6 @@ bind-mapped (Ok p) (Ok q) (Err e) c f = refl
 bind-mapped (Ok p) (Err e) t c f = refl
 bind-mapped (Err e) s t c f = refl
 
--- what is made of a call's answer
-pub answers-mapped : {T A B : Type 0} (view : T → A) (f : A → B) (r : Result T Fault) (after : Cursor) (place : ℕ) (one : Result (A × Cursor) Reason) (all : Result (B × Cursor) Reason)
-    → Answers view r after place one → all ≡ (one >>= λ p. beside f p.1 p.0) → Answers (λ x. f (view x)) r after place all
-answers-mapped view f (Ok x) after place one all h e = e ∙ ap (λ o. o >>= λ p. beside f p.1 p.0) h
-answers-mapped view f (Err (Refused reason at)) after place one all h e = (e ∙ ap (λ o. o >>= λ p. beside f p.1 p.0) h.0, h.1)
-answers-mapped view f (Err Memory) after place one all h e = tt
-answers-mapped view f (Err ReadFault) after place one all h e = tt
-answers-mapped view f (Err WriteFault) after place one all h e = tt
-answers-mapped view f (Err InputLimit) after place one all h e = tt
-
 -- ---- the header of a container
 
 -- the header of a container is known by the place of its end
@@ -61,22 +46,8 @@ begin_at-ends : (limits : Limits) (a : Around) (k : Kind) (n : ℕ) (c : Cursor)
 unfolding begin_at
 begin_at-ends limits a k n c = then-mapped (fits a c.place n) _ (c.place + n) (λ end. (a_container k end, c))
 
--- where no end is given there is no header
-begin_at-refused : (limits : Limits) (a : Around) (k : Kind) (n : ℕ) (c : Cursor) (e : Reason) → end_by limits a c.place n ≡ Err e → begin_at limits a k n c ≡ Err e
-begin_at-refused limits a k n c e h = begin_at-ends limits a k n c ∙ ap (λ r. r >>= λ end. Ok (a_container k end, c)) h
-
 begin_at-begun : (limits : Limits) (a : Around) (k : Kind) (n : ℕ) (c : Cursor) (end : ℕ) → end_by limits a c.place n ≡ Ok end → begin_at limits a k n c ≡ Ok (a_container k end, c)
 begin_at-begun limits a k n c end h = begin_at-ends limits a k n c ∙ ap (λ r. r >>= λ end. Ok (a_container k end, c)) h
-
-pub container_at-no_length : (limits : Limits) (a : Around) (k : Kind) (length_code : ℕ) (c : Cursor) (e : Reason) → length_at length_code a.region c ≡ Err e → container_at limits a k length_code c ≡ Err e
-unfolding container_at
-container_at-no_length limits a k length_code c e h = rw h refl
-
--- a length that does not fit, or a container too deep
-pub container_at-refused : (limits : Limits) (a : Around) (k : Kind) (length_code : ℕ) (c : Cursor) (n : ℕ) (d : Cursor) (e : Reason)
-    → length_at length_code a.region c ≡ Ok (n, d) → end_by limits a d.place n ≡ Err e → container_at limits a k length_code c ≡ Err e
-unfolding container_at
-container_at-refused limits a k length_code c n d e h m = rw h (begin_at-refused limits a k n d e m)
 
 -- a container begins after its length
 pub container_at-begun : (limits : Limits) (a : Around) (k : Kind) (length_code : ℕ) (c : Cursor) (n : ℕ) (d : Cursor) (end : ℕ)
@@ -84,41 +55,7 @@ pub container_at-begun : (limits : Limits) (a : Around) (k : Kind) (length_code 
 unfolding container_at
 container_at-begun limits a k length_code c n d end h m = rw h (begin_at-begun limits a k n d end m)
 
-pub sorted_at-no_length : (limits : Limits) (a : Around) (c : Cursor) (e : Reason) → var_uint_at a.region c ≡ Err e → sorted_at limits a c ≡ Err e
-unfolding sorted_at
-sorted_at-no_length limits a c e h = rw h refl
-
--- a struct whose fields are in order is not empty
-pub sorted_at-empty : (limits : Limits) (a : Around) (c : Cursor) (n : ℕ) (d : Cursor) → var_uint_at a.region c ≡ Ok (n, d) → n ≡ 0 → sorted_at limits a c ≡ Err BadDescriptor
-unfolding sorted_at
-sorted_at-empty limits a c n d h z = rw (h, z) refl
-
--- one of some octets begins as other structs do
-sorted_at-some : (limits : Limits) (a : Around) (c : Cursor) (n : ℕ) (d : Cursor) → var_uint_at a.region c ≡ Ok (n, d) → 0 < n → sorted_at limits a c ≡ begin_at limits a kind.Struct n d
-unfolding sorted_at
-sorted_at-some limits a c n d h some = let f : eqb n 0 ≡ false = ne_eqb n 0 (λ z. omega (arith, some, z)) in rw (h, f) refl
-
--- a length that does not fit, or a struct too deep
-pub sorted_at-refused : (limits : Limits) (a : Around) (c : Cursor) (n : ℕ) (d : Cursor) (e : Reason)
-    → var_uint_at a.region c ≡ Ok (n, d) → 0 < n → end_by limits a d.place n ≡ Err e → sorted_at limits a c ≡ Err e
-sorted_at-refused limits a c n d e h z m = sorted_at-some limits a c n d h z ∙ begin_at-refused limits a kind.Struct n d e m
-
--- and such a struct begins after its length
-pub sorted_at-begun : (limits : Limits) (a : Around) (c : Cursor) (n : ℕ) (d : Cursor) (end : ℕ)
-    → var_uint_at a.region c ≡ Ok (n, d) → 0 < n → end_by limits a d.place n ≡ Ok end → sorted_at limits a c ≡ Ok (a_container kind.Struct end, d)
-sorted_at-begun limits a c n d end h z m = sorted_at-some limits a c n d h z ∙ begin_at-begun limits a kind.Struct n d end m
-
 -- ---- scalars with bodies
-
-pub scalar_at-no_length : (limits : Limits) (a : Around) (type_code length_code : ℕ) (c : Cursor) (e : Reason) → length_at length_code a.region c ≡ Err e → scalar_at limits a type_code length_code c ≡ Err e
-unfolding scalar_at
-scalar_at-no_length limits a type_code length_code c e h = rw h refl
-
--- a body that passes the region, or does not fill its wrapper
-pub scalar_at-misfits : (limits : Limits) (a : Around) (type_code length_code : ℕ) (c : Cursor) (n : ℕ) (d : Cursor) (e : Reason)
-    → length_at length_code a.region c ≡ Ok (n, d) → fits a d.place n ≡ Err e → scalar_at limits a type_code length_code c ≡ Err e
-unfolding scalar_at body_at
-scalar_at-misfits limits a type_code length_code c n d e h m = rw h (rw m refl)
 
 -- a scalar is what is made of its body
 pub scalar_at-body : (limits : Limits) (a : Around) (type_code length_code : ℕ) (c : Cursor) (n : ℕ) (d : Cursor) (x : Unit {0})
@@ -160,27 +97,14 @@ lent-three rest p bytes long same =
     let there : 3 ≤ length p.buffered = (lent-CanPass p 3 (omega (arith, long))).0 in
     (there, subst (λ (l : List ℕ). 2 < length l) same (omega (arith, there, length-append p.buffered (rest p.device))), ap (take 3) (sym same) ∙ lent-take rest p 3 (omega (arith, long)))
 
-pub marker_at-inside : (r : Region) (c : Cursor) → is_some r ≡ true → marker_at r c ≡ Err BadDescriptor
-unfolding marker_at
-marker_at-inside None c h = absurd (cc h)
-marker_at-inside (Some end) c h = refl
+pub version-cut : (c : Cursor) → slice_get c.rest 2 ≡ None → version_at c ≡ Err Truncated
+version-cut c h = ap (λ t. t >> Ok (a_marker, skip 3 c)) (marker_rest-short c.rest h)
 
--- at top level a marker's other octets are looked at
-marker_at-top : (r : Region) (c : Cursor) → is_some r ≡ false → marker_at r c ≡ (marker_rest c.rest >> Ok (a_marker, skip 3 c))
-unfolding marker_at
-marker_at-top None c h = refl
-marker_at-top (Some end) c h = absurd (cc h)
+pub version-other : (c : Cursor) → 2 < length c.rest → is_version (take 3 c.rest) ≡ false → version_at c ≡ Err BadVersion
+version-other c h other = ap (λ t. t >> Ok (a_marker, skip 3 c)) (marker_rest-long c.rest h ∙ ap (λ t. refuse (not t) BadVersion) other)
 
-pub marker_at-cut : (r : Region) (c : Cursor) → is_some r ≡ false → slice_get c.rest 2 ≡ None → marker_at r c ≡ Err Truncated
-marker_at-cut r c top h = marker_at-top r c top ∙ ap (λ t. t >> Ok (a_marker, skip 3 c)) (marker_rest-short c.rest h)
-
-pub marker_at-other : (r : Region) (c : Cursor) → is_some r ≡ false → 2 < length c.rest → is_version (take 3 c.rest) ≡ false → marker_at r c ≡ Err BadVersion
-marker_at-other r c top h other =
-    marker_at-top r c top ∙ ap (λ t. t >> Ok (a_marker, skip 3 c)) (marker_rest-long c.rest h ∙ ap (λ t. refuse (not t) BadVersion) other)
-
-pub marker_at-read : (r : Region) (c : Cursor) → is_some r ≡ false → 2 < length c.rest → is_version (take 3 c.rest) ≡ true → marker_at r c ≡ Ok (a_marker, skip 3 c)
-marker_at-read r c top h same =
-    marker_at-top r c top ∙ ap (λ t. t >> Ok (a_marker, skip 3 c)) (marker_rest-long c.rest h ∙ ap (λ t. refuse (not t) BadVersion) same)
+pub version-read : (c : Cursor) → 2 < length c.rest → is_version (take 3 c.rest) ≡ true → version_at c ≡ Ok (a_marker, skip 3 c)
+version-read c h same = ap (λ t. t >> Ok (a_marker, skip 3 c)) (marker_rest-long c.rest h ∙ ap (λ t. refuse (not t) BadVersion) same)
 
 -- ---- shapes
 
@@ -220,14 +144,6 @@ shape_of-is_of_descriptor b =
       | inr k ↦ rw k (slice_index_or-all IsOfDescriptor (sized_shapes (b % 16)) (b / 16) Shape.illegal (sized_shapes-are (b % 16) (let n = eqb-false (b % 16) 15 k in omega arith)) tt)
     ]
 
--- ---- what a descriptor octet begins
-
--- what no wrapper may hold is refused in one
-pub typed_value_at-wrapped : (limits : Limits) (a : Around) (b : ℕ) (c : Cursor) → (a.wrapped && is_unwrappable b) ≡ true → typed_value_at limits a b c ≡ Err BadAnnotation
-unfolding typed_value_at
-typed_value_at-wrapped limits a b c h = rw h refl
-
--- other octets are what their shape begins
-pub typed_value_at-shape : (limits : Limits) (a : Around) (b : ℕ) (c : Cursor) → (a.wrapped && is_unwrappable b) ≡ false → typed_value_at limits a b c ≡ read_by_descriptor limits a (shape_of b) c
-unfolding typed_value_at
-typed_value_at-shape limits a b c h = rw h refl
+-- what the code says of a descriptor
+pub shape_read : (b : ℕ) (s : Shape) → s ≡ shape_of b → IsOfDescriptor s
+shape_read b s e = subst IsOfDescriptor (sym e) (shape_of-is_of_descriptor b)

@@ -7,7 +7,7 @@ use Rattle.ion_meter.specs.declared.limits.Limits.{Limits}
 use Rattle.ion_value.specs.Value.{SymbolAt}
 use Rattle.ion_value.specs.Reading.{Step}
 use Rattle.ion_binary.specs.declared.body.Body.{Body}
-use Rattle.ion_binary.specs.declared.typed_value.TypedValue as typed
+use Rattle.ion_binary.specs.declared.value.TypedValue as typed
 use Rattle.ion_binary.specs.Positions.{Frame, State}
 use Rattle.ion_meter.specs.Sources.{Cursor}
 use Rattle.ion_value.specs.Parts.{◌>>=◌, Placed, part}
@@ -15,6 +15,17 @@ use Rattle.ion_binary.specs.Descriptor.{Region, octet_at, shape_of}
 use Rattle.ion_binary.specs.Reading.{Wrapped, region_of, step_for, typed_value_at, wrapper_at, ids_at, plain_at, inner_at, annotated_at, value_at, wrapper_length}
 use Rattle.ion_value.specs.Answers.{Answers, AnswersAt}
 use Rattle.ion_binary.specs.Values.{GivesStep}
+
+-- what was found, of one answer
+abbrev pub found_there : typed.TypedValue → ℕ → Result (typed.TypedValue × ℕ) Fault
+found_there x p = Ok (x, p)
+
+abbrev what_found : typed.TypedValue → Result (typed.TypedValue × ℕ) Fault → typed.TypedValue
+what_found x (Ok r) = r.0
+what_found x (Err fault) = x
+
+pub found-same : (x y : typed.TypedValue) (p q : ℕ) → found_there x p ≡ found_there y q → x ≡ y
+found-same x y p q e = ap (what_found x) e
 
 module _ (frames : List Frame) (top : ℕ) (f : Option SymbolAt) (annotations : List SymbolAt) (text : List ℕ) (scalar : Body) where
   -- a part that is refused, by itself or with the place of its fault

@@ -4,17 +4,12 @@ use Rattle.ion_meter.specs.declared.fault.Reason.{Reason}
 use Rattle.ion_meter.specs.declared.fault.Reason.TheVariants.{DepthLimit}
 use Rattle.ion_meter.specs.declared.limits.Limits.{Limits}
 use Rattle.ion_binary.specs.declared.body.Body.{Body}
-use Rattle.ion_binary.specs.declared.typed_value.Around as code
-use Rattle.ion_binary.specs.declared.typed_value.TypedValue as typed
-use Rattle.ion_binary.specs.declared.typed_value.TypedValue.TheVariants as kinds
+use Rattle.ion_binary.specs.declared.value.TypedValue as typed
+use Rattle.ion_binary.specs.declared.value.TypedValue.TheVariants as kinds
 use Rattle.ion_binary.specs.Bodies.{as_scalar, IsBodyTypeCode}
 use Rattle.ion_value.specs.Parts.{◌>>◌, refuse}
 use Rattle.ion_binary.specs.Descriptor.{Shape, null, bool, nop_pad, wrapper, body, container, sorted, marker, float, illegal}
 use Rattle.ion_binary.specs.Reading.{Around, TypedValue, a_nop_pad, a_marker, a_scalar, a_container, fits}
-
--- where a part of an item stands, from the code's `Around`: whether in a wrapper, its region, and how many containers are open
-abbrev pub as_around : code.Around → Around
-as_around a = record { wrapped = a.wrapped; region = a.region; depth = a.depth }
 
 -- a scalar stands in a body, and the bytes of a string or lob beside it
 abbrev pub as_typed_value : List ℕ → Body → typed.TypedValue → TypedValue

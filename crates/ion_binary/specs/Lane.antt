@@ -20,7 +20,8 @@ use Rattle.ion_value.specs.Value.{PlacedItem, SymbolAt}
 use Rattle.ion_binary.specs.declared.wrapper.Frame as frame
 use Rattle.ion_binary.specs.Positions.{Frame}
 use Rattle.ion_binary.specs.Reading.{field_at, region_of}
-use Rattle.ion_binary.specs.Shown.{Reaches, ShowsItem, ShowsValue, far_end, window}
+use Rattle.ion_binary.specs.Scanned.{Reaches, window}
+use Rattle.ion_binary.specs.Shown.{ShowsItem, ShowsValue, far_end}
 use Rattle.ion_binary.specs.declared.shown.Shown.{Shown}
 use Rattle.ion_binary.specs.Descriptor.{Region, Shape, shape_of}
 use Rattle.ion_meter.specs.declared.limits.Limits.{Limits}

@@ -1,6 +1,6 @@
 -- What a window shows of an item that lies whole in it.
-use Rattle.std.specs.Prelude.{◌≡◌, ℕ, ◌+◌, ◌<◌, ◌≤◌, Bool, true, false, List, [], ◌∷◌, ◌++◌, length, take, drop, Option, Some, None, IfSome, Ok, ⊤}
-use Rattle.ion_meter.specs.Sources.{Cursor, skip}
+use Rattle.std.specs.Prelude.{◌≡◌, ℕ, ◌+◌, ◌<◌, ◌≤◌, Bool, true, false, List, [], ◌∷◌, length, take, drop, Option, Some, None, IfSome, Ok, ⊤}
+use Rattle.ion_meter.specs.Sources.{skip}
 use Rattle.ion_meter.specs.declared.limits.Limits.{Limits}
 use Rattle.ion_value.specs.declared.ion_type.Kind.{Kind}
 use Rattle.ion_value.specs.Scalar.{scalar_of_body}
@@ -13,17 +13,9 @@ use Rattle.ion_binary.specs.declared.shown.Shown.{Shown}
 use Rattle.ion_binary.specs.declared.shown.Shown.TheVariants as shown
 use Rattle.ion_binary.specs.declared.shown.ShownNote.{ShownNote}
 use Rattle.ion_binary.specs.Positions.{Frame, symbol_id}
+use Rattle.ion_binary.specs.Scanned.{Reaches, window}
 use Rattle.ion_binary.specs.Descriptor.{Region, length_at, octet_at, shape_of, var_uint_at}
 use Rattle.ion_binary.specs.Reading.{TypedValue, a_scalar, a_container, ids_at, region_of, step_for, typed_value_at, value_at, wrapper_at, wrapper_length}
-
--- the cursor at a place of the stream, where these octets are in the window, and more may come
-abbrev pub window : ℕ → List ℕ → List ℕ → Cursor
-window place octets more = record { place = place; rest = octets ++ more }
-
--- a region goes as far as a place; the top level goes everywhere
-abbrev pub Reaches : Region → ℕ → Type 0
-Reaches None place = ⊤
-Reaches (Some end) place = place ≤ end
 
 -- all places up to one are in a region
 abbrev pub Bounds : Region → ℕ → Type 0

@@ -4,7 +4,7 @@ use Rattle.ion_meter.specs.declared.fault.Fault.{Fault}
 use Rattle.ion_value.specs.Value.{SymbolAt}
 use Rattle.ion_value.specs.Reading.{Step}
 use Rattle.ion_binary.specs.declared.body.Body.{Body}
-use Rattle.ion_binary.specs.declared.typed_value.TypedValue as typed
+use Rattle.ion_binary.specs.declared.value.TypedValue as typed
 use Rattle.ion_binary.specs.Positions.{Frame, State}
 use Rattle.ion_meter.specs.Sources.{Cursor}
 use Rattle.ion_value.specs.Parts.{Placed}

@@ -275,8 +275,8 @@ fn number_in_window<I: Input, A: Allocator + Copy>(
 /// The scalar of a type code whose body has n octets, in a part that begins at a place.
 ///
 /// The octets of a string or lob are copied to `text`, once, and those of a number that does not lie
-/// whole in the window too. Answers `ScalarLimit`, then `Truncated` where the input ends before the
-/// body does, then what is wrong in the body.
+/// whole in the window too. Answers `Truncated` where the input ends before the body does, then what is
+/// wrong in the body.
 #[tactic(auto, unfolding(crate::specs::Parts::body_here))]
 #[inline(always)]
 pub(crate) fn next_body<I: Input, A: Allocator + Copy>(
@@ -291,6 +291,7 @@ pub(crate) fn next_body<I: Input, A: Allocator + Copy>(
 ) -> Result<(), Fault>
     requires can_read { CanRead limits limits.scalar source.old text.old meter.old }
     requires type_code { IsBodyTypeCode type_code }
+    requires small { count ≤ limits.scalar }
     ensures gives { AnswersBy I.Input (λ _. as_scalar text.new body.new)
         source.old source.new place result (body_here limits type_code count) }
     ensures range { OnOk result (InRange (as_scalar text.new body.new)) }
@@ -299,9 +300,6 @@ pub(crate) fn next_body<I: Input, A: Allocator + Copy>(
     ensures goes { GrowsWithin meter.old meter.new (length text.old) (length text.new)
         (16 * passed_over source.old source.new) }
 {
-    if limits.scalar < count {
-        return Err(Fault::Refused(Reason::ScalarLimit, place));
-    }
     let count = count as usize;
     if type_code < STRING && count <= source.buffer().len() {
         return number_in_window(source, body, type_code, count, limits, place);

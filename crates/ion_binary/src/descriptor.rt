@@ -1,6 +1,7 @@
 //! Descriptor octets (binary encoding, "Typed Value Formats").
 ghost use Rattle.std.specs.Prelude.{◌≡◌, ◌<◌, ◌/◌, ◌%◌, slice_index_or};
 ghost use Rattle.ion_binary.specs.Descriptor.{shape_of, shape_by, null_shapes, sized_shapes, bool_shape, struct_shape, wrapper_shape, body, illegal};
+ghost use Rattle.ion_binary.specs.Scanned.{length_code_of};
 ghost use Rattle.ion_binary.specs.Shapes.{as_shape};
 
 use ion_value::ion_type::{IonType, Kind};
@@ -46,6 +47,23 @@ impl Shape {
         match octet % 16 {
             15 => Shape::null(type_code),
             length_code => Shape::sized(type_code, length_code),
+        }
+    }
+
+    /// The length code by which its length goes, and 0 where it has none.
+    #[inline(always)]
+    pub(crate) fn length_code(self) -> u8
+        ensures { result ≡ length_code_of (as_shape self) }
+    {
+        match self {
+            Shape::NopPad(length_code) | Shape::Wrapper(length_code) => length_code,
+            Shape::Container(_, length_code) => length_code,
+            Shape::Body {
+                type_code: _,
+                length_code,
+            } => length_code,
+            Shape::Sorted => 14,
+            Shape::Null(_) | Shape::Bool(_) | Shape::Marker | Shape::Float | Shape::Illegal => 0,
         }
     }
 

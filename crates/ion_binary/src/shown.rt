@@ -7,12 +7,12 @@ ghost use Rattle.ion_value.specs.Value.{decimal, int, timestamp};
 ghost use Rattle.ion_value.specs.Standing.{InRange};
 ghost use Rattle.ion_binary.specs.Bodies.{IsBodyTypeCode};
 ghost use Rattle.ion_binary.specs.Descriptor.{Region, shape_of};
+ghost use Rattle.ion_binary.specs.Reading.{wrapper_length};
 ghost use Rattle.ion_binary.specs.Shapes.{as_shape};
 ghost use Rattle.ion_binary.specs.Shown.{Bounds, ShowsBegin, ShowsBody, ShowsLength, ShowsNote, ShowsSecond, ShowsValue, ShowsVar, shown_scalar};
 
 use crate::body::{few_value, is_text, uint_id};
 use crate::descriptor::Shape;
-use crate::value::wrapper_length_code;
 use ion_meter::limits::Limits;
 use ion_value::decimal::{Decimal, decimal_from_bytes};
 use ion_value::int::Int;
@@ -96,6 +96,18 @@ fn shown_length(octets: &[u8], at: usize, length_code: u8) -> Option<(u64, usize
         return Some((length_code as u64, at));
     }
     shown_var(octets, at)
+}
+
+// The length of the wrapper that a descriptor octet begins, in its low four bits.
+#[inline]
+fn wrapper_length_code(octet: u8) -> Option<u8>
+    ensures is { result ≡ wrapper_length (shape_of octet) }
+    ensures length_code { IfSome result (λ length_code. length_code < 15) }
+{
+    match Shape::of(octet) {
+        Shape::Wrapper(length_code) => Some(length_code),
+        _ => None,
+    }
 }
 
 // A scalar of a type code and these octets.

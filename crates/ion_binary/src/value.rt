@@ -1,43 +1,135 @@
 //! A value after its field, with its annotations.
-ghost use Rattle.std.specs.Prelude.{◌≡◌, ◌≢◌, ◌+◌, ◌*◌, ◌-◌, ◌<◌, ◌≤◌, ℕ, List, [], length, Option, Some, None, Ok, Err, OnOk, IfSome};
+ghost use Rattle.std.specs.Prelude.{◌≡◌, ◌≢◌, ◌+◌, ◌*◌, ◌-◌, ◌<◌, ◌≤◌, ℕ, List, [], length, Option, None, false, Ok, OnOk};
 ghost use Rattle.ion_value.specs.Value.{SymbolAt};
 ghost use Rattle.ion_value.specs.Standing.{InRange};
 ghost use Rattle.ion_value.specs.declared.ion_type.Kind as kinds;
-ghost use Rattle.ion_binary.specs.Descriptor.{shape_of};
 ghost use Rattle.ion_binary.specs.Positions.{Frame};
-ghost use Rattle.ion_binary.specs.Reading.{region_of, wrapper_length, inner_at, annotated_at, value_at};
+ghost use Rattle.ion_binary.specs.Reading.{a_marker, a_nop_pad, region_of, inner_at, value_at};
 ghost use Rattle.ion_binary.specs.Bodies.{as_scalar};
-ghost use Rattle.ion_meter.specs.Sources.{cursor};
-ghost use Rattle.ion_value.specs.Calls.{CanRead, ReadsInto, passed_over};
+ghost use Rattle.ion_binary.specs.Finds.{as_typed_value};
+ghost use Rattle.ion_binary.specs.Scanned.{HasBody, IsRegion, is_wrapper, noted_at, pad_at, region_in, rest_at, version_at};
+ghost use Rattle.ion_meter.specs.Sources.{cursor, Stands};
+ghost use Rattle.ion_value.specs.Calls.{AnswersBy, CanRead, Reads, ReadsInto, passed_over};
 ghost use Rattle.ion_value.specs.Shares.{GrowsWithin};
 ghost use Rattle.ion_binary.specs.Calls.{ReadsValue};
-ghost use Rattle.ion_binary.specs.Wrappers.{as_annotations};
+ghost use Rattle.ion_binary.specs.Wrappers.{as_annotations, as_wrapped};
 ghost use Rattle.ion_binary.specs.Values.{GivesStep};
 
-use crate::body::Body;
-use crate::descriptor::Shape;
-use crate::octets::next_octet;
-use crate::typed_value::{Around, TypedValue, next_typed_value};
-use crate::wrapper::{next_annotations, next_wrapper};
+use crate::body::{Body, next_body, pass_over};
+use crate::scan::{Found, Region, Within};
+use crate::window::next_part;
+use crate::wrapper::{Wrapper, next_annotations, next_wrapper};
 use ion_meter::buf::Buf;
 use ion_meter::device::Input;
-use ion_meter::fault::Fault;
+use ion_meter::fault::{Fault, Reason};
 use ion_meter::limits::Limits;
 use ion_meter::meter::Meter;
 use ion_meter::source::Source;
 use ion_meter::stack::Stack;
+use ion_value::ion_type::Kind;
 use ion_value::item::Annotation;
 use std::alloc::Allocator;
 
-/// The length of the wrapper that a descriptor octet begins, in its low four bits.
-#[inline]
-pub(crate) fn wrapper_length_code(octet: u8) -> Option<u8>
-    ensures is { result ≡ wrapper_length (shape_of octet) }
-    ensures length_code { IfSome result (λ length_code. length_code < 15) }
+/// What a part is. A scalar stands in a body beside it.
+#[derive(Clone, Copy)]
+pub(crate) enum TypedValue {
+    /// A NOP pad: octets that are ignored.
+    NopPad,
+    /// A version marker.
+    Marker,
+    /// A scalar.
+    Scalar,
+    /// A container's beginning, and the place of its end.
+    Container(Kind, u64),
+}
+
+// The three octets of a version marker after its first, in a part that begins at a place.
+fn next_version<I: Input, A: Allocator + Copy>(
+    source: &mut Source<I, A>,
+    place: u64,
+) -> Result<TypedValue, Fault>
+    requires stands { Stands source.old }
+    ensures gives { AnswersBy I.Input (λ _. a_marker) source.old source.new place result version_at }
+    ensures marker { (found : TypedValue) → result ≡ Ok found → found ≡ TypedValue.Marker }
+    ensures reads { Reads I.Input source.old source.new result }
 {
-    match Shape::of(octet) {
-        Shape::Wrapper(length_code) => Some(length_code),
-        _ => None,
+    match source.peek(2) {
+        Err(fault) => return Err(fault),
+        Ok(None) => return Err(Fault::Refused(Reason::Truncated, place)),
+        Ok(Some(_)) => {}
+    }
+    if source.buffer()[..3] != [0x01, 0x00, 0xEA] {
+        return Err(Fault::Refused(Reason::BadVersion, place));
+    }
+    source.consume(3);
+    Ok(TypedValue::Marker)
+}
+
+// So many octets of a NOP pad, in a part that begins at a place, which are passed over.
+fn next_nop_pad<I: Input, A: Allocator + Copy>(
+    source: &mut Source<I, A>,
+    count: u64,
+    place: u64,
+) -> Result<TypedValue, Fault>
+    requires stands { Stands source.old }
+    ensures gives { AnswersBy I.Input (λ _. a_nop_pad) source.old source.new place result
+        (pad_at count) }
+    ensures pad { (found : TypedValue) → result ≡ Ok found → found ≡ TypedValue.NopPad }
+    ensures reads { Reads I.Input source.old source.new result }
+{
+    match pass_over(source, count) {
+        Err(fault) => Err(fault),
+        Ok(false) => Err(Fault::Refused(Reason::Truncated, place)),
+        Ok(true) => Ok(TypedValue::NopPad),
+    }
+}
+
+// What follows a descriptor and its length, in a part that begins at a place: the octets of a NOP pad or
+// of a version marker, or the body of a scalar.
+#[tactic(auto, unfolding(crate::specs::Scanned::rest_at))]
+#[inline(always)]
+fn next_rest<I: Input, A: Allocator + Copy>(
+    source: &mut Source<I, A>,
+    text: &mut Buf<A>,
+    body: &mut Body,
+    found: Found,
+    limits: Limits,
+    place: u64,
+    meter: &mut Meter<A>,
+) -> Result<TypedValue, Fault>
+    requires can_read { CanRead limits limits.scalar source.old text.old meter.old }
+    requires body { HasBody limits found }
+    ensures gives { AnswersBy I.Input (as_typed_value text.new body.new)
+        source.old source.new place result (rest_at limits found) }
+    ensures range { result ≡ Ok TypedValue.Scalar → InRange (as_scalar text.new body.new) }
+    ensures begins { (kind : kinds.Kind) (end : ℕ) → result ≡ Ok (TypedValue.Container kind end)
+        → found ≡ Found.Begin kind end }
+    ensures marker { result ≡ Ok TypedValue.Marker → found ≡ Found.Marker }
+    ensures reads { ReadsInto I.Input source.old source.new meter.old meter.new
+        (length text.old) (length text.new) limits.scalar result }
+    ensures goes { GrowsWithin meter.old meter.new (length text.old) (length text.new)
+        (16 * passed_over source.old source.new) }
+{
+    match found {
+        Found::NopPad(count) => next_nop_pad(source, count, place),
+        Found::Marker => next_version(source, place),
+        Found::Null(of) => {
+            *body = Body::Null(of);
+            Ok(TypedValue::Scalar)
+        }
+        Found::Bool(truth) => {
+            *body = Body::Bool(truth);
+            Ok(TypedValue::Scalar)
+        }
+        Found::Body(type_code, count) => {
+            match next_body(source, text, body, type_code, count, limits, place, meter) {
+                Err(fault) => Err(fault),
+                Ok(()) => Ok(TypedValue::Scalar),
+            }
+        }
+        Found::Begin(kind, end) => Ok(TypedValue::Container(kind, end)),
+        // no wrapper stands in another
+        Found::Wrapper(_) => Err(Fault::Refused(Reason::BadAnnotation, place)),
     }
 }
 
@@ -67,43 +159,40 @@ fn next_inner<I: Input, A: Allocator + Copy>(
     ensures goes { GrowsWithin meter.old meter.new (length text.old) (length text.new)
         (16 * passed_over source.old source.new) }
 {
-    let place = source.place();
-    let octet = match next_octet(source, Some(end), place) {
-        Err(fault) => return Err(fault),
-        Ok(octet) => octet,
-    };
-    let around = Around {
-        wrapped: true,
-        region: Some(end),
+    let region = Region {
+        within: Within::Wrapper,
+        end,
         depth,
     };
-    match next_typed_value(source, text, body, octet, around, limits, place, meter) {
+    let place = source.place();
+    let part = match next_part(source, region, limits, place) {
+        Err(fault) => return Err(fault),
+        Ok(part) => part,
+    };
+    match next_rest(source, text, body, part, limits, place, meter) {
         Err(fault) => Err(fault),
         Ok(found) => Ok((found, place)),
     }
 }
 
-// An annotation wrapper and its value, after its descriptor octet.
+// The annotations of a wrapper and the value in it.
 fn next_annotated<I: Input, A: Allocator + Copy>(
     source: &mut Source<I, A>,
     annotations: &mut Stack<Annotation, A>,
     text: &mut Buf<A>,
     body: &mut Body,
-    length_code: u8,
-    region: Option<u64>,
+    wrapper: Wrapper,
     depth: u32,
     limits: Limits,
-    place: u64,
     meter: &mut Meter<A>,
 ) -> Result<(TypedValue, u64), Fault>
     requires can_read { CanRead limits (2 * limits.scalar) source.old text.old meter.old }
-    requires length_code { length_code < 15 }
     requires none { annotations.old ≡ [] }
     ensures gives { I.observable source.old.device → (frames : List Frame) (top : ℕ)
-        (f : Option SymbolAt) → region_of frames ≡ region → length frames ≡ depth
+        (f : Option SymbolAt) → length frames ≡ depth
         → GivesStep frames top f (as_annotations annotations.new) text.new body.new result
         (cursor I.Input source.new)
-        (annotated_at limits frames top f place length_code (cursor I.Input source.old)) }
+        (noted_at limits frames top f (as_wrapped wrapper) (cursor I.Input source.old)) }
     ensures range { (place : ℕ) → result ≡ Ok (TypedValue.Scalar, place)
         → InRange (as_scalar text.new body.new) }
     ensures deep { (kind : kinds.Kind) (last place : ℕ)
@@ -115,10 +204,6 @@ fn next_annotated<I: Input, A: Allocator + Copy>(
         (16 * length annotations.new + length text.new)
         (16 * passed_over source.old source.new) }
 {
-    let wrapper = match next_wrapper(source, length_code, region, place) {
-        Err(fault) => return Err(fault),
-        Ok(wrapper) => wrapper,
-    };
     if let Err(fault) = next_annotations(source, annotations, wrapper.ids, limits, meter) {
         return Err(fault);
     }
@@ -135,24 +220,26 @@ pub(crate) fn next_value<I: Input, A: Allocator + Copy>(
     annotations: &mut Stack<Annotation, A>,
     text: &mut Buf<A>,
     body: &mut Body,
-    region: Option<u64>,
-    depth: u32,
+    region: Region,
     limits: Limits,
     meter: &mut Meter<A>,
 ) -> Result<(TypedValue, u64), Fault>
     requires can_read { CanRead limits (2 * limits.scalar) source.old text.old meter.old }
+    requires region { IsRegion region }
+    requires plain { is_wrapper region.within ≡ false }
     requires none { annotations.old ≡ [] }
     ensures gives { I.observable source.old.device → (frames : List Frame) (top : ℕ)
-        (f : Option SymbolAt) → region_of frames ≡ region → length frames ≡ depth
+        (f : Option SymbolAt) → region_of frames ≡ region_in region.within region.end
+        → length frames ≡ region.depth
         → GivesStep frames top f (as_annotations annotations.new) text.new body.new result
         (cursor I.Input source.new)
         (value_at limits frames top f (cursor I.Input source.old)) }
     ensures range { (place : ℕ) → result ≡ Ok (TypedValue.Scalar, place)
         → InRange (as_scalar text.new body.new) }
     ensures deep { (kind : kinds.Kind) (last place : ℕ)
-        → result ≡ Ok (TypedValue.Container kind last, place) → depth < limits.depth }
+        → result ≡ Ok (TypedValue.Container kind last, place) → region.depth < limits.depth }
     ensures marker { (place : ℕ) → result ≡ Ok (TypedValue.Marker, place)
-        → (region ≡ None) × (annotations.new ≡ []) }
+        → (region_in region.within region.end ≡ None) × (annotations.new ≡ []) }
     ensures reads { ReadsValue I.Input limits source.old source.new meter.old meter.new
         text.old text.new annotations.new result }
     ensures goes { GrowsWithin meter.old meter.new (length text.old)
@@ -162,30 +249,28 @@ pub(crate) fn next_value<I: Input, A: Allocator + Copy>(
         ≤ length text.old + 16 * passed_over source.old source.new) }
 {
     let place = source.place();
-    let octet = match next_octet(source, region, place) {
+    let part = match next_part(source, region, limits, place) {
         Err(fault) => return Err(fault),
-        Ok(octet) => octet,
+        Ok(part) => part,
     };
-    if let Some(length_code) = wrapper_length_code(octet) {
+    if let Some(count) = part.wrapped() {
+        let wrapper = match next_wrapper(source, count, region, place) {
+            Err(fault) => return Err(fault),
+            Ok(wrapper) => wrapper,
+        };
+        let depth = region.depth;
         return next_annotated(
             source,
             annotations,
             text,
             body,
-            length_code,
-            region,
+            wrapper,
             depth,
             limits,
-            place,
             meter,
         );
     }
-    let around = Around {
-        wrapped: false,
-        region,
-        depth,
-    };
-    match next_typed_value(source, text, body, octet, around, limits, place, meter) {
+    match next_rest(source, text, body, part, limits, place, meter) {
         Err(fault) => Err(fault),
         Ok(found) => Ok((found, place)),
     }

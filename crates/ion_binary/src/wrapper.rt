@@ -1,9 +1,10 @@
 //! What stands before a value: a field in a struct, and an annotation wrapper (binary encoding,
 //! "13: struct" and "14: Annotations").
-ghost use Rattle.std.specs.Prelude.{◌≡◌, ◌||◌, nat_lt, nat_eq, nat_le, map, ◌+◌, ◌*◌, ◌-◌, ◌^◌, ◌<◌, [], length, Ok, Err, IfOk, is_some};
+ghost use Rattle.std.specs.Prelude.{◌≡◌, ◌||◌, nat_lt, nat_eq, nat_le, map, ◌+◌, ◌*◌, ◌-◌, ◌^◌, ◌<◌, [], length, Ok, Err, IfOk, MatchResult, is_some};
 ghost use Rattle.ion_value.specs.Standing.{in_struct};
-ghost use Rattle.ion_binary.specs.Descriptor.{passes};
-ghost use Rattle.ion_binary.specs.Reading.{wrapper_at, ids_at, field_at};
+ghost use Rattle.ion_binary.specs.Descriptor.{Region as region};
+ghost use Rattle.ion_binary.specs.Reading.{ids_at, field_at};
+ghost use Rattle.ion_binary.specs.Scanned.{EndsAt, IsRegion, region_in, wrapper_after, wrapper_by};
 ghost use Rattle.ion_meter.specs.Sources.{cursor, Stands};
 ghost use Rattle.ion_value.specs.Answers.{AnswersAt};
 ghost use Rattle.ion_value.specs.Calls.{AnswersBy, CanRead, Reads, ReadsInto, passed_over};
@@ -11,7 +12,8 @@ ghost use Rattle.ion_value.specs.Shares.{GrowsWithin};
 ghost use Rattle.ion_binary.specs.Wrappers.{as_wrapped, as_annotations, as_field, innermost};
 
 use crate::body::id_of;
-use crate::octets::{next_length, next_var_uint};
+use crate::scan::Region;
+use crate::window::next_var_uint;
 use ion_meter::device::Input;
 use ion_meter::fault::{Fault, Reason};
 use ion_meter::limits::Limits;
@@ -70,22 +72,13 @@ pub(crate) fn next_field<I: Input, A: Allocator + Copy>(
         return Ok(None);
     }
     let place = source.place();
-    match next_var_uint(source, Some(frame.end), place) {
+    match next_var_uint(source, frame.end, place) {
         Err(fault) => Err(fault),
         Ok(id) => Ok(Some(Field {
             id: id_of(id),
             place,
         })),
     }
-}
-
-// Whether n octets from a place on pass the region's end.
-#[inline]
-fn passes_end(region: Option<u64>, here: u64, count: u64) -> bool
-    requires { here + count < 2 ^ 64 }
-    ensures { result ≡ passes region here count }
-{
-    region.is_some_and(|end| end < here + count)
 }
 
 // Whether a wrapper of these lengths may not be: it has fewer than three octets, no annotation, or
@@ -98,44 +91,63 @@ fn is_no_wrapper(count: u64, ids: u64, after: u64, end: u64) -> bool
     count < 3 || ids == 0 || end <= after + ids
 }
 
-/// The lengths of an annotation wrapper after its descriptor octet.
+/// A wrapper of so many octets from a place on, in a region that ends at another, whose annotations have
+/// so many octets from a third place on.
 ///
-/// All their octets come first, those of the annotations' length within what the wrapper's own length
-/// says. Then `Overrun` where that passes the region, and `BadAnnotation` where the wrapper has fewer
-/// than three octets, no annotation, or no octet for a value.
-pub(crate) fn next_wrapper<I: Input, A: Allocator + Copy>(
-    source: &mut Source<I, A>,
-    length_code: u8,
-    region: Option<u64>,
-    place: u64,
-) -> Result<Wrapper, Fault>
-    requires stands { Stands source.old }
-    requires length_code { length_code < 15 }
-    ensures gives { AnswersBy I.Input as_wrapped source.old source.new place result
-        (wrapper_at region length_code) }
-    ensures reads { Reads I.Input source.old source.new result }
+/// It is `Overrun` where it passes the region, and `BadAnnotation` where it has fewer than three octets,
+/// no annotation, or no octet for a value.
+#[inline(always)]
+pub(crate) fn wrapper_of(
+    here: u64,
+    count: u64,
+    after: u64,
+    ids: u64,
+    region_end: u64,
+) -> Result<Wrapper, Reason>
+    requires whole { here + count < 2 ^ 64 - 1 }
+    requires ids { after + ids < 2 ^ 64 }
+    ensures { (r : region) → EndsAt r region_end → MatchResult result
+        (λ w. wrapper_by r here count after ids ≡ Ok (as_wrapped w))
+        (λ reason. wrapper_by r here count after ids ≡ Err reason) }
 {
-    let count = match next_length(source, length_code, region, place) {
-        Err(fault) => return Err(fault),
-        Ok(count) => count,
-    };
-    let here = source.place();
     let end = here + count;
-    let ids = match next_var_uint(source, Some(end), place) {
-        Err(fault) => return Err(fault),
-        Ok(ids) => ids,
-    };
-    if passes_end(region, here, count) {
-        return Err(Fault::Refused(Reason::Overrun, place));
+    if region_end < end {
+        return Err(Reason::Overrun);
     }
-    let after = source.place();
     if is_no_wrapper(count, ids, after, end) {
-        return Err(Fault::Refused(Reason::BadAnnotation, place));
+        return Err(Reason::BadAnnotation);
     }
     Ok(Wrapper {
         ids: after + ids,
         end,
     })
+}
+
+/// A wrapper that has so many octets more, in a part that begins at a place.
+///
+/// The octets of its annotations' length come first, within the wrapper.
+pub(crate) fn next_wrapper<I: Input, A: Allocator + Copy>(
+    source: &mut Source<I, A>,
+    count: u64,
+    around: Region,
+    place: u64,
+) -> Result<Wrapper, Fault>
+    requires stands { Stands source.old }
+    requires small { count < 2 ^ 63 }
+    requires around { IsRegion around }
+    ensures gives { AnswersBy I.Input as_wrapped source.old source.new place result
+        (wrapper_after (region_in around.within around.end) count) }
+    ensures reads { Reads I.Input source.old source.new result }
+{
+    let here = source.place();
+    let ids = match next_var_uint(source, here + count, place) {
+        Err(fault) => return Err(fault),
+        Ok(ids) => ids,
+    };
+    match wrapper_of(here, count, source.place(), ids, around.end) {
+        Err(reason) => Err(Fault::Refused(reason, place)),
+        Ok(wrapper) => Ok(wrapper),
+    }
 }
 
 /// The annotations of a wrapper, up to the place where they end.
@@ -161,7 +173,7 @@ pub(crate) fn next_annotations<I: Input, A: Allocator + Copy>(
 {
     while source.place() < end {
         let place = source.place();
-        let id = match next_var_uint(source, Some(end), place) {
+        let id = match next_var_uint(source, end, place) {
             Err(fault) => return Err(fault),
             Ok(id) => id_of(id),
         };

@@ -1,7 +1,8 @@
 use Rattle.std.proofs.Common.{◌+◌, get_or, refl, ap, sym, ◌∙◌, arith}
 use Rattle.ion_binary.specs.Descriptor.{body, container}
 use Rattle.ion_binary.specs.Shapes.{as_shape}
-use Rattle.ion_binary.proofs.ShownParts.{begin_within, body_within, bounds-reaches, if_some, shape_read, shows_begin, shows_body, shows_bool, shows_null}
+use Rattle.ion_binary.proofs.ShownParts.{begin_within, body_within, bounds-reaches, if_some, shows_begin, shows_body, shows_bool, shows_null}
+use Rattle.ion_binary.proofs.TypedValueCode.{shape_read}
 use Rattle.ion_binary.proofs.shown.shown_value.Goals as goal
 
 pub shown_with_body-requires-clause-length_code : goal.shown_with_body-requires-clause-length_code

@@ -1,119 +1,183 @@
-use Rattle.std.proofs.Common.{ap, ◌∙◌, sym, subst, Ok, Err, false, [], arith}
+use Rattle.std.proofs.Common.{ap, ◌∙◌, sym, subst, Ok, Err, [], arith}
 use Rattle.std.proofs.lemmas.Grind.{common_steps}
 use Rattle.ion_value.specs.Parts.{◌>>=◌, part}
-use Rattle.ion_binary.specs.Descriptor.{octet_at}
-use Rattle.ion_binary.specs.Reading.{step_for, typed_value_at, region_of, annotated_at, value_at}
+use Rattle.ion_binary.specs.Reading.{step_for}
 use Rattle.ion_meter.specs.Sources.{cursor}
-use Rattle.ion_value.specs.Answers.{itself, Answers}
+use Rattle.ion_value.specs.Answers.{Answers}
+use Rattle.ion_value.proofs.Cursors.{moves-then}
+use Rattle.ion_binary.specs.declared.value.TypedValue.TheVariants as typed
 use Rattle.ion_binary.specs.Finds.{as_typed_value}
-use Rattle.ion_binary.specs.Wrappers.{as_annotations}
-use Rattle.ion_binary.proofs.ValueParts.{step-refused, step-same, value_at-plain, value_at-wrapper}
+use Rattle.ion_binary.specs.Scanned.{IsFound, as_around, is_wrapper, itself_found, noted_at, part_at, region_in, rest_at, wrapper_after}
+use Rattle.ion_binary.specs.Wrappers.{as_annotations, as_wrapped}
+use Rattle.ion_binary.proofs.ReadParts.{found-body, found-wraps, value_at-found, value_at-parts, value_at-wrapped}
+use Rattle.ion_binary.proofs.ValueParts.{found-same, step-refused, step-same}
 use Rattle.ion_binary.proofs.value.next_value.Goals as goal
 
 pub returns-in-Err-clause-gives : goal.returns-in-Err-clause-gives
-unfolding value_at
 returns-in-Err-clause-gives g c t frames top f region deep =
-    step-refused frames top f (as_annotations c.args.annotations.now) c.args.text.now c.args.body.now itself c.in-Err.fault
-    (cursor g.I.Input c.next_octet.new.source) (cursor g.I.Input c.next_octet.new.source) c.args.source.now.place
-    (octet_at (region_of frames) (cursor g.I.Input c.args.source.now)) _
-    (subst (λ r. Answers itself (Err c.in-Err.fault) (cursor g.I.Input c.next_octet.new.source) c.args.source.now.place (octet_at r (cursor g.I.Input c.args.source.now))) (sym region)
-    (subst (λ p. Answers itself (Err c.in-Err.fault) (cursor g.I.Input c.next_octet.new.source) p (octet_at c.args.region (cursor g.I.Input c.args.source.now)))
-    c.place-place.ensures (c.in-Err.ensures.gives t)))
+    let old = cursor g.I.Input c.args.source.now in
+    let new = cursor g.I.Input c.next_part.new.source in
+    let notes = as_annotations c.args.annotations.now in
+    step-same frames top f notes c.args.text.now c.args.body.now (Err c.in-Err.fault) new _ _
+    (value_at-parts c.args.limits frames top f old (is_wrapper c.args.region.within) (region_in c.args.region.within c.args.region.end) c.args.region.depth c.requires.plain region deep)
+    (step-refused frames top f notes c.args.text.now c.args.body.now itself_found c.in-Err.fault new new old.place (part_at c.args.limits (as_around c.args.region) old) _
+    (subst (λ p. Answers itself_found (Err c.in-Err.fault) new p (part_at c.args.limits (as_around c.args.region) old)) c.place-place.ensures (c.in-Err.ensures.gives t)))
+
+pub returns-in-Err-next_wrapper-clause-gives : goal.returns-in-Err-next_wrapper-clause-gives
+returns-in-Err-next_wrapper-clause-gives g c t frames top f region deep =
+    let old = cursor g.I.Input c.args.source.now in
+    let mid = cursor g.I.Input c.next_part.new.source in
+    let new = cursor g.I.Input c.next_wrapper.new.source in
+    let notes = as_annotations c.args.annotations.now in
+    let r = region_in c.args.region.within c.args.region.end in
+    step-same frames top f notes c.args.text.now c.args.body.now (Err c.in-Err-next_wrapper.fault) new _ _
+    (value_at-wrapped c.args.limits frames top f old mid (is_wrapper c.args.region.within) r c.args.region.depth c.in-Ok.part c.requires.plain region deep (c.in-Ok.ensures.gives t) c.in-Some.count (sym c.in-Some.ensures))
+    (step-refused frames top f notes c.args.text.now c.args.body.now as_wrapped c.in-Err-next_wrapper.fault new new old.place (wrapper_after r c.in-Some.count mid) _
+    (subst (λ p. Answers as_wrapped (Err c.in-Err-next_wrapper.fault) new p (wrapper_after r c.in-Some.count mid)) c.place-place.ensures
+    (c.in-Err-next_wrapper.ensures.gives (c.in-Ok.ensures.reads.moves.still_observable.1 t))))
 
 pub returns-in-Some-clause-gives : goal.returns-in-Some-clause-gives
 returns-in-Some-clause-gives g c t frames top f region deep =
+    let old = cursor g.I.Input c.args.source.now in
+    let mid = cursor g.I.Input c.next_part.new.source in
+    let r = region_in c.args.region.within c.args.region.end in
+    let observable = c.in-Ok.ensures.reads.moves.still_observable.1 t in
     step-same frames top f (as_annotations c.next_annotated.new.annotations) c.next_annotated.new.text c.next_annotated.new.body c.next_annotated.result (cursor g.I.Input c.next_annotated.new.source) _
-    (annotated_at c.args.limits frames top f c.place-place.result c.in-Some.length_code (cursor g.I.Input c.next_octet.new.source))
-    (value_at-wrapper c.args.limits frames top f (cursor g.I.Input c.args.source.now) (cursor g.I.Input c.next_octet.new.source) c.args.region c.in-Ok.octet c.in-Some.length_code
-    region (c.in-Ok.ensures.gives t) (sym c.in-Some.ensures.is)
-    ∙ ap (λ p. annotated_at c.args.limits frames top f p c.in-Some.length_code (cursor g.I.Input c.next_octet.new.source)) (sym c.place-place.ensures))
-    (c.next_annotated.ensures.gives (c.in-Ok.ensures.reads.moves.still_observable.1 t) frames top f region deep)
+    (noted_at c.args.limits frames top f (as_wrapped c.in-Ok-next_wrapper.wrapper) (cursor g.I.Input c.next_wrapper.new.source))
+    (value_at-wrapped c.args.limits frames top f old mid (is_wrapper c.args.region.within) r c.args.region.depth c.in-Ok.part c.requires.plain region deep (c.in-Ok.ensures.gives t) c.in-Some.count (sym c.in-Some.ensures)
+    ∙ ap (λ w. part old.place w >>= λ v. noted_at c.args.limits frames top f v.0 v.1) (c.in-Ok-next_wrapper.ensures.gives observable))
+    (c.next_annotated.ensures.gives (c.in-Ok-next_wrapper.ensures.reads.moves.still_observable.1 observable) frames top f deep)
 
-pub returns-in-Err-next_typed_value-clause-gives : goal.returns-in-Err-next_typed_value-clause-gives
-returns-in-Err-next_typed_value-clause-gives g c t frames top f region deep =
-    step-same frames top f (as_annotations c.args.annotations.now) c.next_typed_value.new.text c.next_typed_value.new.body (Err c.in-Err-next_typed_value.fault) (cursor g.I.Input c.next_typed_value.new.source) _ _
-    (value_at-plain c.args.limits frames top f (cursor g.I.Input c.args.source.now) (cursor g.I.Input c.next_octet.new.source) c.args.region c.args.depth c.in-Ok.octet
-    region deep (c.in-Ok.ensures.gives t) (sym c.in_default.ensures.is))
-    (step-refused frames top f (as_annotations c.args.annotations.now) c.next_typed_value.new.text c.next_typed_value.new.body (as_typed_value c.next_typed_value.new.text c.next_typed_value.new.body) c.in-Err-next_typed_value.fault
-    (cursor g.I.Input c.next_typed_value.new.source) (cursor g.I.Input c.next_typed_value.new.source) c.args.source.now.place _ _
-    (subst (λ p. Answers (as_typed_value c.next_typed_value.new.text c.next_typed_value.new.body) (Err c.in-Err-next_typed_value.fault) (cursor g.I.Input c.next_typed_value.new.source) p
-    (typed_value_at c.args.limits (record { wrapped = false; region = c.args.region; depth = c.args.depth }) c.in-Ok.octet (cursor g.I.Input c.next_octet.new.source)))
-    c.place-place.ensures (c.in-Err-next_typed_value.ensures.gives (c.in-Ok.ensures.reads.moves.still_observable.1 t))))
+pub returns-in-Err-next_rest-clause-gives : goal.returns-in-Err-next_rest-clause-gives
+returns-in-Err-next_rest-clause-gives g c t frames top f region deep =
+    let old = cursor g.I.Input c.args.source.now in
+    let mid = cursor g.I.Input c.next_part.new.source in
+    let new = cursor g.I.Input c.next_rest.new.source in
+    let view = as_typed_value c.next_rest.new.text c.next_rest.new.body in
+    let notes = as_annotations c.args.annotations.now in
+    step-same frames top f notes c.next_rest.new.text c.next_rest.new.body (Err c.in-Err-next_rest.fault) new _ _
+    (value_at-found c.args.limits frames top f old mid (is_wrapper c.args.region.within) (region_in c.args.region.within c.args.region.end) c.args.region.depth c.in-Ok.part c.requires.plain region deep (c.in-Ok.ensures.gives t) (sym c.in_default.ensures))
+    (step-refused frames top f notes c.next_rest.new.text c.next_rest.new.body view c.in-Err-next_rest.fault new new old.place (rest_at c.args.limits c.in-Ok.part mid) _
+    (subst (λ p. Answers view (Err c.in-Err-next_rest.fault) new p (rest_at c.args.limits c.in-Ok.part mid)) c.place-place.ensures
+    (c.in-Err-next_rest.ensures.gives (c.in-Ok.ensures.reads.moves.still_observable.1 t))))
 
-pub returns-in-Ok-next_typed_value-clause-gives : goal.returns-in-Ok-next_typed_value-clause-gives
-returns-in-Ok-next_typed_value-clause-gives g c t frames top f region deep =
-    value_at-plain c.args.limits frames top f (cursor g.I.Input c.args.source.now) (cursor g.I.Input c.next_octet.new.source) c.args.region c.args.depth c.in-Ok.octet
-    region deep (c.in-Ok.ensures.gives t) (sym c.in_default.ensures.is)
-    ∙ (ap (λ r. part c.args.source.now.place r >>= λ v. Ok (step_for frames top f [] c.args.source.now.place v.0 v.1)) (c.in-Ok-next_typed_value.ensures.gives (c.in-Ok.ensures.reads.moves.still_observable.1 t))
-    ∙ (ap (λ p. Ok (step_for frames top f [] p (as_typed_value c.next_typed_value.new.text c.next_typed_value.new.body c.in-Ok-next_typed_value.found) (cursor g.I.Input c.next_typed_value.new.source))) (sym c.place-place.ensures)
-    ∙ ap (λ n. Ok (step_for frames top f (as_annotations n) c.place-place.result (as_typed_value c.next_typed_value.new.text c.next_typed_value.new.body c.in-Ok-next_typed_value.found) (cursor g.I.Input c.next_typed_value.new.source)))
-    (sym c.requires.none)))
+pub returns-in-Ok-next_rest-clause-gives : goal.returns-in-Ok-next_rest-clause-gives
+returns-in-Ok-next_rest-clause-gives g c t frames top f region deep =
+    let old = cursor g.I.Input c.args.source.now in
+    let mid = cursor g.I.Input c.next_part.new.source in
+    let new = cursor g.I.Input c.next_rest.new.source in
+    let found = as_typed_value c.next_rest.new.text c.next_rest.new.body c.in-Ok-next_rest.found in
+    value_at-found c.args.limits frames top f old mid (is_wrapper c.args.region.within) (region_in c.args.region.within c.args.region.end) c.args.region.depth c.in-Ok.part c.requires.plain region deep (c.in-Ok.ensures.gives t) (sym c.in_default.ensures)
+    ∙ (ap (λ r. part old.place r >>= λ v. Ok (step_for frames top f [] old.place v.0 v.1)) (c.in-Ok-next_rest.ensures.gives (c.in-Ok.ensures.reads.moves.still_observable.1 t))
+    ∙ (ap (λ p. Ok (step_for frames top f [] p found new)) (sym c.place-place.ensures) ∙ ap (λ n. Ok (step_for frames top f (as_annotations n) c.place-place.result found new)) (sym c.requires.none)))
 
-pub returns-in-Err-clause-reads : goal.returns-in-Err-clause-reads
-returns-in-Err-clause-reads g c = grind (arith, common_steps) steps 400000
+pub next_rest-requires-clause-body : goal.next_rest-requires-clause-body
+next_rest-requires-clause-body g c = found-body c.args.limits (as_around c.args.region) c.in-Ok.part c.in-Ok.ensures.found
 
-pub returns-in-Ok-next_typed_value-clause-deep : goal.returns-in-Ok-next_typed_value-clause-deep
-returns-in-Ok-next_typed_value-clause-deep g c = grind (arith, common_steps) steps 400000
-
-pub returns-in-Ok-next_typed_value-clause-spare : goal.returns-in-Ok-next_typed_value-clause-spare
-returns-in-Ok-next_typed_value-clause-spare g c = grind (arith, common_steps) steps 400000
-
-pub returns-in-Err-next_typed_value-clause-goes : goal.returns-in-Err-next_typed_value-clause-goes
-returns-in-Err-next_typed_value-clause-goes g c = grind (arith, common_steps) steps 400000
-
-pub returns-in-Err-next_typed_value-clause-deep : goal.returns-in-Err-next_typed_value-clause-deep
-returns-in-Err-next_typed_value-clause-deep g c = grind (arith, common_steps) steps 400000
-
-pub returns-in-Ok-next_typed_value-clause-range : goal.returns-in-Ok-next_typed_value-clause-range
-returns-in-Ok-next_typed_value-clause-range g c = grind (arith, common_steps) steps 400000
-
-pub returns-in-Some-clause-deep : goal.returns-in-Some-clause-deep
-returns-in-Some-clause-deep g c = grind (arith, common_steps) steps 400000
-
-pub returns-in-Ok-next_typed_value-clause-goes : goal.returns-in-Ok-next_typed_value-clause-goes
-returns-in-Ok-next_typed_value-clause-goes g c = grind (arith, common_steps) steps 400000
-
-pub returns-in-Err-next_typed_value-clause-range : goal.returns-in-Err-next_typed_value-clause-range
-returns-in-Err-next_typed_value-clause-range g c = grind (arith, common_steps) steps 400000
-
-pub returns-in-Some-clause-spare : goal.returns-in-Some-clause-spare
-returns-in-Some-clause-spare g c = grind (arith, common_steps) steps 400000
+pub next_wrapper-requires-clause-small : goal.next_wrapper-requires-clause-small
+next_wrapper-requires-clause-small g c = found-wraps c.args.limits (as_around c.args.region) c.in-Ok.part c.in-Some.count (sym c.in-Some.ensures) c.in-Ok.ensures.found
 
 pub returns-in-Err-clause-range : goal.returns-in-Err-clause-range
 returns-in-Err-clause-range g c = grind (arith, common_steps) steps 400000
 
-pub returns-in-Some-clause-goes : goal.returns-in-Some-clause-goes
-returns-in-Some-clause-goes g c = grind (arith, common_steps) steps 400000
+pub returns-in-Err-clause-deep : goal.returns-in-Err-clause-deep
+returns-in-Err-clause-deep g c = grind (arith, common_steps) steps 400000
+
+pub returns-in-Err-clause-marker : goal.returns-in-Err-clause-marker
+returns-in-Err-clause-marker g c = grind (arith, common_steps) steps 400000
+
+pub returns-in-Err-clause-reads : goal.returns-in-Err-clause-reads
+returns-in-Err-clause-reads g c = grind (arith, common_steps) steps 400000
 
 pub returns-in-Err-clause-goes : goal.returns-in-Err-clause-goes
 returns-in-Err-clause-goes g c = grind (arith, common_steps) steps 400000
 
-pub returns-in-Err-clause-deep : goal.returns-in-Err-clause-deep
-returns-in-Err-clause-deep g c = grind (arith, common_steps) steps 400000
+pub returns-in-Err-clause-spare : goal.returns-in-Err-clause-spare
+returns-in-Err-clause-spare g c = grind (arith, common_steps) steps 400000
 
-pub returns-in-Ok-next_typed_value-clause-marker : goal.returns-in-Ok-next_typed_value-clause-marker
-returns-in-Ok-next_typed_value-clause-marker g c = grind (arith, common_steps) steps 400000
+pub returns-in-Err-next_wrapper-clause-range : goal.returns-in-Err-next_wrapper-clause-range
+returns-in-Err-next_wrapper-clause-range g c = grind (arith, common_steps) steps 400000
 
-pub returns-in-Ok-next_typed_value-clause-reads : goal.returns-in-Ok-next_typed_value-clause-reads
-returns-in-Ok-next_typed_value-clause-reads g c = grind (arith, common_steps) steps 1200000
+pub returns-in-Err-next_wrapper-clause-deep : goal.returns-in-Err-next_wrapper-clause-deep
+returns-in-Err-next_wrapper-clause-deep g c = grind (arith, common_steps) steps 400000
 
-pub returns-in-Err-next_typed_value-clause-reads : goal.returns-in-Err-next_typed_value-clause-reads
-returns-in-Err-next_typed_value-clause-reads g c = grind (arith, common_steps) steps 1200000
+pub returns-in-Err-next_wrapper-clause-marker : goal.returns-in-Err-next_wrapper-clause-marker
+returns-in-Err-next_wrapper-clause-marker g c = grind (arith, common_steps) steps 400000
 
-pub returns-in-Err-next_typed_value-clause-marker : goal.returns-in-Err-next_typed_value-clause-marker
-returns-in-Err-next_typed_value-clause-marker g c = grind (arith, common_steps) steps 400000
+pub returns-in-Err-next_wrapper-clause-reads : goal.returns-in-Err-next_wrapper-clause-reads
+returns-in-Err-next_wrapper-clause-reads g c = grind (arith, common_steps) steps 1200000
+
+pub returns-in-Err-next_wrapper-clause-goes : goal.returns-in-Err-next_wrapper-clause-goes
+returns-in-Err-next_wrapper-clause-goes g c = grind (arith, common_steps) steps 400000
+
+pub returns-in-Err-next_wrapper-clause-spare : goal.returns-in-Err-next_wrapper-clause-spare
+returns-in-Err-next_wrapper-clause-spare g c = grind (arith, common_steps) steps 400000
 
 pub returns-in-Some-clause-range : goal.returns-in-Some-clause-range
 returns-in-Some-clause-range g c = grind (arith, common_steps) steps 400000
 
+pub returns-in-Some-clause-deep : goal.returns-in-Some-clause-deep
+returns-in-Some-clause-deep g c = grind (arith, common_steps) steps 400000
+
 pub returns-in-Some-clause-marker : goal.returns-in-Some-clause-marker
-returns-in-Some-clause-marker g c = grind (arith, common_steps) steps 400000
+returns-in-Some-clause-marker g c place e = absurd (c.next_annotated.ensures.no_marker place e)
 
-pub returns-in-Err-next_typed_value-clause-spare : goal.returns-in-Err-next_typed_value-clause-spare
-returns-in-Err-next_typed_value-clause-spare g c = grind (arith, common_steps) steps 400000
+pub returns-in-Some-clause-reads : goal.returns-in-Some-clause-reads
+returns-in-Some-clause-reads g c =
+    let old = c.args.source.now in
+    let mid = c.next_part.new.source in
+    let inner = c.next_wrapper.new.source in
+    let reads = c.next_annotated.ensures.reads in
+    let first = moves-then g.I.Input old mid inner c.in-Ok.ensures.reads.moves c.in-Ok-next_wrapper.ensures.reads.moves in
+    record {
+      further = grind (arith, common_steps);
+      stands = reads.stands;
+      moves = moves-then g.I.Input old inner c.next_annotated.new.source first reads.moves;
+      causes = grind (arith, common_steps);
+      charges = reads.charges;
+      share = reads.share;
+    }
 
-pub next_annotated-requires : goal.next_annotated-requires
-next_annotated-requires g c = grind (arith, common_steps) steps 400000
+pub returns-in-Some-clause-goes : goal.returns-in-Some-clause-goes
+returns-in-Some-clause-goes g c = grind (arith, common_steps) steps 400000
 
-pub returns-in-Err-clause-marker : goal.returns-in-Err-clause-marker
-returns-in-Err-clause-marker g c = grind (arith, common_steps) steps 400000
+pub returns-in-Some-clause-spare : goal.returns-in-Some-clause-spare
+returns-in-Some-clause-spare g c = grind (arith, common_steps) steps 400000
+
+pub returns-in-Err-next_rest-clause-range : goal.returns-in-Err-next_rest-clause-range
+returns-in-Err-next_rest-clause-range g c = grind (arith, common_steps) steps 400000
+
+pub returns-in-Err-next_rest-clause-deep : goal.returns-in-Err-next_rest-clause-deep
+returns-in-Err-next_rest-clause-deep g c = grind (arith, common_steps) steps 400000
+
+pub returns-in-Err-next_rest-clause-marker : goal.returns-in-Err-next_rest-clause-marker
+returns-in-Err-next_rest-clause-marker g c = grind (arith, common_steps) steps 400000
+
+pub returns-in-Err-next_rest-clause-reads : goal.returns-in-Err-next_rest-clause-reads
+returns-in-Err-next_rest-clause-reads g c = grind (arith, common_steps) steps 1200000
+
+pub returns-in-Err-next_rest-clause-goes : goal.returns-in-Err-next_rest-clause-goes
+returns-in-Err-next_rest-clause-goes g c = grind (arith, common_steps) steps 400000
+
+pub returns-in-Err-next_rest-clause-spare : goal.returns-in-Err-next_rest-clause-spare
+returns-in-Err-next_rest-clause-spare g c = grind (arith, common_steps) steps 400000
+
+pub returns-in-Ok-next_rest-clause-range : goal.returns-in-Ok-next_rest-clause-range
+returns-in-Ok-next_rest-clause-range g c = grind (arith, common_steps) steps 400000
+
+pub returns-in-Ok-next_rest-clause-deep : goal.returns-in-Ok-next_rest-clause-deep
+returns-in-Ok-next_rest-clause-deep g c kind last place e =
+    let is = found-same c.in-Ok-next_rest.found (typed.Container kind last) c.place-place.result place e in
+    subst (λ x. IsFound c.args.limits (as_around c.args.region) x) (c.in-Ok-next_rest.ensures.begins kind last (ap (λ x. Ok x) is)) c.in-Ok.ensures.found
+
+pub returns-in-Ok-next_rest-clause-marker : goal.returns-in-Ok-next_rest-clause-marker
+returns-in-Ok-next_rest-clause-marker g c = grind (arith, common_steps) steps 400000
+
+pub returns-in-Ok-next_rest-clause-reads : goal.returns-in-Ok-next_rest-clause-reads
+returns-in-Ok-next_rest-clause-reads g c = grind (arith, common_steps) steps 1200000
+
+pub returns-in-Ok-next_rest-clause-goes : goal.returns-in-Ok-next_rest-clause-goes
+returns-in-Ok-next_rest-clause-goes g c = grind (arith, common_steps) steps 400000
+
+pub returns-in-Ok-next_rest-clause-spare : goal.returns-in-Ok-next_rest-clause-spare
+returns-in-Ok-next_rest-clause-spare g c = grind (arith, common_steps) steps 400000

@@ -1,73 +1,43 @@
-use Rattle.std.proofs.Common.{refl, ◌+◌, true, false, Some, arith}
+use Rattle.std.proofs.Common.{◌≡◌, ◌+◌, ℕ, Some, Ok, Err, refl, ap, sym, ◌∙◌, arith}
 use Rattle.std.proofs.lemmas.Grind.{common_steps}
-use Rattle.ion_binary.specs.Descriptor.{length_at, var_uint_at}
-use Rattle.ion_binary.specs.Reading.{wrapper_at}
+use Rattle.ion_value.specs.Parts.{◌>>=◌}
 use Rattle.ion_meter.specs.Sources.{cursor}
 use Rattle.ion_value.specs.Answers.{itself}
+use Rattle.ion_binary.specs.Descriptor.{var_uint_at}
+use Rattle.ion_binary.specs.Scanned.{region_in, wrapper_after, wrapper_by}
 use Rattle.ion_binary.specs.Wrappers.{as_wrapped}
 use Rattle.ion_value.proofs.Cursors.{answers-refused}
-use Rattle.ion_binary.proofs.WrapperCode.{wrapper_at-no_length, wrapper_at-no_ids, wrapper_at-tested}
+use Rattle.ion_binary.proofs.WrapperCode.{wrapper_after-ids, wrapper_after-no_ids}
 use Rattle.ion_binary.proofs.wrapper.next_wrapper.Goals as goal
 
 pub returns-in-Err-clause-gives : goal.returns-in-Err-clause-gives
 returns-in-Err-clause-gives g c t =
     let old = cursor g.I.Input c.args.source.now in
-    let new = cursor g.I.Input c.next_length.new.source in
-    answers-refused itself as_wrapped c.in-Err.fault new new c.args.place (length_at c.args.length_code c.args.region old) (wrapper_at c.args.region c.args.length_code old)
-    (c.in-Err.ensures.gives t) (λ e h. wrapper_at-no_length c.args.region c.args.length_code old e h)
-
-pub returns-in-Err-next_var_uint-clause-gives : goal.returns-in-Err-next_var_uint-clause-gives
-returns-in-Err-next_var_uint-clause-gives g c t =
-    let old = cursor g.I.Input c.args.source.now in
-    let sized = cursor g.I.Input c.next_length.new.source in
     let new = cursor g.I.Input c.next_var_uint.new.source in
-    answers-refused itself as_wrapped c.in-Err-next_var_uint.fault new new c.args.place (var_uint_at (Some (c.place-here.result + c.in-Ok.count)) sized)
-    (wrapper_at c.args.region c.args.length_code old)
-    (c.in-Err-next_var_uint.ensures.gives (c.in-Ok.ensures.reads.moves.still_observable.1 t))
-    (λ e h. wrapper_at-no_ids c.args.region c.args.length_code c.in-Ok.count c.place-here.result old sized e (c.in-Ok.ensures.gives t) c.place-here.ensures h)
+    let r = region_in c.args.around.within c.args.around.end in
+    answers-refused itself as_wrapped c.in-Err.fault new new c.args.place (var_uint_at (Some (c.place-here.result + c.args.count)) old) (wrapper_after r c.args.count old) (c.in-Err.ensures.gives t)
+    (λ e h. wrapper_after-no_ids r c.args.count old e (ap (λ (p : ℕ). var_uint_at (Some (p + c.args.count)) old) (sym c.place-here.ensures) ∙ h))
 
-pub returns-then-passes_end-clause-gives : goal.returns-then-passes_end-clause-gives
-returns-then-passes_end-clause-gives g c t =
+pub returns-in-Err-wrapper_of-clause-gives : goal.returns-in-Err-wrapper_of-clause-gives
+returns-in-Err-wrapper_of-clause-gives g c t =
     let old = cursor g.I.Input c.args.source.now in
-    let sized = cursor g.I.Input c.next_length.new.source in
     let new = cursor g.I.Input c.next_var_uint.new.source in
-    let e = wrapper_at-tested c.args.region c.args.length_code c.in-Ok.count c.in-Ok-next_var_uint.ids c.place-here.result c.next_var_uint.new.source.place old sized new true _
-    (c.in-Ok.ensures.gives t) c.place-here.ensures (c.in-Ok-next_var_uint.ensures.gives (c.in-Ok.ensures.reads.moves.still_observable.1 t)) refl c.if-passes_end.ensures refl in
-    (e, refl)
+    let r = region_in c.args.around.within c.args.around.end in
+    let ids : var_uint_at (Some (old.place + c.args.count)) old ≡ Ok (c.in-Ok.ids, new) = ap (λ (p : ℕ). var_uint_at (Some (p + c.args.count)) old) (sym c.place-here.ensures) ∙ c.in-Ok.ensures.gives t in
+    let by : wrapper_by r old.place c.args.count new.place c.in-Ok.ids ≡ Err c.in-Err-wrapper_of.reason = rw (c.place-here.ensures, c.place.ensures) at (c.in-Err-wrapper_of.ensures r c.requires.around) in
+    (wrapper_after-ids r c.args.count c.in-Ok.ids old new ids ∙ ap (λ w. w >>= λ x. Ok (x, new)) by, refl)
 
-pub returns-then-is_no_wrapper-clause-gives : goal.returns-then-is_no_wrapper-clause-gives
-returns-then-is_no_wrapper-clause-gives g c t =
+pub returns-in-Ok-wrapper_of-clause-gives : goal.returns-in-Ok-wrapper_of-clause-gives
+returns-in-Ok-wrapper_of-clause-gives g c t =
     let old = cursor g.I.Input c.args.source.now in
-    let sized = cursor g.I.Input c.next_length.new.source in
     let new = cursor g.I.Input c.next_var_uint.new.source in
-    let e = wrapper_at-tested c.args.region c.args.length_code c.in-Ok.count c.in-Ok-next_var_uint.ids c.place-here.result c.place-after.result old sized new false true
-    (c.in-Ok.ensures.gives t) c.place-here.ensures (c.in-Ok-next_var_uint.ensures.gives (c.in-Ok.ensures.reads.moves.still_observable.1 t)) c.place-after.ensures
-    c.if-passes_end.ensures c.if-is_no_wrapper.ensures in
-    (e, refl)
-
-pub returns-clause-gives : goal.returns-clause-gives
-returns-clause-gives g c t =
-    let old = cursor g.I.Input c.args.source.now in
-    let sized = cursor g.I.Input c.next_length.new.source in
-    let new = cursor g.I.Input c.next_var_uint.new.source in
-    wrapper_at-tested c.args.region c.args.length_code c.in-Ok.count c.in-Ok-next_var_uint.ids c.place-here.result c.place-after.result old sized new false false
-    (c.in-Ok.ensures.gives t) c.place-here.ensures (c.in-Ok-next_var_uint.ensures.gives (c.in-Ok.ensures.reads.moves.still_observable.1 t)) c.place-after.ensures
-    c.if-passes_end.ensures c.if-is_no_wrapper.ensures
-
-pub returns-then-is_no_wrapper-clause-reads : goal.returns-then-is_no_wrapper-clause-reads
-returns-then-is_no_wrapper-clause-reads g c = grind (arith, common_steps) steps 400000
-
-pub returns-in-Err-next_var_uint-clause-reads : goal.returns-in-Err-next_var_uint-clause-reads
-returns-in-Err-next_var_uint-clause-reads g c = grind (arith, common_steps) steps 400000
-
-pub returns-then-passes_end-clause-reads : goal.returns-then-passes_end-clause-reads
-returns-then-passes_end-clause-reads g c = grind (arith, common_steps) steps 400000
-
-pub is_no_wrapper-requires : goal.is_no_wrapper-requires
-is_no_wrapper-requires g c = grind (arith, common_steps) steps 400000
+    let r = region_in c.args.around.within c.args.around.end in
+    let ids : var_uint_at (Some (old.place + c.args.count)) old ≡ Ok (c.in-Ok.ids, new) = ap (λ (p : ℕ). var_uint_at (Some (p + c.args.count)) old) (sym c.place-here.ensures) ∙ c.in-Ok.ensures.gives t in
+    let by : wrapper_by r old.place c.args.count new.place c.in-Ok.ids ≡ Ok (as_wrapped c.in-Ok-wrapper_of.wrapper) = rw (c.place-here.ensures, c.place.ensures) at (c.in-Ok-wrapper_of.ensures r c.requires.around) in
+    wrapper_after-ids r c.args.count c.in-Ok.ids old new ids ∙ ap (λ w. w >>= λ x. Ok (x, new)) by
 
 pub returns-in-Err-clause-reads : goal.returns-in-Err-clause-reads
 returns-in-Err-clause-reads g c = grind (arith, common_steps) steps 400000
 
-pub overflow_add-result : goal.overflow_add-result
-overflow_add-result g c = grind (arith, common_steps) steps 400000
+pub returns-in-Err-wrapper_of-clause-reads : goal.returns-in-Err-wrapper_of-clause-reads
+returns-in-Err-wrapper_of-clause-reads g c = grind (arith, common_steps) steps 400000

@@ -3,22 +3,18 @@ use Rattle.std.proofs.lemmas.Grind.{common_steps}
 use Rattle.ion_meter.specs.Windows.{left}
 use Rattle.ion_meter.proofs.Lent.{lent-IsGiven, IsPassed-left}
 use Rattle.ion_meter.specs.Sources.{cursor}
-use Rattle.ion_binary.proofs.TypedValueCode.{is_version, lent-three, marker_at-inside, marker_at-cut, marker_at-other, marker_at-read}
-use Rattle.ion_binary.proofs.typed_value.next_marker.Goals as goal
+use Rattle.ion_binary.proofs.TypedValueCode.{is_version, lent-three, version-cut, version-other, version-read}
+use Rattle.ion_binary.proofs.value.next_version.Goals as goal
 
 -- a test that was turned round
 not-same : (t u : Bool) → t ≡ not u → (t ≡ true → u ≡ false) × (t ≡ false → u ≡ true)
 not-same t true e = (λ h. absurd (let k = sym e ∙ h in cc k), λ h. refl)
 not-same t false e = (λ h. refl, λ h. absurd (let k = sym e ∙ h in cc k))
 
-pub returns-then-is_some-clause-gives : goal.returns-then-is_some-clause-gives
-returns-then-is_some-clause-gives g c t =
-    (marker_at-inside c.args.region (cursor g.I.Input c.args.source.now) (sym c.is_some.ensures ∙ c.if-is_some.true), refl)
-
 pub returns-in-Ok-None-clause-gives : goal.returns-in-Ok-None-clause-gives
 returns-in-Ok-None-clause-gives g c t =
     let none : slice_get (left g.I.Input.rest c.args.source.now) 2 ≡ None = sym (c.in-Ok-None.ensures.gives t) ∙ c.in-Ok-None.field-0-is in
-    (marker_at-cut c.args.region (cursor g.I.Input c.args.source.now) (sym c.is_some.ensures ∙ c.if-is_some.false) none, refl)
+    (version-cut (cursor g.I.Input c.args.source.now) none, refl)
 
 pub returns-then-ne-clause-gives : goal.returns-then-ne-clause-gives
 returns-then-ne-clause-gives g c t =
@@ -28,7 +24,7 @@ returns-then-ne-clause-gives g c t =
     let three = lent-three g.I.Input.rest p all (lent-IsGiven p 2 c.in-Ok-Some.ensures.well.1 given.0) (c.in-Ok-Some.ensures.kept.same_left t) in
     let same : take 3 all ≡ take 3 c.buffer.result.now = three.2 ∙ ap (take 3) (sym c.buffer.ensures) in
     let other : is_version (take 3 all) ≡ false = ap is_version same ∙ (not-same c.ne.result _ c.ne.ensures).0 c.if-ne.true in
-    (marker_at-other c.args.region (cursor g.I.Input c.args.source.now) (sym c.is_some.ensures ∙ c.if-is_some.false) three.1 other, refl)
+    (version-other (cursor g.I.Input c.args.source.now) three.1 other, refl)
 
 pub returns-clause-gives : goal.returns-clause-gives
 returns-clause-gives g c t =
@@ -41,16 +37,13 @@ returns-clause-gives g c t =
     let one : is_version (take 3 all) ≡ true = ap is_version same ∙ (not-same c.ne.result _ c.ne.ensures).1 c.if-ne.false in
     let passed : left g.I.Input.rest c.consume.new.self ≡ drop 3 all = IsPassed-left g.I.Input.rest p c.consume.new.self 3 three.0 c.consume.ensures ∙ ap (drop 3) same_left in
     let at : c.consume.new.self.place ≡ c.args.source.now.place + 3 = c.consume.ensures.place ∙ ap (λ n. n + 3) c.in-Ok-Some.ensures.kept.place in
-    rw (passed, at) (marker_at-read c.args.region (cursor g.I.Input c.args.source.now) (sym c.is_some.ensures ∙ c.if-is_some.false) three.1 one)
+    rw (passed, at) (version-read (cursor g.I.Input c.args.source.now) three.1 one)
 
 pub returns-in-Ok-None-clause-reads : goal.returns-in-Ok-None-clause-reads
 returns-in-Ok-None-clause-reads g c = grind (arith, common_steps) steps 400000
 
 pub returns-in-Err : goal.returns-in-Err
 returns-in-Err g c = grind (arith, common_steps) steps 400000
-
-pub returns-then-is_some-clause-reads : goal.returns-then-is_some-clause-reads
-returns-then-is_some-clause-reads g c = grind (arith, common_steps) steps 400000
 
 pub returns-then-ne-clause-reads : goal.returns-then-ne-clause-reads
 returns-then-ne-clause-reads g c = grind (arith, common_steps) steps 400000

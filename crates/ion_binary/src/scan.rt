@@ -1,0 +1,268 @@
+//! Scanners of what stands in a window: VarUInts, and descriptors with the length after them (binary
+//! encoding, "Basic Field Formats" and "Typed Value Formats"). Each reads a slice alone.
+//!
+//! Every test of a region answers `Overrun`. So one test after a length stands for those of the octets
+//! before it: where it holds they are in the region too, and where not, one of them is the first outside.
+ghost use Rattle.std.specs.Prelude.{◌≡◌, ◌+◌, ◌-◌, ◌^◌, ◌<◌, ◌≤◌, ◌&&◌, IfOk};
+ghost use Rattle.ion_value.specs.Answers.{itself};
+ghost use Rattle.ion_binary.specs.Descriptor.{Region as region, is_unwrappable, length_at, var_uint_at};
+ghost use Rattle.ion_binary.specs.Finds.{IsOfDescriptor};
+ghost use Rattle.ion_binary.specs.Reading.{fits};
+ghost use Rattle.ion_binary.specs.Scanned.{EndsAt, IfWhole, IsFound, IsRegion, Shows, as_around, begun, found_by, itself_found, part_at, wrapping};
+ghost use Rattle.ion_binary.specs.Shapes.{as_shape};
+
+use crate::descriptor::Shape;
+use ion_meter::fault::Reason;
+use ion_meter::limits::Limits;
+use ion_value::ion_type::{IonType, Kind};
+
+/// What octets show of the part that begins at the front of them, whatever octets follow.
+#[derive(Clone, Copy)]
+pub(crate) enum Scanned<T> {
+    /// All of it: what it is, and how many octets it has.
+    Whole(T, usize),
+    /// A fault in it.
+    Fault(Reason),
+    /// Not all of it: at least one octet more is in its region.
+    Cut,
+}
+
+/// What is around a part.
+#[derive(Clone, Copy)]
+pub(crate) enum Within {
+    /// Nothing: it stands at top level.
+    Top,
+    /// A container.
+    Container,
+    /// An annotation wrapper.
+    Wrapper,
+}
+
+/// Where a part stands.
+#[derive(Clone, Copy)]
+pub(crate) struct Region {
+    /// What is around it.
+    pub(crate) within: Within,
+    /// The place where that ends, `TOP` at top level.
+    pub(crate) end: u64,
+    /// How many containers are open.
+    pub(crate) depth: u32,
+}
+
+/// The end of the top level, which is after all places.
+pub(crate) const TOP: u64 = u64::MAX;
+
+/// What a descriptor and the length after it begin.
+#[derive(Clone, Copy)]
+pub(crate) enum Found {
+    /// A NOP pad, of which so many octets follow.
+    NopPad(u64),
+    /// A version marker, of which three octets follow.
+    Marker,
+    /// The null of a type.
+    Null(IonType),
+    /// A truth value.
+    Bool(bool),
+    /// A scalar of this type code whose body of so many octets follows.
+    Body(u8, u64),
+    /// A container's beginning, and the place of its end.
+    Begin(Kind, u64),
+    /// An annotation wrapper, of which so many octets follow.
+    Wrapper(u64),
+}
+
+impl Found {
+    /// How many octets follow where it is an annotation wrapper.
+    #[inline(always)]
+    pub(crate) fn wrapped(self) -> Option<u64>
+        ensures { result ≡ wrapping self }
+    {
+        match self {
+            Found::Wrapper(count) => Some(count),
+            _ => None,
+        }
+    }
+}
+
+// The most octets that a VarUInt has.
+const LONGEST: usize = 9;
+
+/// The VarUInt at a place, in a region that ends at another.
+pub(crate) fn scan_var(octets: &[u8], place: u64, end: u64) -> Scanned<u64>
+    requires { place ≤ 2 ^ 49 }
+    ensures shows { (r : region) → EndsAt r end
+        → Shows 9 itself place octets.now result (var_uint_at r) }
+    ensures fits { IfWhole result (λ n count. (n < 2 ^ 63) × (0 < count) × (count ≤ 9)) }
+{
+    let mut value = 0;
+    for index in 0..LONGEST {
+        if end <= place + index as u64 {
+            return Scanned::Fault(Reason::Overrun);
+        }
+        if octets.len() <= index {
+            return Scanned::Cut;
+        }
+        let octet = octets[index];
+        value = value * 128 + u64::from(octet % 128);
+        if octet >= 128 {
+            return Scanned::Whole(value, index + 1);
+        }
+    }
+    Scanned::Fault(Reason::BadVar)
+}
+
+// The length that a descriptor with these low four bits has: 14 says that a VarUInt follows.
+#[inline(always)]
+fn scan_length(octets: &[u8], place: u64, end: u64, length_code: u8) -> Scanned<u64>
+    requires small { place ≤ 2 ^ 49 }
+    requires length_code { length_code < 15 }
+    ensures shows { (r : region) → EndsAt r end
+        → Shows 9 itself place octets.now result (length_at length_code r) }
+    ensures fits { IfWhole result (λ n count. (n < 2 ^ 63) × (count ≤ 9)) }
+{
+    if length_code < 14 {
+        return Scanned::Whole(length_code as u64, 0);
+    }
+    scan_var(octets, place, end)
+}
+
+impl Region {
+    // Whether it is a wrapper.
+    #[inline(always)]
+    fn is_wrapper(self) -> bool
+        ensures { result ≡ (as_around self).wrapped }
+    {
+        match self.within {
+            Within::Wrapper => true,
+            Within::Top | Within::Container => false,
+        }
+    }
+
+    // Whether it is a wrapper that may not hold what this octet begins: another wrapper, or a NOP pad.
+    #[inline(always)]
+    fn refuses(self, octet: u8) -> bool
+        ensures { result ≡ (as_around self).wrapped && is_unwrappable octet }
+    {
+        self.is_wrapper() && (octet / 16 == 14 || octet < 15)
+    }
+
+    // So many octets from a place on do not pass the region, and fill it where it is a wrapper.
+    #[inline(always)]
+    fn check_fits(self, here: u64, count: u64) -> Result<(), Reason>
+        requires region { IsRegion self }
+        requires small { here + count < 2 ^ 64 - 1 }
+        ensures { result ≡ fits (as_around self) here count }
+    {
+        if self.end < here + count {
+            return Err(Reason::Overrun);
+        }
+        if self.is_wrapper() && here + count < self.end {
+            return Err(Reason::BadAnnotation);
+        }
+        Ok(())
+    }
+
+    // A container whose members have so many octets, from a place on.
+    #[inline(always)]
+    fn begin(self, kind: Kind, here: u64, count: u64, limits: Limits) -> Result<Found, Reason>
+        requires region { IsRegion self }
+        requires small { here + count < 2 ^ 64 - 1 }
+        ensures gives { result ≡ begun limits (as_around self) kind here count }
+        ensures found { IfOk result (IsFound limits (as_around self)) }
+    {
+        if let Err(reason) = self.check_fits(here, count) {
+            return Err(reason);
+        }
+        if limits.depth <= self.depth {
+            return Err(Reason::DepthLimit);
+        }
+        Ok(Found::Begin(kind, here + count))
+    }
+}
+
+/// What a shape begins whose length is known, after which a place is.
+///
+/// Refuses, in this order, a length above the region, a wrapped value that ends before its wrapper, and
+/// too many open containers or too long a scalar.
+#[inline(always)]
+pub(crate) fn found_of(
+    shape: Shape,
+    here: u64,
+    count: u64,
+    region: Region,
+    limits: Limits,
+) -> Result<Found, Reason>
+    requires region { IsRegion region }
+    requires small { here + count < 2 ^ 64 - 1 }
+    requires count { count < 2 ^ 63 }
+    requires shape { IsOfDescriptor (as_shape shape) }
+    ensures gives { result ≡ found_by limits (as_around region) (as_shape shape) here count }
+    ensures found { IfOk result (IsFound limits (as_around region)) }
+{
+    match shape {
+        Shape::Container(kind, _) => region.begin(kind, here, count, limits),
+        Shape::Sorted if count == 0 => Err(Reason::BadDescriptor),
+        Shape::Sorted => region.begin(Kind::Struct, here, count, limits),
+        Shape::Wrapper(_) => Ok(Found::Wrapper(count)),
+        Shape::Float => Err(Reason::Float),
+        Shape::Illegal => Err(Reason::BadDescriptor),
+        Shape::Marker => match region.within {
+            Within::Top => Ok(Found::Marker),
+            _ => Err(Reason::BadDescriptor),
+        },
+        Shape::NopPad(_) if region.end < here + count => Err(Reason::Overrun),
+        Shape::NopPad(_) => Ok(Found::NopPad(count)),
+        Shape::Null(of) => match region.check_fits(here, count) {
+            Err(reason) => Err(reason),
+            Ok(()) => Ok(Found::Null(of)),
+        },
+        Shape::Bool(truth) => match region.check_fits(here, count) {
+            Err(reason) => Err(reason),
+            Ok(()) => Ok(Found::Bool(truth)),
+        },
+        Shape::Body {
+            type_code,
+            length_code: _,
+        } => match region.check_fits(here, count) {
+            Err(reason) => Err(reason),
+            Ok(()) if limits.scalar < count => Err(Reason::ScalarLimit),
+            Ok(()) => Ok(Found::Body(type_code, count)),
+        },
+    }
+}
+
+/// What stands at a place in a region: a descriptor, and the length after it.
+///
+/// Refuses first what a wrapper may not hold, then lengths that do not end, then what `found_of` does.
+#[inline(always)]
+pub(crate) fn scan_part(octets: &[u8], place: u64, region: Region, limits: Limits) -> Scanned<Found>
+    requires region { IsRegion region }
+    requires small { place ≤ 2 ^ 48 }
+    ensures shows { Shows 10 itself_found place octets.now result
+        (part_at limits (as_around region)) }
+    ensures found { IfWhole result
+        (λ f count. IsFound limits (as_around region) f × (0 < count)) }
+{
+    if region.end <= place {
+        return Scanned::Fault(Reason::Overrun);
+    }
+    if octets.is_empty() {
+        return Scanned::Cut;
+    }
+    let octet = octets[0];
+    if region.refuses(octet) {
+        return Scanned::Fault(Reason::BadAnnotation);
+    }
+    let shape = Shape::of(octet);
+    let here = place + 1;
+    match scan_length(&octets[1..], here, region.end, shape.length_code()) {
+        Scanned::Cut => Scanned::Cut,
+        Scanned::Fault(reason) => Scanned::Fault(reason),
+        Scanned::Whole(count, n) => {
+            match found_of(shape, here + n as u64, count, region, limits) {
+                Err(reason) => Scanned::Fault(reason),
+                Ok(found) => Scanned::Whole(found, n + 1),
+            }
+        }
+    }
+}

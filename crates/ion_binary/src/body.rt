@@ -50,8 +50,6 @@ pub(crate) enum Body {
 // The type codes of strings and lobs, and the least of them.
 const STRING: u8 = 8;
 
-const CLOB: u8 = 9;
-
 /// An id as readers give it.
 #[inline]
 pub(crate) fn id_of(n: u64) -> u32
@@ -95,24 +93,72 @@ fn long_id(octets: &[u8]) -> u32
     }
 }
 
-// A number, a timestamp or a symbol of these octets.
-#[tactic(auto, unfolding(ion_value::specs::Scalar::scalar_of_body))]
+// An int of these octets.
 #[inline(always)]
-fn number(type_code: u8, octets: &[u8], body: &mut Body) -> Result<(), Reason>
-    requires type_code { IsNumberCode type_code }
+fn int_of(negative: bool, octets: &[u8]) -> Result<Body, Reason>
     ensures gives { MatchResult result
-        (λ _. (text : List ℕ) → scalar_of_body type_code octets.now ≡ Ok (as_scalar text body.new))
-        (λ r. scalar_of_body type_code octets.now ≡ Err r) }
-    ensures range { OnOk result ((text : List ℕ) → InRange (as_scalar text body.new)) }
+        (λ b. (text : List ℕ) → with_value int (int_of_bytes negative octets.now)
+        ≡ Ok (as_scalar text b))
+        (λ r. with_value int (int_of_bytes negative octets.now) ≡ Err r) }
+    ensures range { IfOk result (λ b. (text : List ℕ) → InRange (as_scalar text b)) }
 {
-    *body = match type_code {
-        2 => Body::Int(int_from_bytes(false, octets)?),
-        3 => Body::Int(int_from_bytes(true, octets)?),
-        5 => Body::Decimal(decimal_from_bytes(octets)?),
-        6 => Body::Timestamp(timestamp_from_bytes(octets)?),
-        _ => Body::Symbol(uint_id(octets)),
-    };
-    Ok(())
+    if octets.len() > 8 {
+        return long_int(negative, octets);
+    }
+    let value = few_value(octets);
+    if negative && value == 0 {
+        return Err(Reason::BadNumber);
+    }
+    Ok(Body::Int(Int {
+        negative,
+        magnitude: value as u128,
+    }))
+}
+
+// An int of any number of octets.
+#[cold]
+#[inline(never)]
+fn long_int(negative: bool, octets: &[u8]) -> Result<Body, Reason>
+    ensures gives { MatchResult result
+        (λ b. (text : List ℕ) → with_value int (int_of_bytes negative octets.now)
+        ≡ Ok (as_scalar text b))
+        (λ r. with_value int (int_of_bytes negative octets.now) ≡ Err r) }
+    ensures range { IfOk result (λ b. (text : List ℕ) → InRange (as_scalar text b)) }
+{
+    match int_from_bytes(negative, octets) {
+        Err(reason) => Err(reason),
+        Ok(int) => Ok(Body::Int(int)),
+    }
+}
+
+/// The scalar that octets are, by its type code.
+#[inline(always)]
+pub(crate) fn scalar_of(type_code: u8, octets: &[u8]) -> Result<Body, Reason>
+    requires type_code { IsBodyTypeCode type_code }
+    ensures gives { MatchResult result
+        (λ b. scalar_of_body type_code octets.now ≡ Ok (as_scalar octets.now b))
+        (λ r. scalar_of_body type_code octets.now ≡ Err r) }
+    ensures number { type_code < 8 → IfOk result (λ b. (text : List ℕ)
+        → as_scalar text b ≡ as_scalar octets.now b) }
+    ensures range { IfOk result (λ b. InRange (as_scalar octets.now b)) }
+{
+    match type_code {
+        2 => int_of(false, octets),
+        3 => int_of(true, octets),
+        5 => match decimal_from_bytes(octets) {
+            Err(reason) => Err(reason),
+            Ok(decimal) => Ok(Body::Decimal(decimal)),
+        },
+        6 => match timestamp_from_bytes(octets) {
+            Err(reason) => Err(reason),
+            Ok(moment) => Ok(Body::Timestamp(moment)),
+        },
+        7 => Ok(Body::Symbol(uint_id(octets))),
+        8 if is_text(octets) => Ok(Body::String),
+        8 => Err(Reason::BadText),
+        9 => Ok(Body::Clob),
+        _ => Ok(Body::Blob),
+    }
 }
 
 /// Whether octets are UTF-8.
@@ -142,40 +188,22 @@ fn is_short_ascii(octets: &[u8]) -> bool
     true
 }
 
-// A string or a lob of these octets.
-#[tactic(auto, unfolding(ion_value::specs::Scalar::scalar_of_body))]
-#[inline]
-fn text_or_lob(type_code: u8, octets: &[u8], body: &mut Body) -> Result<(), Reason>
-    requires type_code { (8 ≤ type_code) × (type_code ≤ 10) }
-    ensures gives { MatchResult result
-        (λ _. scalar_of_body type_code octets.now ≡ Ok (as_scalar octets.now body.new))
-        (λ r. scalar_of_body type_code octets.now ≡ Err r) }
-    ensures range { OnOk result (InRange (as_scalar octets.now body.new)) }
-{
-    if type_code == STRING && !is_text(octets) {
-        return Err(Reason::BadText);
-    }
-    *body = match type_code {
-        STRING => Body::String,
-        CLOB => Body::Clob,
-        _ => Body::Blob,
-    };
-    Ok(())
-}
-
-// A scalar of these octets.
+// Puts the scalar that octets are into a body.
 #[inline(never)]
-fn scalar(type_code: u8, octets: &[u8], body: &mut Body) -> Result<(), Reason>
+fn put_scalar(type_code: u8, octets: &[u8], body: &mut Body) -> Result<(), Reason>
     requires type_code { IsBodyTypeCode type_code }
     ensures gives { MatchResult result
         (λ _. scalar_of_body type_code octets.now ≡ Ok (as_scalar octets.now body.new))
         (λ r. scalar_of_body type_code octets.now ≡ Err r) }
     ensures range { OnOk result (InRange (as_scalar octets.now body.new)) }
 {
-    if type_code < STRING {
-        return number(type_code, octets, body);
+    match scalar_of(type_code, octets) {
+        Err(reason) => Err(reason),
+        Ok(scalar) => {
+            *body = scalar;
+            Ok(())
+        }
     }
-    text_or_lob(type_code, octets, body)
 }
 
 /// Passes over n octets; false where the input ends before.
@@ -265,8 +293,9 @@ fn number_in_window<I: Input, A: Allocator + Copy>(
     ensures range { OnOk result ((text : List ℕ) → InRange (as_scalar text body.new)) }
     ensures reads { Reads I.Input source.old source.new result }
 {
-    if let Err(reason) = number(type_code, &source.buffer()[..count], body) {
-        return Err(Fault::Refused(reason, place));
+    match scalar_of(type_code, &source.buffer()[..count]) {
+        Err(reason) => return Err(Fault::Refused(reason, place)),
+        Ok(scalar) => *body = scalar,
     }
     source.consume(count);
     Ok(())
@@ -309,7 +338,7 @@ pub(crate) fn next_body<I: Input, A: Allocator + Copy>(
         Ok(false) => return Err(Fault::Refused(Reason::Truncated, place)),
         Ok(true) => {}
     }
-    if let Err(reason) = scalar(type_code, text.as_slice(), body) {
+    if let Err(reason) = put_scalar(type_code, text.as_slice(), body) {
         return Err(Fault::Refused(reason, place));
     }
     Ok(())

@@ -3,13 +3,14 @@
 //!
 //! Every test of a region answers `Overrun`. So one test after a length stands for those of the octets
 //! before it: where it holds they are in the region too, and where not, one of them is the first outside.
-ghost use Rattle.std.specs.Prelude.{◌≡◌, ◌+◌, ◌-◌, ◌^◌, ◌<◌, ◌≤◌, ◌&&◌, IfOk};
+ghost use Rattle.std.specs.Prelude.{◌≡◌, ◌+◌, ◌-◌, ◌^◌, ◌<◌, ◌≤◌, ◌&&◌, length, IfOk, IfSome};
 ghost use Rattle.ion_value.specs.Answers.{itself};
 ghost use Rattle.ion_binary.specs.Descriptor.{Region as region, is_unwrappable, length_at, var_uint_at};
 ghost use Rattle.ion_binary.specs.Finds.{IsOfDescriptor};
 ghost use Rattle.ion_binary.specs.Reading.{fits};
 ghost use Rattle.ion_binary.specs.Scanned.{EndsAt, IfWhole, IsFound, IsRegion, Shows, as_around, begun, found_by, itself_found, part_at, wrapping};
 ghost use Rattle.ion_binary.specs.Shapes.{as_shape};
+ghost use Rattle.ion_binary.specs.Shown.{ShowsLength, ShowsVar};
 
 use crate::descriptor::Shape;
 use ion_meter::fault::Reason;
@@ -109,6 +110,45 @@ pub(crate) fn scan_var(octets: &[u8], place: u64, end: u64) -> Scanned<u64>
         }
     }
     Scanned::Fault(Reason::BadVar)
+}
+
+/// The number that a VarUInt of one octet or two spells from an offset on, and the offset after it.
+///
+/// It is the fast path of `scan_var`, and calls nothing, so that a loop in which it stands keeps its
+/// values in registers.
+#[inline(always)]
+pub(crate) fn few_var(octets: &[u8], at: usize) -> Option<(u64, usize)>
+    requires { at ≤ length octets.now }
+    ensures shows { IfSome result (λ r. ShowsVar octets.now at r.1 r.0) }
+    ensures small { IfSome result (λ r. r.0 < 2 ^ 14) }
+{
+    if octets.len() - at < 2 {
+        return None;
+    }
+    let first = octets[at] as u64;
+    if first >= 128 {
+        return Some((first - 128, at + 1));
+    }
+    let second = octets[at + 1] as u64;
+    if second >= 128 {
+        return Some((first * 128 + (second - 128), at + 2));
+    }
+    None
+}
+
+/// The length that a descriptor with these low four bits has, where it has two octets at most, and the
+/// offset after it.
+#[inline(always)]
+pub(crate) fn few_length(octets: &[u8], at: usize, length_code: u8) -> Option<(u64, usize)>
+    requires within { at ≤ length octets.now }
+    requires length_code { length_code < 15 }
+    ensures shows { IfSome result (λ r. ShowsLength octets.now length_code at r.1 r.0) }
+    ensures small { IfSome result (λ r. r.0 < 2 ^ 14) }
+{
+    if length_code < 14 {
+        return Some((length_code as u64, at));
+    }
+    few_var(octets, at)
 }
 
 // The length that a descriptor with these low four bits has: 14 says that a VarUInt follows.

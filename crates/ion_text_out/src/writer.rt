@@ -27,6 +27,7 @@ use crate::item::put_item;
 use crate::quote::{stands_in_string, stands_in_symbol};
 use crate::scalar::{bool_text, null};
 use arrayvec::ArrayVec;
+use ion_float::text::float_to_text;
 use ion_meter::device::Output;
 use ion_meter::fault::Fault;
 use ion_meter::limits::Limits;
@@ -432,6 +433,9 @@ impl<A: Allocator + Copy> TextWriter<A> {
             Head::Null(of) => self.take_text(sink, name, note, null(of)),
             Head::Bool(truth) => self.take_text(sink, name, note, bool_text(truth)),
             Head::Int(int) => self.take_int(sink, name, note, int),
+            Head::Float(float) => {
+                self.take_text(sink, name, note, float_to_text(float).as_str().as_bytes())
+            }
             Head::Decimal(decimal) => self.take_decimal(sink, name, note, decimal),
             Head::Timestamp(moment) => self.take_timestamp(sink, name, note, moment),
             Head::Symbol(at) => self.take_symbol(sink, name, note, at.sym),

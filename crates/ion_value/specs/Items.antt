@@ -35,6 +35,7 @@ abbrev pub raw_head : Head → value.Head SymbolAt
 raw_head (code.Null type) = value.whole (value.null type)
 raw_head (code.Bool truth) = value.whole (value.bool truth)
 raw_head (code.Int number) = value.whole (value.int number)
+raw_head (code.Float number) = value.whole (value.float number)
 raw_head (code.Decimal number) = value.whole (value.decimal number)
 raw_head (code.Timestamp moment) = value.whole (value.timestamp moment)
 raw_head (code.Symbol at) = value.whole (value.symbol (symbol_at at))

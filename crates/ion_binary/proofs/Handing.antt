@@ -211,6 +211,7 @@ named-range : (f : SymbolAt → SymbolAt) (place : ℕ) (v : Scalar Symbol) → 
 named-range f place (value.null t) h = tt
 named-range f place (value.bool t) h = tt
 named-range f place (value.int n) h = h
+named-range f place (value.float n) h = h
 named-range f place (value.decimal n) h = h
 named-range f place (value.timestamp n) h = h
 named-range f place (value.symbol n) h = tt

@@ -107,6 +107,7 @@ InRange-placed : (place : ℕ) (s : Scalar Symbol) → InRange s → InRange (pl
 InRange-placed place (value.null t) h = tt
 InRange-placed place (value.bool t) h = tt
 InRange-placed place (value.int n) h = h
+InRange-placed place (value.float n) h = h
 InRange-placed place (value.decimal n) h = h
 InRange-placed place (value.timestamp n) h = h
 InRange-placed place (value.symbol n) h = tt

@@ -11,6 +11,7 @@ use Rattle.ion_value.specs.declared.int.Int.{Int}
 use Rattle.ion_value.specs.Number.{uint, marked, digits_in, uint_octets, var_uint_octets}
 use Rattle.ion_value.specs.Int.{IsInt}
 use Rattle.ion_value.specs.Decimal.{decimal_body}
+use Rattle.ion_value.specs.FloatOctets.{float_octets}
 use Rattle.ion_value.specs.Timestamp.{timestamp_body}
 use Rattle.ion_value.specs.Name.{raw_id}
 use Rattle.ion_value.specs.Scalar as numbered
@@ -22,6 +23,7 @@ use Rattle.ion_value.proofs.Octets.{Digits-fewest, digits_in-Digits}
 use Rattle.ion_value.proofs.VarOctets.{var_uint_octets-VarUInt}
 use Rattle.ion_value.proofs.DecimalOctets.{decimal_body-DecimalBody}
 use Rattle.ion_value.proofs.TimestampBodies.{bytes-back}
+use Rattle.ion_float.proofs.OctetLaws.{octets-read}
 use Rattle.ion_binary.specs.Positions.{symbol_id, placed_scalar}
 use Rattle.ion_binary.specs.Grammar.{Descriptor, IsNullOf, Body, Plain, Ids, Field, Header, Wrapper, Annotated, Bin, Inside, type_code}
 use Rattle.ion_binary.specs.Canonical.{annotation_octets, field_octets, header, headed, id_octets, length_octets, members_octets, scalar_octets, value_octets, wrapped}
@@ -141,6 +143,8 @@ scalar-Plain ids (value.null t) small range text short = record { spells = Plain
 scalar-Plain ids (value.bool true) small range text short = record { spells = Plain.yes; fits = λ limits least fits. tt }
 scalar-Plain ids (value.bool false) small range text short = record { spells = Plain.no; fits = λ limits least fits. tt }
 scalar-Plain ids (value.int i) small range text short = int-Plain ids i.negative i refl range short
+scalar-Plain ids (value.float x) small range text short =
+    headed-Plain ids (value.float x) 4 (value.float x) (float_octets x) (Body.float x (float_octets x) (octets-read x range)) short (λ limits least fits. fits)
 scalar-Plain ids (value.decimal d) small range text short =
     headed-Plain ids (value.decimal d) 5 (value.decimal d) (decimal_body d) (Body.decimal d (decimal_body d) (decimal_body-DecimalBody d range) range) short (λ limits least fits. fits)
 scalar-Plain ids (value.timestamp t) small range text short =
@@ -164,6 +168,7 @@ scalar-some : (ids : UserSymbol → ℕ) (v : Scalar UserSymbol) → 0 < length 
 scalar-some ids (value.null t) = omega arith
 scalar-some ids (value.bool truth) = omega arith
 scalar-some ids (value.int i) = body-some ids (value.int i)
+scalar-some ids (value.float d) = body-some ids (value.float d)
 scalar-some ids (value.decimal d) = body-some ids (value.decimal d)
 scalar-some ids (value.timestamp t) = body-some ids (value.timestamp t)
 scalar-some ids (value.symbol s) = body-some ids (value.symbol s)
@@ -265,6 +270,7 @@ unplaced : (place : ℕ) (v : Scalar Symbol) → map_scalar bare_symbol (placed_
 unplaced place (value.null t) = refl
 unplaced place (value.bool truth) = refl
 unplaced place (value.int number) = refl
+unplaced place (value.float number) = refl
 unplaced place (value.decimal number) = refl
 unplaced place (value.timestamp moment) = refl
 unplaced place (value.symbol s) = refl

@@ -6,6 +6,7 @@ use Rattle.ion_meter.specs.declared.limits.Limits.{Limits}
 use Rattle.ion_value.specs.declared.decimal.Decimal.{Decimal}
 use Rattle.ion_value.specs.declared.timestamp.Timestamp.{Timestamp}
 use Rattle.ion_value.specs.Decimal.{IsDecimal, decimal_body}
+use Rattle.ion_value.specs.FloatOctets.{float_octets}
 use Rattle.ion_value.specs.Number.{uint_octets}
 use Rattle.ion_value.specs.Path.{closed, path_items}
 use Rattle.ion_value.specs.Reading.{Finished, items_then}
@@ -35,6 +36,7 @@ abbrev pub ScalarFits : Limits → Scalar UserSymbol → Type 0
 ScalarFits limits (value.null type) = ⊤
 ScalarFits limits (value.bool truth) = ⊤
 ScalarFits limits (value.int number) = length (uint_octets number.magnitude) ≤ limits.scalar
+ScalarFits limits (value.float number) = length (float_octets number) ≤ limits.scalar
 ScalarFits limits (value.decimal number) = length (decimal_body number) ≤ limits.scalar
 ScalarFits limits (value.timestamp moment) = length (timestamp_body moment) ≤ limits.scalar
 ScalarFits limits (value.symbol name) = IdFits limits name

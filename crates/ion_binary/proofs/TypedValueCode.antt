@@ -10,7 +10,7 @@ use Rattle.ion_meter.specs.declared.fault.Fault.{Fault}
 use Rattle.ion_meter.specs.declared.fault.Fault.TheVariants.{Refused, Memory, ReadFault, WriteFault, InputLimit}
 use Rattle.ion_meter.specs.declared.fault.Reason.{Reason}
 use Rattle.ion_meter.specs.declared.fault.Reason.TheVariants.{BadDescriptor, BadAnnotation, BadVersion, ScalarLimit, Truncated}
-use Rattle.ion_meter.specs.declared.limits.Limits.{Limits}
+use Rattle.ion_meter.specs.declared.profile.Rules.{Rules}
 use Rattle.ion_meter.specs.Windows.{Incoming, left, lent}
 use Rattle.ion_meter.proofs.Lent.{lent-take, lent-CanPass}
 use Rattle.ion_value.specs.declared.ion_type.Kind.{Kind}
@@ -57,71 +57,71 @@ answers-mapped view f (Err InputLimit) after place one all h e = tt
 -- ---- the header of a container
 
 -- the header of a container is known by the place of its end
-begin_at-ends : (limits : Limits) (a : Around) (k : Kind) (n : ℕ) (c : Cursor) → begin_at limits a k n c ≡ (end_by limits a c.place n >>= λ end. Ok (a_container k end, c))
+begin_at-ends : (limits : Rules) (a : Around) (k : Kind) (n : ℕ) (c : Cursor) → begin_at limits a k n c ≡ (end_by limits a c.place n >>= λ end. Ok (a_container k end, c))
 unfolding begin_at
 begin_at-ends limits a k n c = then-mapped (fits a c.place n) _ (c.place + n) (λ end. (a_container k end, c))
 
 -- where no end is given there is no header
-begin_at-refused : (limits : Limits) (a : Around) (k : Kind) (n : ℕ) (c : Cursor) (e : Reason) → end_by limits a c.place n ≡ Err e → begin_at limits a k n c ≡ Err e
+begin_at-refused : (limits : Rules) (a : Around) (k : Kind) (n : ℕ) (c : Cursor) (e : Reason) → end_by limits a c.place n ≡ Err e → begin_at limits a k n c ≡ Err e
 begin_at-refused limits a k n c e h = begin_at-ends limits a k n c ∙ ap (λ r. r >>= λ end. Ok (a_container k end, c)) h
 
-begin_at-begun : (limits : Limits) (a : Around) (k : Kind) (n : ℕ) (c : Cursor) (end : ℕ) → end_by limits a c.place n ≡ Ok end → begin_at limits a k n c ≡ Ok (a_container k end, c)
+begin_at-begun : (limits : Rules) (a : Around) (k : Kind) (n : ℕ) (c : Cursor) (end : ℕ) → end_by limits a c.place n ≡ Ok end → begin_at limits a k n c ≡ Ok (a_container k end, c)
 begin_at-begun limits a k n c end h = begin_at-ends limits a k n c ∙ ap (λ r. r >>= λ end. Ok (a_container k end, c)) h
 
-pub container_at-no_length : (limits : Limits) (a : Around) (k : Kind) (length_code : ℕ) (c : Cursor) (e : Reason) → length_at length_code a.region c ≡ Err e → container_at limits a k length_code c ≡ Err e
+pub container_at-no_length : (limits : Rules) (a : Around) (k : Kind) (length_code : ℕ) (c : Cursor) (e : Reason) → length_at length_code a.region c ≡ Err e → container_at limits a k length_code c ≡ Err e
 unfolding container_at
 container_at-no_length limits a k length_code c e h = rw h refl
 
 -- a length that does not fit, or a container too deep
-pub container_at-refused : (limits : Limits) (a : Around) (k : Kind) (length_code : ℕ) (c : Cursor) (n : ℕ) (d : Cursor) (e : Reason)
+pub container_at-refused : (limits : Rules) (a : Around) (k : Kind) (length_code : ℕ) (c : Cursor) (n : ℕ) (d : Cursor) (e : Reason)
     → length_at length_code a.region c ≡ Ok (n, d) → end_by limits a d.place n ≡ Err e → container_at limits a k length_code c ≡ Err e
 unfolding container_at
 container_at-refused limits a k length_code c n d e h m = rw h (begin_at-refused limits a k n d e m)
 
 -- a container begins after its length
-pub container_at-begun : (limits : Limits) (a : Around) (k : Kind) (length_code : ℕ) (c : Cursor) (n : ℕ) (d : Cursor) (end : ℕ)
+pub container_at-begun : (limits : Rules) (a : Around) (k : Kind) (length_code : ℕ) (c : Cursor) (n : ℕ) (d : Cursor) (end : ℕ)
     → length_at length_code a.region c ≡ Ok (n, d) → end_by limits a d.place n ≡ Ok end → container_at limits a k length_code c ≡ Ok (a_container k end, d)
 unfolding container_at
 container_at-begun limits a k length_code c n d end h m = rw h (begin_at-begun limits a k n d end m)
 
-pub sorted_at-no_length : (limits : Limits) (a : Around) (c : Cursor) (e : Reason) → var_uint_at a.region c ≡ Err e → sorted_at limits a c ≡ Err e
+pub sorted_at-no_length : (limits : Rules) (a : Around) (c : Cursor) (e : Reason) → var_uint_at a.region c ≡ Err e → sorted_at limits a c ≡ Err e
 unfolding sorted_at
 sorted_at-no_length limits a c e h = rw h refl
 
 -- a struct whose fields are in order is not empty
-pub sorted_at-empty : (limits : Limits) (a : Around) (c : Cursor) (n : ℕ) (d : Cursor) → var_uint_at a.region c ≡ Ok (n, d) → n ≡ 0 → sorted_at limits a c ≡ Err BadDescriptor
+pub sorted_at-empty : (limits : Rules) (a : Around) (c : Cursor) (n : ℕ) (d : Cursor) → var_uint_at a.region c ≡ Ok (n, d) → n ≡ 0 → sorted_at limits a c ≡ Err BadDescriptor
 unfolding sorted_at
 sorted_at-empty limits a c n d h z = rw (h, z) refl
 
 -- one of some octets begins as other structs do
-sorted_at-some : (limits : Limits) (a : Around) (c : Cursor) (n : ℕ) (d : Cursor) → var_uint_at a.region c ≡ Ok (n, d) → 0 < n → sorted_at limits a c ≡ begin_at limits a kind.Struct n d
+sorted_at-some : (limits : Rules) (a : Around) (c : Cursor) (n : ℕ) (d : Cursor) → var_uint_at a.region c ≡ Ok (n, d) → 0 < n → sorted_at limits a c ≡ begin_at limits a kind.Struct n d
 unfolding sorted_at
 sorted_at-some limits a c n d h some = let f : eqb n 0 ≡ false = ne_eqb n 0 (λ z. omega (arith, some, z)) in rw (h, f) refl
 
 -- a length that does not fit, or a struct too deep
-pub sorted_at-refused : (limits : Limits) (a : Around) (c : Cursor) (n : ℕ) (d : Cursor) (e : Reason)
+pub sorted_at-refused : (limits : Rules) (a : Around) (c : Cursor) (n : ℕ) (d : Cursor) (e : Reason)
     → var_uint_at a.region c ≡ Ok (n, d) → 0 < n → end_by limits a d.place n ≡ Err e → sorted_at limits a c ≡ Err e
 sorted_at-refused limits a c n d e h z m = sorted_at-some limits a c n d h z ∙ begin_at-refused limits a kind.Struct n d e m
 
 -- and such a struct begins after its length
-pub sorted_at-begun : (limits : Limits) (a : Around) (c : Cursor) (n : ℕ) (d : Cursor) (end : ℕ)
+pub sorted_at-begun : (limits : Rules) (a : Around) (c : Cursor) (n : ℕ) (d : Cursor) (end : ℕ)
     → var_uint_at a.region c ≡ Ok (n, d) → 0 < n → end_by limits a d.place n ≡ Ok end → sorted_at limits a c ≡ Ok (a_container kind.Struct end, d)
 sorted_at-begun limits a c n d end h z m = sorted_at-some limits a c n d h z ∙ begin_at-begun limits a kind.Struct n d end m
 
 -- ---- scalars with bodies
 
-pub scalar_at-no_length : (limits : Limits) (a : Around) (type_code length_code : ℕ) (c : Cursor) (e : Reason) → length_at length_code a.region c ≡ Err e → scalar_at limits a type_code length_code c ≡ Err e
+pub scalar_at-no_length : (limits : Rules) (a : Around) (type_code length_code : ℕ) (c : Cursor) (e : Reason) → length_at length_code a.region c ≡ Err e → scalar_at limits a type_code length_code c ≡ Err e
 unfolding scalar_at
 scalar_at-no_length limits a type_code length_code c e h = rw h refl
 
 -- a body that passes the region, or does not fill its wrapper
-pub scalar_at-misfits : (limits : Limits) (a : Around) (type_code length_code : ℕ) (c : Cursor) (n : ℕ) (d : Cursor) (e : Reason)
+pub scalar_at-misfits : (limits : Rules) (a : Around) (type_code length_code : ℕ) (c : Cursor) (n : ℕ) (d : Cursor) (e : Reason)
     → length_at length_code a.region c ≡ Ok (n, d) → fits a d.place n ≡ Err e → scalar_at limits a type_code length_code c ≡ Err e
 unfolding scalar_at body_at
 scalar_at-misfits limits a type_code length_code c n d e h m = rw h (rw m refl)
 
 -- a scalar is what is made of its body
-pub scalar_at-body : (limits : Limits) (a : Around) (type_code length_code : ℕ) (c : Cursor) (n : ℕ) (d : Cursor) (x : Unit {0})
+pub scalar_at-body : (limits : Rules) (a : Around) (type_code length_code : ℕ) (c : Cursor) (n : ℕ) (d : Cursor) (x : Unit {0})
     → length_at length_code a.region c ≡ Ok (n, d) → fits a d.place n ≡ Ok x → scalar_at limits a type_code length_code c ≡ (body_here limits type_code n d >>= λ p. beside a_scalar p.1 p.0)
 unfolding scalar_at body_at body_here
 scalar_at-body limits a type_code length_code c n d x h m = rw h (rw m (bind-mapped (refuse (ltb limits.scalar n) ScalarLimit) (refuse (ltb (length d.rest) n) Truncated) (scalar_of_body type_code (take n d.rest)) (skip n d) a_scalar))
@@ -223,11 +223,11 @@ shape_of-is_of_descriptor b =
 -- ---- what a descriptor octet begins
 
 -- what no wrapper may hold is refused in one
-pub typed_value_at-wrapped : (limits : Limits) (a : Around) (b : ℕ) (c : Cursor) → (a.wrapped && is_unwrappable b) ≡ true → typed_value_at limits a b c ≡ Err BadAnnotation
+pub typed_value_at-wrapped : (limits : Rules) (a : Around) (b : ℕ) (c : Cursor) → (a.wrapped && is_unwrappable b) ≡ true → typed_value_at limits a b c ≡ Err BadAnnotation
 unfolding typed_value_at
 typed_value_at-wrapped limits a b c h = rw h refl
 
 -- other octets are what their shape begins
-pub typed_value_at-shape : (limits : Limits) (a : Around) (b : ℕ) (c : Cursor) → (a.wrapped && is_unwrappable b) ≡ false → typed_value_at limits a b c ≡ read_by_descriptor limits a (shape_of b) c
+pub typed_value_at-shape : (limits : Rules) (a : Around) (b : ℕ) (c : Cursor) → (a.wrapped && is_unwrappable b) ≡ false → typed_value_at limits a b c ≡ read_by_descriptor limits a (shape_of b) c
 unfolding typed_value_at
 typed_value_at-shape limits a b c h = rw h refl

@@ -1,7 +1,7 @@
 //! The part of an item that is a descriptor, a length and, for a scalar, a body.
 ghost use Rattle.std.specs.Prelude.{◌≡◌, ◌*◌, ◌+◌, ◌-◌, ◌^◌, ◌<◌, ◌&&◌, ℕ, [], length, None, Some, Ok, Err, true, false, OnOk, IfOk, IfErr};
 ghost use Rattle.ion_value.specs.Standing.{InRange};
-ghost use Rattle.ion_binary.specs.Descriptor.{falls_short, is_unwrappable};
+ghost use Rattle.ion_binary.specs.Descriptor.{falls_short, float, is_unwrappable};
 ghost use Rattle.ion_binary.specs.Reading.{a_nop_pad, a_marker, a_scalar, a_container, bare_at, fits, marker_at, nop_pad_at, scalar_at, container_at, sorted_at, typed_value_at, read_by_descriptor};
 ghost use Rattle.ion_binary.specs.Bodies.{as_scalar, IsBodyTypeCode};
 ghost use Rattle.ion_binary.specs.Finds.{as_around, as_typed_value, end_by, IsOfDescriptor};
@@ -17,8 +17,8 @@ use crate::octets::{next_length, next_var_uint};
 use ion_meter::buf::Buf;
 use ion_meter::device::Input;
 use ion_meter::fault::{Fault, Reason};
-use ion_meter::limits::Limits;
 use ion_meter::meter::Meter;
+use ion_meter::profile::Rules;
 use ion_meter::source::Source;
 use ion_value::ion_type::Kind;
 use std::alloc::Allocator;
@@ -141,7 +141,7 @@ fn next_nop_pad<I: Input, A: Allocator + Copy>(
 
 // The header of a container whose members have n octets: the place of its end.
 #[inline]
-fn begin(here: u64, count: u64, around: Around, limits: Limits) -> Result<u64, Reason>
+fn begin(here: u64, count: u64, around: Around, limits: Rules) -> Result<u64, Reason>
     requires { here + count < 2 ^ 64 }
     ensures gives { result ≡ end_by limits (as_around around) here count }
     ensures deep { OnOk result (around.depth < limits.depth) }
@@ -185,7 +185,7 @@ fn next_container<I: Input, A: Allocator + Copy>(
     kind: Kind,
     length_code: u8,
     around: Around,
-    limits: Limits,
+    limits: Rules,
     place: u64,
 ) -> Result<u64, Fault>
     requires stands { Stands source.old }
@@ -210,7 +210,7 @@ fn next_container<I: Input, A: Allocator + Copy>(
 fn next_sorted<I: Input, A: Allocator + Copy>(
     source: &mut Source<I, A>,
     around: Around,
-    limits: Limits,
+    limits: Rules,
     place: u64,
 ) -> Result<u64, Fault>
     requires stands { Stands source.old }
@@ -241,7 +241,7 @@ fn next_scalar<I: Input, A: Allocator + Copy>(
     type_code: u8,
     length_code: u8,
     around: Around,
-    limits: Limits,
+    limits: Rules,
     place: u64,
     meter: &mut Meter<A>,
 ) -> Result<(), Fault>
@@ -267,6 +267,46 @@ fn next_scalar<I: Input, A: Allocator + Copy>(
     next_body(source, text, body, type_code, count, limits, place, meter)
 }
 
+// The rest of a float that is no null.
+#[tactic(auto, unfolding(crate::specs::Reading::read_by_descriptor))]
+#[inline]
+fn next_float<I: Input, A: Allocator + Copy>(
+    source: &mut Source<I, A>,
+    text: &mut Buf<A>,
+    body: &mut Body,
+    length_code: u8,
+    around: Around,
+    limits: Rules,
+    place: u64,
+    meter: &mut Meter<A>,
+) -> Result<(), Fault>
+    requires can_read { CanRead limits limits.scalar source.old text.old meter.old }
+    requires length_code { length_code < 15 }
+    ensures gives { AnswersBy I.Input (λ _. a_scalar (as_scalar text.new body.new))
+        source.old source.new place result
+        (read_by_descriptor limits (as_around around) (float length_code)) }
+    ensures range { OnOk result (InRange (as_scalar text.new body.new)) }
+    ensures reads { ReadsInto I.Input source.old source.new meter.old meter.new
+        (length text.old) (length text.new) limits.scalar result }
+    ensures goes { GrowsWithin meter.old meter.new (length text.old) (length text.new)
+        (16 * passed_over source.old source.new) }
+{
+    if !limits.floats {
+        return Err(Fault::Refused(Reason::Float, place));
+    }
+    next_scalar(
+        source,
+        text,
+        body,
+        4,
+        length_code,
+        around,
+        limits,
+        place,
+        meter,
+    )
+}
+
 // What a shape begins.
 #[tactic(auto, unfolding(crate::specs::Reading::read_by_descriptor))]
 #[inline(always)]
@@ -276,7 +316,7 @@ fn read_by_descriptor<I: Input, A: Allocator + Copy>(
     body: &mut Body,
     shape: Shape,
     around: Around,
-    limits: Limits,
+    limits: Rules,
     place: u64,
     meter: &mut Meter<A>,
 ) -> Result<TypedValue, Fault>
@@ -330,7 +370,19 @@ fn read_by_descriptor<I: Input, A: Allocator + Copy>(
             next_marker(source, around.region, place)?;
             Ok(TypedValue::Marker)
         }
-        Shape::Float => Err(Fault::Refused(Reason::Float, place)),
+        Shape::Float(length_code) => {
+            next_float(
+                source,
+                text,
+                body,
+                length_code,
+                around,
+                limits,
+                place,
+                meter,
+            )?;
+            Ok(TypedValue::Scalar)
+        }
         Shape::Wrapper(_) => Err(Fault::Refused(Reason::BadAnnotation, place)),
         Shape::Illegal => Err(Fault::Refused(Reason::BadDescriptor, place)),
     }
@@ -349,7 +401,7 @@ pub(crate) fn next_typed_value<I: Input, A: Allocator + Copy>(
     body: &mut Body,
     octet: u8,
     around: Around,
-    limits: Limits,
+    limits: Rules,
     place: u64,
     meter: &mut Meter<A>,
 ) -> Result<TypedValue, Fault>

@@ -42,14 +42,16 @@ fn passed_over(shape: Shape, octets: &[u8]) -> Option<u8> {
 // container as its beginning needs.
 fn shows_value(shape: Shape, octets: &[u8]) -> bool {
     match shape {
-        Shape::Null(_) | Shape::Bool(_) | Shape::Float | Shape::Illegal => true,
+        Shape::Null(_) | Shape::Bool(_) | Shape::Illegal => true,
         Shape::Sorted => sized(14, octets).is_some(),
         Shape::Container(_, length_code) => sized(length_code, octets).is_some(),
         Shape::Body {
             type_code: _,
             length_code,
         } => after_body(length_code, octets).is_some(),
-        Shape::Wrapper(length_code) => after_body(length_code, octets).is_some(),
+        Shape::Float(length_code) | Shape::Wrapper(length_code) => {
+            after_body(length_code, octets).is_some()
+        }
         Shape::NopPad(_) | Shape::Marker => false,
     }
 }

@@ -14,8 +14,8 @@ use crate::body::id_of;
 use crate::octets::{next_length, next_var_uint};
 use ion_meter::device::Input;
 use ion_meter::fault::{Fault, Reason};
-use ion_meter::limits::Limits;
 use ion_meter::meter::Meter;
+use ion_meter::profile::Rules;
 use ion_meter::source::Source;
 use ion_meter::stack::Stack;
 use ion_value::ion_type::Kind;
@@ -146,7 +146,7 @@ pub(crate) fn next_annotations<I: Input, A: Allocator + Copy>(
     source: &mut Source<I, A>,
     annotations: &mut Stack<Annotation, A>,
     end: u64,
-    limits: Limits,
+    limits: Rules,
     meter: &mut Meter<A>,
 ) -> Result<(), Fault>
     requires can_read { CanRead limits limits.scalar source.old [] meter.old }

@@ -6,6 +6,7 @@ ghost use Rattle.ion_meter.specs.Limits.{AreChecked};
 ghost use Rattle.ion_meter.specs.Counts.{Shrinks};
 ghost use Rattle.ion_value.specs.Value.{Known, map_head};
 ghost use Rattle.ion_value.specs.Decimal.{IsDecimal, decimal_text};
+ghost use Rattle.ion_value.specs.Float.{value_of};
 ghost use Rattle.ion_value.specs.FloatText.{float_text};
 ghost use Rattle.ion_value.specs.Timestamp.{IsTimestamp, timestamp_text};
 ghost use Rattle.ion_value.specs.Int.{int_text};
@@ -316,7 +317,7 @@ impl<A: Allocator + Copy> TextWriter<A> {
         float: Float64,
     ) -> bool
         ensures { TakesScalar self.old self.new sink.old sink.new result
-            name.now note.now (float_text float) }
+            name.now note.now (float_text (value_of float)) }
     {
         let text = float_to_text(float);
         self.take_text(sink, name, note, text.as_str().as_bytes())

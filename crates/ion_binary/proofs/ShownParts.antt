@@ -191,7 +191,7 @@ begins_value (body type_code length_code) = true
 begins_value (container kind length_code) = true
 begins_value sorted = false
 begins_value marker = false
-begins_value float = false
+begins_value (float length_code) = false
 begins_value illegal = false
 
 wrappable : (b : ℕ) (s : Shape) → b < 256 → shape_of b ≡ s → begins_value s ≡ true → is_unwrappable b ≡ false

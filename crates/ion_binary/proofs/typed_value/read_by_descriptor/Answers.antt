@@ -19,9 +19,9 @@ pub returns-in_ok-end-in-Sorted-clause-reads : goal.returns-in_ok-end-in-Sorted-
 unfolding read_by_descriptor
 returns-in_ok-end-in-Sorted-clause-reads g c = grind (arith, common_steps) steps 400000
 
-pub returns-in-Float-clause-reads : goal.returns-in-Float-clause-reads
+pub returns-in_ok-next_float-in-Float-clause-reads : goal.returns-in_ok-next_float-in-Float-clause-reads
 unfolding read_by_descriptor
-returns-in-Float-clause-reads g c = grind (arith, common_steps) steps 400000
+returns-in_ok-next_float-in-Float-clause-reads g c = grind (arith, common_steps) steps 400000
 
 pub returns-in-Bool-clause-reads : goal.returns-in-Bool-clause-reads
 unfolding read_by_descriptor
@@ -93,8 +93,8 @@ returns-in_ok-next_scalar-in-Body-clause-range g c = grind (arith, common_steps)
 pub returns-in_ok-end-in-Sorted-clause-deep : goal.returns-in_ok-end-in-Sorted-clause-deep
 returns-in_ok-end-in-Sorted-clause-deep g c = grind (arith, common_steps) steps 400000
 
-pub returns-in-Float-clause-range : goal.returns-in-Float-clause-range
-returns-in-Float-clause-range g c = grind (arith, common_steps) steps 400000
+pub returns-in_ok-next_float-in-Float-clause-range : goal.returns-in_ok-next_float-in-Float-clause-range
+returns-in_ok-next_float-in-Float-clause-range g c = grind (arith, common_steps) steps 400000
 
 pub returns-in_ok-next_scalar-in-Body-clause-reads : goal.returns-in_ok-next_scalar-in-Body-clause-reads
 returns-in_ok-next_scalar-in-Body-clause-reads g c = grind (arith, common_steps) steps 400000
@@ -105,8 +105,8 @@ returns-in-Bool-clause-deep g c = grind (arith, common_steps) steps 400000
 pub returns-in-Bool-clause-range : goal.returns-in-Bool-clause-range
 returns-in-Bool-clause-range g c = grind (arith, common_steps) steps 400000
 
-pub returns-in-Float-clause-deep : goal.returns-in-Float-clause-deep
-returns-in-Float-clause-deep g c = grind (arith, common_steps) steps 400000
+pub returns-in_ok-next_float-in-Float-clause-deep : goal.returns-in_ok-next_float-in-Float-clause-deep
+returns-in_ok-next_float-in-Float-clause-deep g c = grind (arith, common_steps) steps 400000
 
 pub returns-in_ok-next_nop_pad-in-NopPad-clause-goes : goal.returns-in_ok-next_nop_pad-in-NopPad-clause-goes
 returns-in_ok-next_nop_pad-in-NopPad-clause-goes g c = grind (arith, common_steps) steps 400000
@@ -131,3 +131,9 @@ returns-in_ok-end-in-Sorted-clause-goes g c = grind (arith, common_steps) steps 
 
 pub returns-in_ok-next_nop_pad-in-NopPad-clause-at_top : goal.returns-in_ok-next_nop_pad-in-NopPad-clause-at_top
 returns-in_ok-next_nop_pad-in-NopPad-clause-at_top g c = grind (arith, common_steps) steps 400000
+
+pub returns-in_ok-next_float-in-Float-clause-goes : goal.returns-in_ok-next_float-in-Float-clause-goes
+returns-in_ok-next_float-in-Float-clause-goes g c = grind (arith, common_steps) steps 400000
+
+pub returns-in_ok-next_float-in-Float-clause-at_top : goal.returns-in_ok-next_float-in-Float-clause-at_top
+returns-in_ok-next_float-in-Float-clause-at_top g c = grind (arith, common_steps) steps 400000

@@ -454,7 +454,7 @@ module _ (shrinks : Shrinking) (limits wide : Rules) (within : AreWithin limits 
 passed-ends : Bodies → Shrinking → (limits : Rules) (bytes : List ℕ) (path : Path SymbolAt ℕ) (s : State) (reason : Reason) (place : ℕ) → At bytes path s
     → Passes limits s place reason → EndsAtFault (reading limits bytes)
 passed-ends bodies shrinks limits bytes path s reason place at passes =
-    let wide : Rules = record (wider limits bytes) { floats = true } in
+    let wide : Rules = record { depth = limits.depth + length bytes; scalar = limits.scalar + 16 * length bytes; floats = true } in
     let within : AreWithin limits wide = record { depth = omega arith; scalar = omega arith; floats = λ permitted. refl } in
     let spelled = at.0 in
     let short : length bytes ≡ length spelled.before + length s.cursor.rest = ap length spelled.split ∙ length-append spelled.before s.cursor.rest in

@@ -1,6 +1,7 @@
 -- Worked rows of the reading, by computing.
 use Rattle.std.specs.Prelude.{◌≡◌, refl, ℕ, pos, negsuc, List, [], ◌∷◌, Option, Some, None, true, false}
 use Rattle.std.specs.Str.{is_utf8, chars}
+use lib.Ieee.{fin, inf, of_bits}
 use lib.Utf8.{encode}
 use Rattle.ion_meter.specs.declared.fault.Reason.{Reason}
 use Rattle.ion_meter.specs.declared.profile.Rules.{Rules}
@@ -64,6 +65,26 @@ each_kind = refl
 float : read_after usual (0x40 ∷ []) ≡ items_then (first ∷ []) (Stopped Reason.Float 4)
 unfolding read
 float = refl
+
+-- where floats are permitted, none, four or eight octets are one
+abbrev with_floats : Rules
+with_floats = record { depth = 64; scalar = 1048576; floats = true }
+
+float_zero : read_after with_floats (0x40 ∷ []) ≡ items_then (first ∷ at 4 4 None [] (whole (value.float (fin false 0 (pos 0)))) ∷ []) (Finished)
+unfolding read
+float_zero = refl
+
+float_of_four : read_after with_floats (0x44 ∷ 0x7F ∷ 0x80 ∷ 0 ∷ 0 ∷ []) ≡ items_then (first ∷ at 4 4 None [] (whole (value.float (inf false))) ∷ []) (Finished)
+unfolding read of_bits
+float_of_four = refl
+
+float_of_three : read_after with_floats (0x43 ∷ 0 ∷ 0 ∷ 0 ∷ []) ≡ items_then (first ∷ []) (Stopped Reason.BadDescriptor 4)
+unfolding read
+float_of_three = refl
+
+float_cut : read_after with_floats (0x44 ∷ 0 ∷ []) ≡ items_then (first ∷ []) (Stopped Reason.Truncated 4)
+unfolding read
+float_cut = refl
 
 float_null : read_after usual (0x4F ∷ []) ≡ items_then (first ∷ at 4 4 None [] (whole (value.null type.Float)) ∷ []) (Finished)
 unfolding read

@@ -184,7 +184,7 @@ module _ (bodies : Bodies) (limits : Rules) where
         let place_in : q + length (w ++ header) + length x ≡ q + length ((w ++ header) ++ x) = omega arith in
         let members : Reads limits start_in (member_items (top_of frames top p) ms) end_in =
         rw place_in at (Inside-reads k (q + length (w ++ header)) ms x inside frames (top_of frames top p) (q + length ((w ++ header) ++ x)) rest (omega arith) fits.2) in
-        let ends : Reads limits end_in (end ∷ []) after = Reads-gives limits end_in next end (step-end limits k frames (top_of frames top p) (q + length ((w ++ header) ++ x)) rest) in
+        let ends : Reads limits end_in (end ∷ []) next = Reads-gives limits end_in next end (step-end limits k frames (top_of frames top p) (q + length ((w ++ header) ++ x)) rest) in
         rw (append_assoc (w ++ header) x rest, append_assoc w header (x ++ rest))
         (Reads-then limits before start_in next (begin ∷ []) (member_items (top_of frames top p) ms ++ end ∷ []) begins
         (Reads-then limits start_in end_in next (member_items (top_of frames top p) ms) (end ∷ []) members ends))

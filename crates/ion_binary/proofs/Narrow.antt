@@ -101,7 +101,7 @@ module _ (limits wide : Rules) (within : AreWithin limits wide) where
   ]
 
   floats-differ : not limits.floats ≡ true → not wide.floats ≡ false → limits.floats ≢ wide.floats
-  floats-differ b w same = let both : true ≡ false = sym b ∙ ap not same ∙ w in cc both
+  floats-differ b w alike = let both : true ≡ false = sym b ∙ ap not alike ∙ w in cc both
 
   -- a scalar: its size alone is held against a limit
   body_at-Cut : (a : Around) (type_code n : ℕ) (c : Cursor) → Cut (IsNarrower limits wide) (body_at limits a type_code n c) (body_at wide a type_code n c)

@@ -3,7 +3,7 @@ use Rattle.std.proofs.Common.{◌≡◌, ℕ, suc, ◌+◌, ◌*◌, ◌<◌, �
 use Rattle.std.proofs.lemmas.List.Sums.{sum_by-append}
 use Rattle.std.proofs.lemmas.Result.{IfOk-at_ok}
 use Rattle.ion_meter.specs.Sources.{Cursor}
-use Rattle.ion_meter.specs.declared.limits.Limits.{Limits}
+use Rattle.ion_meter.specs.declared.profile.Rules.{Rules}
 use Rattle.ion_value.specs.declared.ion_type.Kind.{Kind}
 use Rattle.ion_value.specs.Path.{Path}
 use Rattle.ion_value.specs.ReadingLaws.{Allows}
@@ -70,7 +70,7 @@ cost-is : (symbol : Symbol) (p : ℕ) → cost (at symbol p) ≡ 16 + name_lengt
 cost-is (value.Text bytes) p = refl
 cost-is (value.Id id) p = refl
 
-module _ (limits : Limits) where
+module _ (limits : Rules) where
   -- whatever the bytes that are left can count
   abbrev Wide : Cursor → Type 0
   Wide c = 16 * length c.rest ≤ limits.scalar

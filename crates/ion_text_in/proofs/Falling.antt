@@ -4,7 +4,7 @@ use Rattle.std.proofs.Common.{◌≡◌, ℕ, suc, ◌<◌, ◌≤◌, Bool, tru
 use Rattle.std.proofs.lemmas.Bool.{ltb-true, leb-true, lt-ltb, le-leb}
 use Rattle.ion_meter.specs.declared.fault.Reason.{Reason}
 use Rattle.ion_meter.specs.declared.fault.Reason.TheVariants as reason
-use Rattle.ion_meter.specs.declared.limits.Limits.{Limits}
+use Rattle.ion_meter.specs.declared.profile.Rules.{Rules}
 use Rattle.ion_value.specs.declared.ion_type.Kind.{Kind}
 use Rattle.ion_value.specs.Value as value
 use Rattle.ion_value.specs.Value.{Symbol, SymbolAt}
@@ -92,29 +92,29 @@ ended-less n kinds wants p = fault n p reason.Truncated refl
 -- ---- a step, or a limit's fault in its place
 
 -- the fault of a limit that is passed at its place
-abbrev pub PassesAt : {A : Type 0} → Limits → State → Reason × ℕ → Placed A → Type 0
+abbrev pub PassesAt : {A : Type 0} → Rules → State → Reason × ℕ → Placed A → Type 0
 PassesAt limits s fault w = Passes limits s fault.1 fault.0
 
-pub data StepCut (limits : Limits) (s : State) : Step State → Step State → Type 0 where
+pub data StepCut (limits : Rules) (s : State) : Step State → Step State → Type 0 where
   same_step : (o : Step State) → LeavesLess (size s) o → StepCut limits s o o
   limit_step : (why : Reason) (place : ℕ) (o : Step State) → Passes limits s place why → StepCut limits s (Stops why place) o
 
 -- the first is the second, which leaves less than so many bytes, or the fault of a limit
-abbrev Steps : Limits → State → ℕ → Placed (Step State) → Placed (Step State) → Type 0
+abbrev Steps : Rules → State → ℕ → Placed (Step State) → Placed (Step State) → Type 0
 Steps limits s n r w = Cut (λ r. Less n r) (PassesAt limits s) r w
 
-steps-more : (limits : Limits) (s : State) (n m : ℕ) (r w : Placed (Step State)) → n ≤ m → Steps limits s n r w → Steps limits s m r w
+steps-more : (limits : Rules) (s : State) (n m : ℕ) (r w : Placed (Step State)) → n ≤ m → Steps limits s n r w → Steps limits s m r w
 steps-more limits s n m _ _ le (same r less) = same r (less-more n m r le less)
 steps-more limits s n m _ _ le (limit e w is) = limit e w is
 
 -- a test that holds wherever the wider one does
-refused-Cut : (limits : Limits) (s : State) (n p : ℕ) (b c : Bool) (why : Reason) (o : Step State) → (c ≡ true → b ≡ true) → (b ≡ true → Passes limits s p why) → LeavesLess n o
+refused-Cut : (limits : Rules) (s : State) (n p : ℕ) (b c : Bool) (why : Reason) (o : Step State) → (c ≡ true → b ≡ true) → (b ≡ true → Passes limits s p why) → LeavesLess n o
     → Steps limits s n (part p (refuse b why >> Ok o)) (part p (refuse c why >> Ok o))
 refused-Cut limits s n p true c why o h passes less = limit (why, p) (part p (refuse c why >> Ok o)) (passes refl)
 refused-Cut limits s n p false true why o h passes less = absurd (cc (h refl))
 refused-Cut limits s n p false false why o h passes less = same (Ok o) (record { so = less })
 
-module _ (limits wide : Limits) (within : AreWithin limits wide) where
+module _ (limits wide : Rules) (within : AreWithin limits wide) where
   -- what passes the wider limit passes the narrower one
   scalar-passed : (n : ℕ) → nat_lt wide.scalar n ≡ true → nat_lt limits.scalar n ≡ true
   scalar-passed n h = let narrow = within.scalar in let more = ltb-true wide.scalar n h in lt-ltb limits.scalar n (omega arith)
@@ -218,10 +218,10 @@ leaves-less : (n : ℕ) (o : Step State) (after : State) → LeavesLess n o → 
 leaves-less n _ _ less (after_item item after) = less
 leaves-less n _ _ less (after_nothing after) = less
 
-cut-falls : (limits : Limits) (s after : State) (o w : Step State) → StepCut limits s o w → Leaves o after → size after < size s
+cut-falls : (limits : Rules) (s after : State) (o w : Step State) → StepCut limits s o w → Leaves o after → size after < size s
 cut-falls limits s after _ _ (same_step o less) leaves = leaves-less (size s) o after less leaves
 cut-falls limits s after _ _ (limit_step why place w passes) leaves = elim leaves [ ]
 
-pub each_step_falls : (limits : Limits) → Shrinks (step limits) size
+pub each_step_falls : (limits : Rules) → Shrinks (step limits) size
 each_step_falls limits s after leaves =
-    cut-falls limits s after (step limits s) (step limits s) (step-Cut limits limits (record { depth = omega arith; scalar = omega arith }) s) leaves
+    cut-falls limits s after (step limits s) (step limits s) (step-Cut limits limits (record { depth = omega arith; scalar = omega arith; floats = λ on. on }) s) leaves

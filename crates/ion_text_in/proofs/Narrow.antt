@@ -1,7 +1,7 @@
 -- Narrower limits change nothing in what is read, or cut it short where they are passed; a reading stops at a limit there alone.
 use Rattle.std.proofs.Common.{◌≡◌, ℕ, ◌⊎◌, inl, inr, List, sym, ap, subst, subst₂, ◌∙◌, arith}
 use Rattle.ion_meter.specs.declared.fault.Reason.{Reason}
-use Rattle.ion_meter.specs.declared.limits.Limits.{Limits}
+use Rattle.ion_meter.specs.declared.profile.Rules.{Rules}
 use Rattle.ion_value.specs.Reading.{Reading, Finished, Stopped, Step, Ends, Stops, Gives, GoesOn, next_reading, reading_by, items_then}
 use Rattle.ion_value.specs.ReadingLaws.{ending_of, AreWithin}
 use Rattle.ion_value.specs.Path.{path_items}
@@ -14,7 +14,7 @@ use Rattle.ion_text_in.specs.Laws.{Passes, IsCut, Narrow, ExactLimits}
 use Rattle.ion_text_in.proofs.Falling.{StepCut, same_step, limit_step, step-Cut}
 use Rattle.ion_text_in.proofs.Sound.{IsLast, Walked, walk, last-read}
 
-module _ (limits wide : Limits) (within : AreWithin limits wide) (bytes : List ℕ) where
+module _ (limits wide : Rules) (within : AreWithin limits wide) (bytes : List ℕ) where
   -- the readings are the same, and no limit stops them
   record Same : Type 0 where
     equal : reading.reading limits bytes ≡ reading.reading wide bytes
@@ -46,7 +46,7 @@ pub narrow : Narrow
 narrow limits wide bytes within = elim (same-or-cut limits wide within bytes) [ inl all ↦ inl all.equal | inr cut ↦ inr cut ]
 
 pub exact_limits : ExactLimits
-exact_limits limits bytes cause place e limited = elim (same-or-cut limits limits (record { depth = omega arith; scalar = omega arith }) bytes) [
+exact_limits limits bytes cause place e limited = elim (same-or-cut limits limits (record { depth = omega arith; scalar = omega arith; floats = λ on. on }) bytes) [
   | inl all ↦ absurd (all.free cause place e limited)
   | inr cut ↦
       let ends : Stopped cut.reason cut.place ≡ Stopped cause place = sym (ending_of-items_then (path_items cut.path) (Stopped cut.reason cut.place)) ∙ sym (ap ending_of cut.short) ∙ e in

@@ -1,6 +1,6 @@
 -- One text has one path up to a place, and is one stream.
-use Rattle.std.proofs.Common.{◌≡◌, ℕ, ◌*◌, List, [], ◌++◌, length, sym, ap, ◌∙◌, append-nil, arith}
-use Rattle.ion_meter.specs.declared.limits.Limits.{Limits}
+use Rattle.std.proofs.Common.{◌≡◌, ℕ, ◌*◌, true, List, [], ◌++◌, length, sym, ap, ◌∙◌, append-nil, arith}
+use Rattle.ion_meter.specs.declared.profile.Rules.{Rules}
 use Rattle.ion_value.specs.Value.{top_items}
 use Rattle.ion_value.specs.Path.{closed, path_items}
 use Rattle.ion_value.specs.Reading.{Finished, items_of}
@@ -12,8 +12,8 @@ use Rattle.ion_text_in.specs.Laws.{OnePath, OneStream}
 use Rattle.ion_text_in.proofs.Complete.{complete, streams_are_read}
 
 -- limits that allow an input
-abbrev roomy : List ℕ → Limits
-roomy bytes = record { depth = length bytes; scalar = 16 * length bytes; symbols = 0; value = 0; input = 0 }
+abbrev roomy : List ℕ → Rules
+roomy bytes = record { depth = length bytes; scalar = 16 * length bytes; floats = true }
 
 allowed : (bytes : List ℕ) → Allows (roomy bytes) bytes
 allowed bytes = (omega arith, omega arith)

@@ -1,7 +1,7 @@
 -- Where a reading stops, and not at a limit, the bytes are no stream; a stream that passes no limit is read to its end.
 use Rattle.std.proofs.Common.{◌≡◌, ℕ, ◌+◌, ◌*◌, inl, inr, List, length, refl, sym, ap, ◌∙◌, arith, subst}
 use Rattle.ion_meter.specs.declared.fault.Reason.{Reason}
-use Rattle.ion_meter.specs.declared.limits.Limits.{Limits}
+use Rattle.ion_meter.specs.declared.profile.Rules.{Rules}
 use Rattle.ion_value.specs.Value.{top_items}
 use Rattle.ion_value.specs.Reading.{Finished, Stopped}
 use Rattle.ion_value.specs.Path.{path_items}
@@ -13,20 +13,20 @@ use Rattle.ion_text_in.proofs.Narrow.{narrow}
 use Rattle.ion_text_in.proofs.Complete.{streams_are_read}
 
 -- what passes a limit is a limit's fault
-passes-limit : (limits : Limits) (s : State) (place : ℕ) (reason : Reason) → Passes limits s place reason → IsLimit reason
+passes-limit : (limits : Rules) (s : State) (place : ℕ) (reason : Reason) → Passes limits s place reason → IsLimit reason
 passes-limit limits s place _ (Passes.token is) = inr (inl refl)
 passes-limit limits s place _ (Passes.container k d tok full) = inl refl
 passes-limit limits s place _ (Passes.annotations field annotations quoted symbol q d e are tok after more) = inr (inr refl)
 
 -- limits that these are within, and that allow what stands in these bytes
-abbrev with_room : Limits → List ℕ → Limits
-with_room limits bytes = record { depth = limits.depth + length bytes; scalar = limits.scalar + 16 * length bytes; symbols = 0; value = 0; input = 0 }
+abbrev with_room : Rules → List ℕ → Rules
+with_room limits bytes = record { depth = limits.depth + length bytes; scalar = limits.scalar + 16 * length bytes; floats = limits.floats }
 
 pub rightly_refused : RightlyRefused
 rightly_refused limits bytes reason place tops stops no_limit stream =
-    let wide : Limits = with_room limits bytes in
+    let wide : Rules = with_room limits bytes in
     let read = streams_are_read wide bytes tops (omega arith, omega arith) stream in
-    elim (narrow limits wide bytes (record { depth = omega arith; scalar = omega arith })) [
+    elim (narrow limits wide bytes (record { depth = omega arith; scalar = omega arith; floats = λ on. on })) [
       | inl same ↦
           let ends : Stopped reason place ≡ Finished = sym stops ∙ ap ending_of (same ∙ read) ∙ ending_of-items_then (top_items tops) Finished in
           absurd (cc ends)
@@ -39,8 +39,8 @@ rightly_refused limits bytes reason place tops stops no_limit stream =
 -- a stream that passes no limit is read to its end
 pub streams_within_limits : WithinLimitsAreRead
 streams_within_limits limits bytes tops stream none =
-    let wide : Limits = with_room limits bytes in
-    elim (narrow limits wide bytes (record { depth = omega arith; scalar = omega arith })) [
+    let wide : Rules = with_room limits bytes in
+    elim (narrow limits wide bytes (record { depth = omega arith; scalar = omega arith; floats = λ on. on })) [
       | inl same ↦ same ∙ streams_are_read wide bytes tops (omega arith, omega arith) stream
       | inr cut ↦ absurd (none cut.path cut.state cut.reason cut.place cut.stands cut.passes)
     ]

@@ -4,7 +4,7 @@ use Rattle.std.proofs.lemmas.Bool.{false≢true}
 use Rattle.std.proofs.lemmas.Slice.Eq.{bytes_eq-Decides}
 use Rattle.ion_meter.specs.declared.fault.Reason.{Reason}
 use Rattle.ion_meter.specs.declared.fault.Reason.TheVariants.{BadVersion, DepthLimit, AnnotationLimit}
-use Rattle.ion_meter.specs.declared.limits.Limits.{Limits}
+use Rattle.ion_meter.specs.declared.profile.Rules.{Rules}
 use Rattle.ion_value.specs.declared.ion_type.Kind.{Kind}
 use Rattle.ion_value.specs.declared.ion_type.Kind.TheVariants as kind
 use Rattle.ion_value.specs.Name.{is_version, version_word}
@@ -168,7 +168,7 @@ refused-goes bytes path s p false reason o goes = goes
 abbrev state : List Kind → ℕ → Wants → Cursor → State
 state kinds top wants c = record { kinds = kinds; top = top; wants = wants; cursor = c }
 
-module _ (limits : Limits) (bytes : List ℕ) (path : Path SymbolAt ℕ) (top : ℕ) (is_top : IsTop path top) (p : ℕ) (d : Cursor) where
+module _ (limits : Rules) (bytes : List ℕ) (path : Path SymbolAt ℕ) (top : ℕ) (is_top : IsTop path top) (p : ℕ) (d : Cursor) where
   -- a bracket that closes
   end-goes : (j : Kind) (js : List Kind) (wants : Wants) (full : Bool) (after : Cursor) → Spells (start_of bytes) path (j ∷ js) full after
       → Tok (in_sexp (Some j)) after (end j) p d → (s : State)
@@ -248,7 +248,7 @@ marker-word : (symbol : Symbol) → is_marker symbol ≡ true → symbol ≡ val
 marker-word (value.Text word) e = ap value.Text (sym ((bytes_eq-Decides version_word word).0 e))
 marker-word (value.Id id) e = absurd (false≢true e)
 
-module _ (limits : Limits) (bytes : List ℕ) (path : Path SymbolAt ℕ) (top : ℕ) (is_top : IsTop path top) (p : ℕ) (d : Cursor) where
+module _ (limits : Rules) (bytes : List ℕ) (path : Path SymbolAt ℕ) (top : ℕ) (is_top : IsTop path top) (p : ℕ) (d : Cursor) where
   marker-goes : (symbol : Symbol) (after : Cursor) → Spells (start_of bytes) path [] false after → Tok false after (name false symbol) p d
       → after_colons false d ≡ None → (m : Bool) → is_marker symbol ≡ m → (s : State)
       → Goes bytes path s (part p (refuse (not m) BadVersion >> Ok (reading.item_step [] top None [] p value.marker [] (after_member None) d)))
@@ -370,7 +370,7 @@ module _ (limits : Limits) (bytes : List ℕ) (path : Path SymbolAt ℕ) (top : 
 -- ---- a step
 
 -- a token of the kind that its first bytes tell, or a fault
-cut-goes : (limits : Limits) (bytes : List ℕ) (path : Path SymbolAt ℕ) (s : State) (b : Cursor) → At bytes path s → blanks s.cursor ≡ Ok b
+cut-goes : (limits : Rules) (bytes : List ℕ) (path : Path SymbolAt ℕ) (s : State) (b : Cursor) → At bytes path s → blanks s.cursor ≡ Ok b
     → (o : Result (Token × Cursor) Reason) → token_of (Some limits.scalar) (first_at (in_sexp (innermost s.kinds)) b.rest) b ≡ o
     → Goes bytes path s (part b.place o >>= (λ t. take limits s.kinds s.top s.wants b.place t.0 t.1))
 cut-goes limits bytes path s b stands blank (Err reason) token = tt
@@ -378,29 +378,29 @@ cut-goes limits bytes path s b stands blank (Ok t) token =
     take-goes limits bytes path s.top stands.top b.place t.1 s.kinds stands.full stands.after s.cursor s.wants t.0 stands.spells stands.begun
     (tok-read (Some limits.scalar) (in_sexp (innermost s.kinds)) s.cursor b t.1 t.0 blank token) s
 
-coming-goes : (limits : Limits) (bytes : List ℕ) (path : Path SymbolAt ℕ) (s : State) (b : Cursor) → At bytes path s → blanks s.cursor ≡ Ok b
+coming-goes : (limits : Rules) (bytes : List ℕ) (path : Path SymbolAt ℕ) (s : State) (b : Cursor) → At bytes path s → blanks s.cursor ≡ Ok b
     → (first : First) → first_at (in_sexp (innermost s.kinds)) b.rest ≡ first → (may : Bool) → Goes bytes path s (reading.next_part limits s b first may)
 coming-goes limits bytes path s b stands blank first is false = tt
 coming-goes limits bytes path s b stands blank first is true =
     cut-goes limits bytes path s b stands blank (token_of (Some limits.scalar) first b) (ap (λ first. token_of (Some limits.scalar) first b) is)
 
-ended-goes : (limits : Limits) (bytes : List ℕ) (path : Path SymbolAt ℕ) (s : State) (b : Cursor) → blanks s.cursor ≡ Ok b → b.rest ≡ []
+ended-goes : (limits : Rules) (bytes : List ℕ) (path : Path SymbolAt ℕ) (s : State) (b : Cursor) → blanks s.cursor ≡ Ok b → b.rest ≡ []
     → (kinds : List Kind) (wants : Wants) → s.kinds ≡ kinds → s.wants ≡ wants → Goes bytes path s (reading.final_step kinds wants b.place)
 ended-goes limits bytes path s b blank none [] (a_value None []) kinds_are wants_are = (kinds_are, wants_are, b, blank, none)
 ended-goes limits bytes path s b blank none kinds wants kinds_are wants_are = tt
 
-after-goes : (limits : Limits) (bytes : List ℕ) (path : Path SymbolAt ℕ) (s : State) (b : Cursor) → At bytes path s → blanks s.cursor ≡ Ok b
+after-goes : (limits : Rules) (bytes : List ℕ) (path : Path SymbolAt ℕ) (s : State) (b : Cursor) → At bytes path s → blanks s.cursor ≡ Ok b
     → (rest : List ℕ) → b.rest ≡ rest → Goes bytes path s (reading.part_after limits s b rest)
 after-goes limits bytes path s b stands blank [] is = ended-goes limits bytes path s b blank is s.kinds s.wants refl refl
 after-goes limits bytes path s b stands blank (x ∷ rest) is =
     coming-goes limits bytes path s b stands blank (first_at (in_sexp (innermost s.kinds)) (x ∷ rest)) (ap (first_at (in_sexp (innermost s.kinds))) is)
     (may_come s.wants (first_at (in_sexp (innermost s.kinds)) (x ∷ rest)))
 
-part-goes : (limits : Limits) (bytes : List ℕ) (path : Path SymbolAt ℕ) (s : State) → At bytes path s → (o : Placed Cursor) → blanks s.cursor ≡ o
+part-goes : (limits : Rules) (bytes : List ℕ) (path : Path SymbolAt ℕ) (s : State) → At bytes path s → (o : Placed Cursor) → blanks s.cursor ≡ o
     → Goes bytes path s (o >>= (λ c. reading.part_after limits s c c.rest))
 part-goes limits bytes path s stands (Err fault) blank = tt
 part-goes limits bytes path s stands (Ok b) blank = after-goes limits bytes path s b stands blank b.rest refl
 
-pub step-follows : (limits : Limits) (bytes : List ℕ) (path : Path SymbolAt ℕ) (s : State) → At bytes path s → Follows bytes path s (step limits s)
+pub step-follows : (limits : Rules) (bytes : List ℕ) (path : Path SymbolAt ℕ) (s : State) → At bytes path s → Follows bytes path s (step limits s)
 unfolding step part_at
 step-follows limits bytes path s stands = part-goes limits bytes path s stands (blanks s.cursor) refl

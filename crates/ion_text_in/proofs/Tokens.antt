@@ -5,7 +5,7 @@ use Rattle.std.proofs.lemmas.Result.{IfOk-at_ok}
 use Rattle.std.specs.Result.{IfOk}
 use Rattle.ion_meter.specs.declared.fault.Reason.{Reason}
 use Rattle.ion_meter.specs.declared.fault.Reason.TheVariants.{ScalarLimit}
-use Rattle.ion_meter.specs.declared.limits.Limits.{Limits}
+use Rattle.ion_meter.specs.declared.profile.Rules.{Rules}
 use Rattle.ion_value.specs.declared.ion_type.Kind.{Kind}
 use Rattle.ion_value.specs.Name.{Keyword, a_null, keyword}
 use Rattle.ion_value.specs.Reading.{Stops}
@@ -153,7 +153,7 @@ pub naming-suits : (t : Token) → is_mark t ≡ false → is_naming t ≡ true 
 unfolding may_come
 naming-suits t bare naming first told = ap (λ b. b || names_field first) (sym told.mark ∙ bare) ∙ told.naming naming
 
-module _ (limits : Limits) (kinds : List Kind) (top : ℕ) (wants : Wants) (c : Cursor) (t : Token) (d : Cursor) (suits : Suits wants t) (b : Cursor) where
+module _ (limits : Rules) (kinds : List Kind) (top : ℕ) (wants : Wants) (c : Cursor) (t : Token) (d : Cursor) (suits : Suits wants t) (b : Cursor) where
   rest-token : (rest : List ℕ) → b.rest ≡ rest → token_of None (first_at (in_sexp (innermost kinds)) b.rest) b ≡ got t d
       → reading.part_after limits (state kinds top wants c) b rest
       ≡ (part b.place (if nat_lt limits.scalar (counts t b.place d.place) then Err ScalarLimit else got t d) >>= (λ t. take limits kinds top wants b.place t.0 t.1))
@@ -169,7 +169,7 @@ module _ (limits : Limits) (kinds : List Kind) (top : ℕ) (wants : Wants) (c : 
       ∙ ap (λ (o : Result (Token × Cursor) Reason). part b.place o >>= (λ t. take limits kinds top wants b.place t.0 t.1)) (token-exact limits.scalar first b t d e')
 
 -- where it counts no more than the limit, and else the reading stops
-step-by : (limits : Limits) (kinds : List Kind) (top : ℕ) (wants : Wants) (c : Cursor) (t : Token) (p : ℕ) (d : Cursor) → Suits wants t → Tok (in_sexp (innermost kinds)) c t p d
+step-by : (limits : Rules) (kinds : List Kind) (top : ℕ) (wants : Wants) (c : Cursor) (t : Token) (p : ℕ) (d : Cursor) → Suits wants t → Tok (in_sexp (innermost kinds)) c t p d
     → step limits (state kinds top wants c) ≡ (if nat_lt limits.scalar (counts t p d.place) then Stops ScalarLimit p else step_of (take limits kinds top wants p t d))
 unfolding step part_at
 step-by limits kinds top wants c t p d suits tok =
@@ -184,7 +184,7 @@ step-by limits kinds top wants c t p d suits tok =
     placed p true = refl
     placed p false = refl
 
-pub step-token : (limits : Limits) (kinds : List Kind) (top : ℕ) (wants : Wants) (c : Cursor) (t : Token) (p : ℕ) (d : Cursor) → Suits wants t
+pub step-token : (limits : Rules) (kinds : List Kind) (top : ℕ) (wants : Wants) (c : Cursor) (t : Token) (p : ℕ) (d : Cursor) → Suits wants t
     → TokenWithin limits t p d → Tok (in_sexp (innermost kinds)) c t p d
     → step limits (state kinds top wants c) ≡ step_of (take limits kinds top wants p t d)
 step-token limits kinds top wants c t p d suits within tok =
@@ -192,7 +192,7 @@ step-token limits kinds top wants c t p d suits within tok =
     ∙ ap (λ (long : Bool). if long then Stops ScalarLimit p else step_of (take limits kinds top wants p t d)) (le-ltb limits.scalar (counts t p d.place) within)
 
 -- a token that counts more than the limit is refused
-pub token-stops : (limits : Limits) (kinds : List Kind) (top : ℕ) (wants : Wants) (c : Cursor) (t : Token) (p : ℕ) (d : Cursor) → Suits wants t
+pub token-stops : (limits : Rules) (kinds : List Kind) (top : ℕ) (wants : Wants) (c : Cursor) (t : Token) (p : ℕ) (d : Cursor) → Suits wants t
     → Tok (in_sexp (innermost kinds)) c t p d → limits.scalar < counts t p d.place → step limits (state kinds top wants c) ≡ Stops ScalarLimit p
 token-stops limits kinds top wants c t p d suits tok over =
     step-by limits kinds top wants c t p d suits tok

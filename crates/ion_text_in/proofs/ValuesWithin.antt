@@ -5,7 +5,7 @@ use Rattle.std.specs.Result.{IfOk}
 use Rattle.std.proofs.lemmas.Result.{IfOk-at_ok}
 use Rattle.ion_meter.specs.declared.fault.Reason.{Reason}
 use Rattle.ion_meter.specs.declared.fault.Reason.TheVariants.{BadToken}
-use Rattle.ion_meter.specs.declared.limits.Limits.{Limits}
+use Rattle.ion_meter.specs.declared.profile.Rules.{Rules}
 use Rattle.ion_meter.specs.Sources.{Cursor, skip}
 use Rattle.ion_value.specs.declared.decimal.Decimal.{Decimal}
 use Rattle.ion_value.specs.declared.int.Int.{Int}
@@ -43,7 +43,7 @@ all-more : {A : Type 0} (P Q : A → Type 0) → ((x : A) → P x → Q x) → (
 all-more P Q more [] h = tt
 all-more P Q more (x ∷ xs) h = (more x h.0, all-more P Q more xs h.1)
 
-module _ (limits : Limits) where
+module _ (limits : Rules) where
   -- ---- tokens
 
   -- what a token means is within the limits
@@ -235,5 +235,5 @@ values_are_within law limits bytes tops is read =
 -- under limits that allow all that stands in it
 pub streams-are_raw : StreamsAreRaw
 streams-are_raw bytes tops stream =
-    let limits : Limits = record { depth = length bytes; scalar = 16 * length bytes; symbols = 0; value = 0; input = 0 } in
+    let limits : Rules = record { depth = length bytes; scalar = 16 * length bytes; floats = true } in
     all-more (TopHolds limits) IsRaw (λ top h. h.1) tops (tops-hold limits stream.spells (tops-allowed limits bytes (omega arith, omega arith) stream.spells))

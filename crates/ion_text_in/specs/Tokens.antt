@@ -6,7 +6,7 @@ use Rattle.ion_meter.specs.declared.fault.Fault.{Fault}
 use Rattle.ion_meter.specs.declared.fault.Fault.TheVariants.{Refused, Memory, ReadFault, WriteFault, InputLimit}
 use Rattle.ion_meter.specs.declared.fault.Reason.{Reason}
 use Rattle.ion_meter.specs.declared.fault.Reason.TheVariants.{Truncated}
-use Rattle.ion_meter.specs.declared.limits.Limits.{Limits}
+use Rattle.ion_meter.specs.declared.profile.Rules.{Rules}
 use Rattle.ion_meter.specs.Windows.{Incoming}
 use Rattle.ion_meter.specs.Sources.{Cursor}
 use Rattle.ion_value.specs.Calls.{ReadsInto}
@@ -113,7 +113,7 @@ TokenGives text place (Err WriteFault) after given = Unit {0}
 TokenGives text place (Err InputLimit) after given = Unit {0}
 
 -- whatever it answers
-pub record ReadsToken {I : Type 0} (device : InputOf I) (limits : Limits) (old new : Incoming I) (earlier later : Counts) (before after : List ℕ) (result : Result Token Fault) : Type 0 where
+pub record ReadsToken {I : Type 0} (device : InputOf I) (limits : Rules) (old new : Incoming I) (earlier later : Counts) (before after : List ℕ) (result : Result Token Fault) : Type 0 where
   pub range : IfOk result TokenInRange
   pub further : OnOk result (old.place < new.place)
   pub into : ReadsInto device old new earlier later (length before) (length after) limits.scalar result

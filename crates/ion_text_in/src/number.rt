@@ -16,8 +16,8 @@ use crate::scanned::Scanned;
 use ion_meter::buf::Buf;
 use ion_meter::device::Input;
 use ion_meter::fault::{Fault, Reason};
-use ion_meter::limits::Limits;
 use ion_meter::meter::Meter;
+use ion_meter::profile::Rules;
 use ion_meter::source::Source;
 use ion_value::decimal::{Decimal, decimal_from_text};
 use ion_value::int::{Int, int_from_text};
@@ -65,7 +65,7 @@ pub(crate) fn scan_number(limit: u64, bytes: &[u8]) -> Scanned<Number>
 pub(crate) fn next_number<I: Input, A: Allocator + Copy>(
     source: &mut Source<I, A>,
     text: &mut Buf<A>,
-    limits: Limits,
+    limits: Rules,
     meter: &mut Meter<A>,
 ) -> Result<Number, Fault>
     requires can_read { CanRead limits limits.scalar source.old text.old meter.old }
@@ -95,7 +95,7 @@ pub(crate) fn next_number<I: Input, A: Allocator + Copy>(
 fn gather_number<I: Input, A: Allocator + Copy>(
     source: &mut Source<I, A>,
     text: &mut Buf<A>,
-    limits: Limits,
+    limits: Rules,
     meter: &mut Meter<A>,
 ) -> Result<Number, Fault>
     requires can_read { CanRead limits limits.scalar source.old text.old meter.old }
@@ -171,7 +171,7 @@ pub(crate) fn scan_operator(limit: u64, bytes: &[u8]) -> Scanned<()>
 pub(crate) fn next_operator<I: Input, A: Allocator + Copy>(
     source: &mut Source<I, A>,
     text: &mut Buf<A>,
-    limits: Limits,
+    limits: Rules,
     meter: &mut Meter<A>,
 ) -> Result<(), Fault>
     requires can_read { CanRead limits limits.scalar source.old text.old meter.old }
@@ -198,7 +198,7 @@ pub(crate) fn next_operator<I: Input, A: Allocator + Copy>(
 #[inline]
 pub(crate) fn next_infinity<I: Input, A: Allocator + Copy>(
     source: &mut Source<I, A>,
-    limits: Limits,
+    limits: Rules,
 ) -> Result<(), Fault>
     requires stands { Stands source.old }
     requires there { 4 ≤ length (lent source.old) }

@@ -2,6 +2,7 @@
 ghost use Rattle.std.specs.Prelude.{◌≡◌, ◌≢◌, ◌+◌, ◌*◌, ◌<◌, ◌≤◌, [], length, OnOk, Option, None, Ok, true};
 ghost use Rattle.ion_meter.specs.Counts.{Counts, Shrinks};
 ghost use Rattle.ion_meter.specs.Limits.{AreChecked};
+ghost use Rattle.ion_meter.specs.Rules.{rules, strictly};
 ghost use Rattle.ion_meter.specs.Sources.{BytesAreLeft, cursor, skip, Exceeds, Stands};
 ghost use Rattle.ion_meter.specs.Windows.{left, lent};
 ghost use Rattle.ion_value.specs.Items.{raw_head};
@@ -9,7 +10,7 @@ ghost use Rattle.ion_value.specs.Reading.{Finished};
 ghost use Rattle.ion_text_in.specs.Firsts.{first_of, width};
 ghost use Rattle.ion_text_in.specs.Positions.{innermost, in_sexp};
 ghost use Rattle.ion_text_in.specs.Reading as reading;
-ghost use Rattle.ion_text_in.specs.Reading.{reading, reading_from};
+ghost use Rattle.ion_text_in.specs.Strict.{reading, reading_from};
 ghost use Rattle.ion_text_in.specs.Token as tokens;
 ghost use Rattle.ion_text_in.specs.Token.{name};
 ghost use Rattle.ion_text_in.specs.Tokens.{as_symbol, overrun_of, token_view, TokenInRange};
@@ -31,6 +32,7 @@ use ion_meter::device::{Input, Output};
 use ion_meter::fault::{Fault, Reason};
 use ion_meter::limits::Limits;
 use ion_meter::meter::Meter;
+use ion_meter::profile::{Profile, Rules};
 use ion_meter::sink::Sink;
 use ion_meter::source::Source;
 use ion_meter::stack::Stack;
@@ -87,25 +89,48 @@ pub struct TextReader<I: Input, A: Allocator + Copy> {
     top: u64,
     // Where a comment after the item that is lent begins that does not end.
     unfinished: Option<u64>,
-    limits: Limits,
+    limits: Rules,
     done: bool,
     failed: Option<Fault>,
 }
 
 impl<I: Input, A: Allocator + Copy> TextReader<I, A> {
-    /// A reader of the text that this source gives from its present place on.
-    #[tactic(auto, unfolding(crate::specs::Reading::reading))]
+    /// A reader of the text that this source gives from its present place on, which reads no floats
+    /// other than `null.float`.
     pub fn new(meter: &Meter<A>, limits: Limits, source: Source<I, A>) -> TextReader<I, A>
         requires checked { AreChecked limits }
         requires stands { Stands source }
         ensures sound { IsSound result }
-        ensures source { (source_of result ≡ source) × (limits_of result ≡ limits) }
+        ensures source { (source_of result ≡ source) × (limits_of result ≡ strictly limits) }
         ensures holds { held_by result ≡ 4096 }
         ensures fresh { IsGoing result }
         ensures from { to_come_by I.Input result
             ≡ reading_from limits (cursor I.Input source) }
         ensures reading { source.place ≡ 0
             → to_come_by I.Input result ≡ reading limits (left I.rest source) }
+    {
+        TextReader::with_profile(meter, limits, Profile::strict(), source)
+    }
+
+    /// A reader of the text that this source gives from its present place on, which reads the values
+    /// of this profile.
+    #[tactic(auto, unfolding(crate::specs::Reading::reading))]
+    pub fn with_profile(
+        meter: &Meter<A>,
+        limits: Limits,
+        profile: Profile,
+        source: Source<I, A>,
+    ) -> TextReader<I, A>
+        requires checked { AreChecked limits }
+        requires stands { Stands source }
+        ensures sound { IsSound result }
+        ensures source { (source_of result ≡ source) × (limits_of result ≡ rules limits profile) }
+        ensures holds { held_by result ≡ 4096 }
+        ensures fresh { IsGoing result }
+        ensures from { to_come_by I.Input result
+            ≡ reading.reading_from (rules limits profile) (cursor I.Input source) }
+        ensures reading { source.place ≡ 0 → to_come_by I.Input result
+            ≡ reading.reading (rules limits profile) (left I.rest source) }
     {
         TextReader {
             source,
@@ -120,7 +145,7 @@ impl<I: Input, A: Allocator + Copy> TextReader<I, A> {
             place: 0,
             top: 0,
             unfinished: None,
-            limits,
+            limits: Rules::new(limits, profile),
             done: false,
             failed: None,
         }

@@ -23,8 +23,8 @@ use crate::word::{Word, next_word};
 use ion_meter::buf::Buf;
 use ion_meter::device::Input;
 use ion_meter::fault::{Fault, Reason};
-use ion_meter::limits::Limits;
 use ion_meter::meter::Meter;
+use ion_meter::profile::Rules;
 use ion_meter::source::Source;
 use ion_value::decimal::Decimal;
 use ion_value::int::Int;
@@ -94,7 +94,7 @@ pub(crate) fn next_token<I: Input, A: Allocator + Copy>(
     source: &mut Source<I, A>,
     text: &mut Buf<A>,
     first: First,
-    limits: Limits,
+    limits: Rules,
     meter: &mut Meter<A>,
 ) -> Result<Token, Fault>
     requires can_read { CanRead limits limits.scalar source.old text.old meter.old }

@@ -1,8 +1,9 @@
 -- Whatever the grammar spells is read, where limits allow what stands there.
-use Rattle.std.proofs.Common.{◌≡◌, ℕ, suc, ◌≤◌, arith, Bool, true, false, nat_le, nat_lt, sum_by, List, [], ◌∷◌, ◌++◌, length, Option, None, Some, Ok, Result, if◌then◌else◌, refl, sym, ap, subst, ◌∙◌, append_assoc, append-nil}
+use Rattle.std.proofs.Common.{◌≡◌, ℕ, suc, ◌≤◌, arith, Bool, true, false, not, nat_le, nat_lt, sum_by, List, [], ◌∷◌, ◌++◌, length, Option, None, Some, Ok, Result, if◌then◌else◌, refl, sym, ap, subst, ◌∙◌, append_assoc, append-nil}
 use Rattle.std.proofs.lemmas.Bool.{le-ltb, lt-leb}
 use Rattle.std.proofs.lemmas.List.Sums.{sum_by-append}
 use Rattle.ion_meter.specs.declared.fault.Reason.{Reason}
+use Rattle.ion_meter.specs.declared.fault.Reason.TheVariants as reasons
 use Rattle.ion_meter.specs.declared.fault.Reason.TheVariants.{AnnotationLimit, DepthLimit}
 use Rattle.ion_meter.specs.declared.profile.Rules.{Rules}
 use Rattle.ion_value.specs.declared.ion_type.Kind.{Kind}
@@ -17,7 +18,7 @@ use Rattle.ion_value.proofs.Readings.{items_then-append, reading_by-ends, readin
 use Rattle.ion_meter.specs.Sources.{Cursor}
 use Rattle.ion_value.specs.Parts.{part, refuse, ◌>>=◌, ◌>>◌}
 use Rattle.ion_text_in.specs.Blanks.{blanks}
-use Rattle.ion_text_in.specs.Token.{Token, plain, name, text, operator, begin, end, comma, colons}
+use Rattle.ion_text_in.specs.Token.{Token, plain, float, name, text, operator, begin, end, comma, colons}
 use Rattle.ion_text_in.specs.Reading as reading
 use Rattle.ion_text_in.specs.Positions.{Wants, a_value, a_field, a_separator, State, innermost, in_sexp, has_commas, at, first_place}
 use Rattle.ion_text_in.specs.Reading.{member_of, at_member, after_member, top_of, item_of, cost, tells_version, after_colons, step, step_of, take, size, start}
@@ -150,6 +151,9 @@ module _ (limits : Rules) where
         → Reads limits (state kinds top (a_value field []) c) (value_items (top_of kinds top annotations p) field annotations p v) (state kinds (top_of kinds top annotations p) (after_member (innermost kinds)) e)
     value-read kinds top field _ c e _ p _ is (Txt.of_plain {k = k} {d = d} {annotations = annotations} {v = v} ns tok) within =
         scalar-read limits kinds top field annotations (in_sexp k) c d e p (plain v) v (ap in_sexp is) ns within.0 tok within.1 refl
+    value-read kinds top field _ c e _ p _ is (Txt.of_float {k = k} {d = d} {annotations = annotations} {x = x} ns tok) within =
+        scalar-read limits kinds top field annotations (in_sexp k) c d e p (float (Some x)) (value.float x) (ap in_sexp is) ns within.0 tok within.1.0
+        (not-refused p (not limits.floats) reasons.Float (Ok (reading.scalar_step kinds top field annotations p (value.float x) e)) (ap not within.1.1))
     value-read kinds top field _ c e _ p _ is (Txt.of_text {k = k} {d = d} {annotations = annotations} {bytes = bytes} ns tok) within =
         scalar-read limits kinds top field annotations (in_sexp k) c d e p (text bytes) (value.string bytes) (ap in_sexp is) ns within.0 tok within.1 refl
     value-read kinds top field _ c e _ p _ is (Txt.of_operator {k = k} {d = d} {annotations = annotations} {bytes = bytes} ns tok) within =
@@ -274,7 +278,7 @@ paths_within limits bytes q path is within =
     (read_from limits (state is.kinds all.top (wants_after (innermost is.kinds) is.full) is.after), reading-read_from limits bytes ∙ all.read)
 
 pub complete : Complete
-complete limits bytes q path allows is = paths_within limits bytes q path is (path-allowed limits bytes allows is.spells)
+complete limits bytes q path allows permitted is = paths_within limits bytes q path is (path-allowed limits bytes allows is.spells permitted)
 
 ends-step : (limits : Rules) (top : ℕ) (c e : Cursor) → blanks c ≡ Ok e → e.rest ≡ [] → step limits (state [] top (a_value None []) c) ≡ Ends
 unfolding step reading.part_at
@@ -287,4 +291,4 @@ streams_within limits bytes tops is within =
     reading-read_from limits bytes ∙ all.1 ∙ ap (items_then (top_items tops)) (read_from-ends limits (state [] all.0 (a_value None []) is.last) (ends-step limits all.0 is.last is.end is.blank is.nothing_left))
 
 pub streams_are_read : StreamsAreRead
-streams_are_read limits bytes tops allows is = streams_within limits bytes tops is (tops-allowed limits bytes allows is.spells)
+streams_are_read limits bytes tops allows permitted is = streams_within limits bytes tops is (tops-allowed limits bytes allows is.spells permitted)

@@ -156,7 +156,7 @@ begun-shown limit n bytes begun none =
 pub begun-name : (limit n : ℕ) (bytes : List ℕ) (w : Word) → IsBegun limit bytes n → word_token (take n bytes) ≡ Ok (word_token_of (take n bytes) w) → IfName (IsSimpleWord limit bytes) (Whole w n)
 begun-name limit n bytes (word.Null type) begun token = tt
 begun-name limit n bytes (word.Bool truth) begun token = tt
-begun-name limit n bytes word.NoNumber begun token = tt
+begun-name limit n bytes word.Nan begun token = tt
 begun-name limit n bytes (word.Id id) begun token = tt
 begun-name limit n bytes word.Name begun token = begun-simple limit n bytes begun token
 

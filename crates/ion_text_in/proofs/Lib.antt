@@ -12,12 +12,15 @@ mod ReadWithin
 mod TokenCuts
 mod One
 mod Meaning
+mod FloatTexts
 mod Blobs
 mod Strings
 mod DecodedBytes
 mod DigitNumbers
 mod LobBytes
 mod RawTokens
+mod Permitted
+mod ReadPermitted
 mod ValuesWithin
 mod Narrow
 mod Refused

@@ -32,7 +32,7 @@ module _ (limits wide : Rules) (within : AreWithin limits wide) (bytes : List �
           → (why : Reason) (place : ℕ) → ending_of (reading.reading limits bytes) ≡ Stopped why place → Free why
       unlimited o h r why place e = h why place (sym (ending_of-items_then (path_items w.path) o) ∙ sym (ap ending_of r) ∙ e)
 
-      by : (x y : Step State) → StepCut limits w.state x y → IsLast x → reading.reading limits bytes ≡ items_then (path_items w.path) (next_reading (reading_by (step limits) size) x)
+      by : (x y : Step State) → StepCut limits wide w.state x y → IsLast x → reading.reading limits bytes ≡ items_then (path_items w.path) (next_reading (reading_by (step limits) size) x)
           → reading.reading wide bytes ≡ items_then (path_items w.path) (next_reading (reading_by (step wide) size) y) → Same ⊎ IsCut limits wide bytes
       by _ _ (same_step Ends less) last r l = inl (record { equal = r ∙ sym l; free = unlimited Finished (λ why place e. absurd (cc e)) r })
       by _ _ (same_step (Stops why place) less) last r l =
@@ -40,7 +40,7 @@ module _ (limits wide : Rules) (within : AreWithin limits wide) (bytes : List �
       by _ _ (same_step (Gives item after) less) last r l = absurd last
       by _ _ (same_step (GoesOn after) less) last r l = absurd last
       by _ _ (limit_step why place y passes) last r l =
-          inr (record { path = w.path; state = w.state; stands = w.stands; reason = why; place = place; passes = passes; short = r; long = w.long })
+          inr (record { path = w.path; state = w.state; stands = w.stands; reason = why; place = place; passes = passes.passes; wider = passes.wider; short = r; long = w.long })
 
 pub narrow : Narrow
 narrow limits wide bytes within = elim (same-or-cut limits wide within bytes) [ inl all ↦ inl all.equal | inr cut ↦ inr cut ]

@@ -1,7 +1,9 @@
 -- Where a stream is read to its end, the limits allow what stands in it: else the reading stops at the first that they do not allow.
-use Rattle.std.proofs.Common.{◌≡◌, ◌⊎◌, inl, inr, ℕ, suc, arith, Bool, true, false, nat_le, nat_lt, sum_by, List, [], ◌∷◌, ◌++◌, length, Option, None, Some, Ok, Result, refl, sym, ap, subst, ◌∙◌}
+use Rattle.std.proofs.Common.{◌≡◌, ◌⊎◌, inl, inr, ℕ, suc, arith, Bool, true, false, not, nat_le, nat_lt, sum_by, List, [], ◌∷◌, ◌++◌, length, Option, None, Some, Ok, Result, refl, sym, ap, subst, ◌∙◌}
 use Rattle.std.proofs.lemmas.Bool.{cases_lt, lt-ltb, lt-leb, le-leb}
+use lib.Ieee.{Float}
 use Rattle.ion_meter.specs.declared.fault.Reason.{Reason}
+use Rattle.ion_meter.specs.declared.fault.Reason.TheVariants as reasons
 use Rattle.ion_meter.specs.declared.fault.Reason.TheVariants.{AnnotationLimit, DepthLimit, ScalarLimit}
 use Rattle.ion_meter.specs.declared.profile.Rules.{Rules}
 use Rattle.ion_meter.specs.Sources.{Cursor}
@@ -21,7 +23,7 @@ use Rattle.ion_text_in.specs.Positions.{Wants, a_value, a_field, State, innermos
 use Rattle.ion_text_in.specs.Reading as reading
 use Rattle.ion_text_in.specs.Reading.{at_member, cost, may_come, member_of, item_of, part_at, size, start, step, step_of, take, top_of}
 use Rattle.ion_text_in.specs.ReadWithin.{WhatIsReadIsWithin}
-use Rattle.ion_text_in.specs.Token.{Token, plain, name, text, operator, begin, colons}
+use Rattle.ion_text_in.specs.Token.{Token, plain, float, name, text, operator, begin, colons}
 use Rattle.ion_text_in.specs.Within.{TokenWithin, AnnotationsWithin, FieldWithin, TxtWithin, InsideWithin, TopsWithin}
 use Rattle.ion_text_in.proofs.Complete.{Reads, read_from, reading-read_from, reads-gives, annotations-read, field-read, members-read, mark-within, not-refused, tops-read}
 use Rattle.ion_text_in.proofs.Falling.{each_step_falls}
@@ -122,6 +124,21 @@ scalar-or limits kinds top field annotations sexp c d e p t is ns tok =
     (token-or limits kinds top (a_value field annotations) d t p e (value-suits field annotations t) (subst (λ sexp. Tok sexp d t p e) (sym is) tok))) (λ fits. inl (w, fits)))
 
 module _ (limits : Rules) where
+  -- a float is read, or the reading stops at it
+  float-or : (kinds : List Kind) (top : ℕ) (field : Option SymbolAt) (annotations : List SymbolAt) (sexp : Bool) (c d e : Cursor) (p : ℕ) (x : Float)
+      → in_sexp (innermost kinds) ≡ sexp → (ns : Annotations sexp c annotations d) → Tok sexp d (float (Some x)) p e
+      → AnnotationsWithin limits ns × TokenWithin limits (float (Some x)) p e → (b : Bool) → limits.floats ≡ b
+      → (AnnotationsWithin limits ns × (TokenWithin limits (float (Some x)) p e × (limits.floats ≡ true))) ⊎ Halts limits (state kinds top (a_value field []) c)
+  unfolding take
+  float-or kinds top field annotations sexp c d e p x is ns tok w true on = inl (w.0, (w.1, on))
+  float-or kinds top field annotations sexp c d e p x is ns tok w false off =
+      let here : State = state kinds top (a_value field annotations) d in
+      let stops : step limits here ≡ Stops reasons.Float p =
+      step-token limits kinds top (a_value field annotations) d (float (Some x)) p e (value-suits field annotations (float (Some x))) w.1 (subst (λ sexp. Tok sexp d (float (Some x)) p e) (sym is) tok)
+      ∙ refused p (not limits.floats) reasons.Float (Ok (reading.scalar_step kinds top field annotations p (value.float x) e)) (ap not off)
+      in
+      inr (halts-later limits (state kinds top (a_value field []) c) here [] (annotations-read limits kinds top field sexp c d annotations is ns w.0) (halts-here limits here reasons.Float p stops))
+
   mutual
     unfolding take
 
@@ -129,6 +146,9 @@ module _ (limits : Rules) where
         → (txt : Txt k c annotations p v e) → TxtWithin limits (length kinds) txt ⊎ Halts limits (state kinds top (a_value field []) c)
     value-or kinds top field _ c e _ p _ is (Txt.of_plain {k = k} {d = d} {annotations = annotations} {v = v} ns tok) =
         scalar-or limits kinds top field annotations (in_sexp k) c d e p (plain v) (ap in_sexp is) ns tok
+    value-or kinds top field _ c e _ p _ is (Txt.of_float {k = k} {d = d} {annotations = annotations} {x = x} ns tok) =
+        or-then (scalar-or limits kinds top field annotations (in_sexp k) c d e p (float (Some x)) (ap in_sexp is) ns tok) (λ w.
+        float-or kinds top field annotations (in_sexp k) c d e p x (ap in_sexp is) ns tok w limits.floats refl)
     value-or kinds top field _ c e _ p _ is (Txt.of_text {k = k} {d = d} {annotations = annotations} {bytes = bytes} ns tok) =
         scalar-or limits kinds top field annotations (in_sexp k) c d e p (text bytes) (ap in_sexp is) ns tok
     value-or kinds top field _ c e _ p _ is (Txt.of_operator {k = k} {d = d} {annotations = annotations} {bytes = bytes} ns tok) =

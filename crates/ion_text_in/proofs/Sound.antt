@@ -15,6 +15,7 @@ use Rattle.ion_text_in.specs.Grammar.{Field, Annotations, Tops, Stream, start_of
 use Rattle.ion_text_in.specs.Paths.{Spells, IsPath, Begun, at_separator, at_field, in_item, At, Follows}
 use Rattle.ion_value.specs.ReadingLaws.{ending_of, AreWithin}
 use Rattle.ion_text_in.specs.Laws.{Sound}
+use Rattle.ion_text_in.proofs.ReadPermitted.{read-permitted}
 use Rattle.ion_text_in.proofs.Steps.{annotations-none, field-none, step-follows}
 use Rattle.ion_text_in.proofs.Falling.{StepCut, same_step, step-Cut, each_step_falls}
 
@@ -80,7 +81,7 @@ module _ (limits wide : Rules) (within : AreWithin limits wide) (bytes : List �
   WalksFrom path s = reading limits bytes ≡ items_then (path_items path) (reading_by (step limits) size s) → reading wide bytes ≡ items_then (path_items path) (reading_by (step wide) size s)
       → Walked limits wide bytes
 
-  next-walks : (path : Path SymbolAt ℕ) (s : State) (x y : Step State) → At bytes path s → step limits s ≡ x → step wide s ≡ y → StepCut limits s x y → Follows bytes path s x
+  next-walks : (path : Path SymbolAt ℕ) (s : State) (x y : Step State) → At bytes path s → step limits s ≡ x → step wide s ≡ y → StepCut limits wide s x y → Follows bytes path s x
       → ((next : Path SymbolAt ℕ) (after : State) → At bytes next after → size after < size s → WalksFrom next after) → WalksFrom path s
   next-walks path s Ends y stands e g cut follows h r w = record { path = path; state = s; stands = stands; last = subst IsLast (sym e) tt; short = r; long = w }
   next-walks path s (Stops why place) y stands e g cut follows h r w = record { path = path; state = s; stands = stands; last = subst IsLast (sym e) tt; short = r; long = w }
@@ -122,6 +123,7 @@ sound limits bytes =
       place = w.stands.after.place;
       is_path = at-path bytes w.path w.state w.stands;
       items = ap items_of read ∙ items_of-items_then (path_items w.path) _ ∙ ap (λ items. path_items w.path ++ items) all.0 ∙ append-nil (path_items w.path);
+      permitted = read-permitted limits bytes;
       whole = λ e. all.1 (sym (ending_of-items_then (path_items w.path) _) ∙ sym (ap ending_of read) ∙ e);
     }
   where

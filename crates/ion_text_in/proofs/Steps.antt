@@ -3,6 +3,7 @@ use Rattle.std.proofs.Common.{◌≡◌, ℕ, Bool, true, false, not, List, [], 
 use Rattle.std.proofs.lemmas.Bool.{false≢true}
 use Rattle.std.proofs.lemmas.Slice.Eq.{bytes_eq-Decides}
 use Rattle.ion_meter.specs.declared.fault.Reason.{Reason}
+use Rattle.ion_meter.specs.declared.fault.Reason.TheVariants as reasons
 use Rattle.ion_meter.specs.declared.fault.Reason.TheVariants.{BadVersion, DepthLimit, AnnotationLimit}
 use Rattle.ion_meter.specs.declared.profile.Rules.{Rules}
 use Rattle.ion_value.specs.declared.ion_type.Kind.{Kind}
@@ -15,7 +16,7 @@ use Rattle.ion_value.specs.Reading.{Step, Gives, GoesOn}
 use Rattle.ion_meter.specs.Sources.{Cursor, skip}
 use Rattle.ion_value.specs.Parts.{Placed, part, refuse, ◌>>=◌, ◌>>◌}
 use Rattle.ion_text_in.specs.Blanks.{blanks}
-use Rattle.ion_text_in.specs.Token.{First, a_colon, two_colons, first_at, Token, plain, name, text, operator, begin, end, comma, colon, colons, token_of, next_token}
+use Rattle.ion_text_in.specs.Token.{First, a_colon, two_colons, first_at, Token, plain, float, name, text, operator, begin, end, comma, colon, colons, token_of, next_token}
 use Rattle.ion_text_in.specs.Reading as reading
 use Rattle.ion_text_in.specs.Positions.{Wants, a_value, a_field, a_separator, State, innermost, in_sexp, has_commas, at, first_place}
 use Rattle.ion_text_in.specs.Reading.{at_member, after_member, may_come, top_of, item_of, tells_version, is_marker, after_colons, step, step_of, take, part_at}
@@ -359,6 +360,11 @@ module _ (limits : Rules) (bytes : List ℕ) (path : Path SymbolAt ℕ) (top : �
   take-goes _ _ after _ _ t spells at_field tok s = tt
   take-goes kinds _ after c _ (end k) spells (in_item {d = b} {field = field} {annotations = annotations} f ns) tok s = bare-goes limits bytes path top is_top p d kinds k field annotations after b c spells f ns tok s
   take-goes kinds _ after c _ (plain v) spells (in_item {d = b} {field = field} {annotations = annotations} f ns) tok s = value-goes limits bytes path top is_top p d kinds field annotations v after b spells f (Txt.of_plain ns tok) s
+  take-goes kinds _ after c _ (float None) spells (in_item {d = b} {field = field} {annotations = annotations} f ns) tok s =
+      refused-goes bytes path s p (not limits.floats) reasons.Float (Err reasons.Range) tt
+  take-goes kinds _ after c _ (float (Some x)) spells (in_item {d = b} {field = field} {annotations = annotations} f ns) tok s =
+      refused-goes bytes path s p (not limits.floats) reasons.Float (Ok (reading.scalar_step kinds top field annotations p (value.float x) d))
+      (value-goes limits bytes path top is_top p d kinds field annotations (value.float x) after b spells f (Txt.of_float ns tok) s)
   take-goes kinds _ after c _ (text t) spells (in_item {d = b} {field = field} {annotations = annotations} f ns) tok s = value-goes limits bytes path top is_top p d kinds field annotations (value.string t) after b spells f (Txt.of_text ns tok) s
   take-goes kinds _ after c _ (operator t) spells (in_item {d = b} {field = field} {annotations = annotations} f ns) tok s =
       value-goes limits bytes path top is_top p d kinds field annotations (value.symbol (at (value.Text t) p)) after b spells f (Txt.of_operator ns tok) s

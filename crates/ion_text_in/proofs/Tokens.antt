@@ -21,11 +21,12 @@ use Rattle.ion_text_in.specs.Quoted as quoted
 use Rattle.ion_text_in.specs.Quoted.{text_at}
 use Rattle.ion_text_in.specs.Lob.{lob_at}
 use Rattle.ion_text_in.specs.Token as tokens
-use Rattle.ion_text_in.specs.Token.{First, a_word, a_quoted, a_short, a_long, a_run, a_lob, an_operator, an_infinity, a_begin, an_end, a_comma, a_colon, two_colons, no_token, first_at, Token, plain, name, text, operator, no_number, begin, end, comma, colon, colons, token_of, token_at, next_token, word_token, run_token, counted, bytes_of, word_of, in_run, in_operator}
+use Rattle.ion_text_in.specs.Token.{First, a_word, a_quoted, a_short, a_long, a_run, a_lob, an_operator, an_infinity, a_begin, an_end, a_comma, a_colon, two_colons, no_token, first_at, Token, plain, name, text, operator, begin, end, comma, colon, colons, token_of, token_at, next_token, word_token, scalar_token, counted, bytes_of, word_of, in_run, in_operator}
 use Rattle.ion_text_in.specs.Reading as reading
 use Rattle.ion_text_in.specs.Positions.{Wants, a_value, a_field, a_separator, State, innermost, in_sexp}
 use Rattle.ion_text_in.specs.Reading.{is_punctuation, names_field, may_come, step, step_of, take, part_at}
 use Rattle.ion_text_in.specs.Grammar.{Tok}
+use Rattle.ion_text_in.proofs.RunTokens.{if-scalar}
 use Rattle.ion_text_in.proofs.TokenCuts.{token-exact}
 use Rattle.ion_text_in.proofs.TokenLimits.{got}
 use Rattle.ion_text_in.proofs.WentWell.{went, part-known, if-any, if-passed}
@@ -65,13 +66,17 @@ word-told c word = by (keyword word)
     by (Some (a_null (Some type))) = bare a_word _ refl refl
     by k = bare a_word _ refl refl
 
-run-told : (c : Cursor) (o : Result (Scalar SymbolAt) Reason) → IfOk ((o >>= (λ v. Ok (plain v))) >>= (λ t. got t c)) (λ x. Told a_run x.0)
-run-told c (Ok v) = bare a_run _ refl refl
-run-told c (Err reason) = tt
+run-told : (c : Cursor) (run : List ℕ) (o : Result (Scalar SymbolAt) Reason) → IfOk (scalar_token run o >>= (λ t. got t c)) (λ x. Told a_run x.0)
+run-told c run o =
+    if-then (Told a_run) (λ x. Told a_run x.0) (scalar_token run o) _ (if-scalar (Told a_run) run o (by o) (bare a_run _ refl refl)) (λ t h. h)
+  where
+    by : (o : Result (Scalar SymbolAt) Reason) → IfOk o (λ v. Told a_run (plain v))
+    by (Ok v) = bare a_run _ refl refl
+    by (Err why) = tt
 
 if-told : (limit : Option ℕ) (first : First) (c : Cursor) → IfOk (token_of limit first c) (λ x. Told first x.0)
 unfolding token_of
-if-told limit a_run c = if-any _ (counted limit (bytes_of in_run c.rest) c) _ (λ r. run-told r.1 (scalar_of_run r.0))
+if-told limit a_run c = if-any _ (counted limit (bytes_of in_run c.rest) c) _ (λ r. run-told r.1 r.0 (scalar_of_run r.0))
 if-told limit a_word c = if-any _ (counted limit (word_of c.rest) c) _ (λ r. word-told r.1 r.0)
 if-told limit a_quoted c = if-any _ (text_at quoted.symbol_quote limit (skip 1 c)) _ (λ r. names a_quoted _ refl refl)
 if-told limit a_short c = if-any _ (text_at (quoted.short_quote false) limit (skip 1 c)) _ (λ r. names a_short _ refl refl)

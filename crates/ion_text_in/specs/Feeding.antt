@@ -137,7 +137,7 @@ pub record IsBegun (limit : ℕ) (bytes : List ℕ) (n : ℕ) : Type 0 where
 abbrev pub IfName : (ℕ → Type 0) → Scanned Word → Type 0
 IfName P (Whole (word.Null type) n) = Unit {0}
 IfName P (Whole (word.Bool truth) n) = Unit {0}
-IfName P (Whole word.NoNumber n) = Unit {0}
+IfName P (Whole word.Nan n) = Unit {0}
 IfName P (Whole (word.Id id) n) = Unit {0}
 IfName P (Whole word.Name n) = P n
 IfName P (Fault reason) = Unit {0}

@@ -1,8 +1,9 @@
 -- What was read under limits is within them: of a text that is read to its end they allow all that stands there, and its values.
-use Rattle.std.specs.Prelude.{◌≡◌, ℕ, suc, ◌<◌, ◌≤◌, List, length, sum_by, None, Ok, ⊤}
+use Rattle.std.specs.Prelude.{◌≡◌, ℕ, suc, ◌<◌, ◌≤◌, List, length, sum_by, true, None, Ok, ⊤}
 use Rattle.std.specs.List.{AllByRecursion}
 use Rattle.ion_meter.specs.declared.profile.Rules.{Rules}
 use Rattle.ion_value.specs.Decimal.{decimal_of_text}
+use Rattle.ion_value.specs.FloatText.{float_of_text}
 use Rattle.ion_value.specs.Path.{closed, path_items}
 use Rattle.ion_value.specs.Reading.{Finished, items_then}
 use Rattle.ion_value.specs.Timestamp.{timestamp_of_text}
@@ -26,12 +27,13 @@ abbrev pub SymbolIsWithin : Rules → Symbol → Type 0
 SymbolIsWithin limits (value.Text bytes) = length bytes ≤ limits.scalar
 SymbolIsWithin limits (value.Id id) = ⊤
 
--- so are the bytes of a string or lob, and a run that spells a decimal or timestamp
+-- so are the bytes of a string or lob, and a run that spells a decimal or timestamp, or a float, where these are read
 abbrev pub ScalarIsWithin : Rules → Scalar SymbolAt → Type 0
 ScalarIsWithin limits (value.null type) = ⊤
 ScalarIsWithin limits (value.bool truth) = ⊤
 ScalarIsWithin limits (value.int number) = ⊤
-ScalarIsWithin limits (value.float number) = ⊤
+ScalarIsWithin limits (value.float number) =
+    (limits.floats ≡ true) × (run : List ℕ) × (float_of_text run ≡ Ok number) × (length run ≤ limits.scalar)
 ScalarIsWithin limits (value.decimal number) =
     (run : List ℕ) × (decimal_of_text run ≡ Ok number) × (length run ≤ limits.scalar)
 ScalarIsWithin limits (value.timestamp moment) =

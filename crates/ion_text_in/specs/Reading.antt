@@ -1,8 +1,10 @@
 -- Reading a text: its items in order, and how they end. In each part of an item the first line that refuses is its fault.
 use Rattle.std.specs.Prelude.{ℕ, ◌+◌, Bool, true, false, not, ◌||◌, nat_le, nat_lt, if◌then◌else◌, List, [], ◌∷◌, ◌++◌, length, sum_by, Option, Some, None, Result, Ok, Err}
 use Rattle.std.specs.Str.{bytes_eq}
+use lib.Ieee.{Float}
 use Rattle.ion_meter.specs.declared.fault.Reason.{Reason}
-use Rattle.ion_meter.specs.declared.fault.Reason.TheVariants.{Truncated, BadToken, BadVersion, Float, DepthLimit, AnnotationLimit}
+use Rattle.ion_meter.specs.declared.fault.Reason.TheVariants as reason
+use Rattle.ion_meter.specs.declared.fault.Reason.TheVariants.{Truncated, BadToken, BadVersion, Range, DepthLimit, AnnotationLimit}
 use Rattle.ion_meter.specs.declared.profile.Rules.{Rules}
 use Rattle.ion_value.specs.declared.ion_type.Kind.{Kind}
 use Rattle.ion_value.specs.declared.ion_type.Kind.TheVariants as kind
@@ -14,7 +16,7 @@ use Rattle.ion_meter.specs.Sources.{Cursor, skip}
 use Rattle.ion_value.specs.Parts.{Placed, part, refuse, ◌>>=◌, ◌>>◌}
 use Rattle.ion_text_in.specs.Positions.{Wants, a_value, a_field, a_separator, State, innermost, in_sexp, has_commas, at, first_place}
 use Rattle.ion_text_in.specs.Blanks.{blanks}
-use Rattle.ion_text_in.specs.Token.{First, a_word, a_quoted, a_short, a_long, a_run, a_lob, an_operator, an_infinity, a_begin, an_end, a_comma, a_colon, two_colons, no_token, first_at, Token, plain, name, text, operator, no_number, begin, end, comma, token_of}
+use Rattle.ion_text_in.specs.Token.{First, a_word, a_quoted, a_short, a_long, a_run, a_lob, an_operator, an_infinity, a_begin, an_end, a_comma, a_colon, two_colons, no_token, first_at, Token, plain, float, name, text, operator, begin, end, comma, token_of}
 
 -- ---- members
 
@@ -97,6 +99,18 @@ abbrev pub scalar_step : List Kind → ℕ → Option SymbolAt → List SymbolAt
 scalar_step kinds top field annotations place body c =
     item_step kinds top field annotations place (value.whole body) kinds
     (after_member (innermost kinds)) c
+
+-- a float that was read, whose digits must not be past the greatest
+abbrev pub in_range : Option Float → Result Float Reason
+in_range (Some x) = Ok x
+in_range None = Err Range
+
+-- the step of a float, which is refused where floats are not read
+abbrev pub float_step : Rules → List Kind → ℕ → Option SymbolAt → List SymbolAt → ℕ → Option Float → Cursor → Result (Step State) Reason
+float_step limits kinds top field annotations place number c = do
+  refuse (not limits.floats) reason.Float
+  x ← in_range number
+  Ok (scalar_step kinds top field annotations place (value.float x) c)
 
 -- a step that gives no item; this must come from the cursor on
 abbrev pub onward_step : List Kind → ℕ → Wants → Cursor → Step State
@@ -213,13 +227,13 @@ take limits kinds top a_field place (name quoted symbol) c = field_step kinds to
 take limits kinds top a_field place (text bytes) c = field_step kinds top (at (value.Text bytes) place) c
 take limits kinds top (a_value field annotations) place (end k) c = part place (bare_end_step field annotations kinds top k place c)
 take limits kinds top (a_value field annotations) place (plain body) c = Ok (scalar_step kinds top field annotations place body c)
+take limits kinds top (a_value field annotations) place (float number) c = part place (float_step limits kinds top field annotations place number c)
 take limits kinds top (a_value field annotations) place (text bytes) c = Ok (scalar_step kinds top field annotations place (value.string bytes) c)
 take limits kinds top (a_value field annotations) place (operator bytes) c =
     Ok (scalar_step kinds top field annotations place (value.symbol (at (value.Text bytes) place)) c)
 take limits kinds top (a_value field annotations) place (name quoted symbol) c =
     part place (symbol_step limits kinds top field annotations quoted (at symbol place) c (after_colons (in_sexp (innermost kinds)) c))
 take limits kinds top (a_value field annotations) place (begin k) c = part place (begin_step limits kinds top field annotations k place c)
-take limits kinds top (a_value field annotations) place no_number c = Err (Float, place)
 take limits kinds top _ place _ c = Err (BadToken, place)
 
 -- the stream ends where nothing is open and a value may begin

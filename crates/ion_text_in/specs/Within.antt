@@ -1,5 +1,6 @@
--- What limits allow of what bytes spell: tokens that count no more, annotations that cost no more, and containers no deeper.
-use Rattle.std.specs.Prelude.{ℕ, suc, ◌<◌, ◌≤◌, Bool, false, List, length, sum_by, Option, ⊤}
+-- What limits allow of what bytes spell: tokens that count no more, annotations that cost no more, and containers no deeper; and floats
+-- where these are read.
+use Rattle.std.specs.Prelude.{◌≡◌, ℕ, suc, ◌<◌, ◌≤◌, Bool, true, false, List, length, sum_by, Option, Some, ⊤}
 use Rattle.ion_meter.specs.declared.profile.Rules.{Rules}
 use Rattle.ion_meter.specs.Sources.{Cursor}
 use Rattle.ion_value.specs.declared.ion_type.Kind.{Kind}
@@ -11,7 +12,7 @@ use Rattle.ion_text_in.specs.Grammar.{Annotations, Field, Txt, Inside, Tops}
 use Rattle.ion_text_in.specs.Meaning.{counts}
 use Rattle.ion_text_in.specs.Paths.{Spells}
 use Rattle.ion_text_in.specs.Reading.{cost}
-use Rattle.ion_text_in.specs.Token.{Token, plain, name, text, operator}
+use Rattle.ion_text_in.specs.Token.{Token, plain, float, name, text, operator}
 
 -- a token that begins at a place and ends before a cursor
 abbrev pub TokenWithin : Rules → Token → ℕ → Cursor → Type 0
@@ -44,6 +45,8 @@ abbrev mutual
       → Txt k c annotations p v d → Type 0
   TxtWithin limits depth (Txt.of_plain {e = e} {p = p} {v = v} ns tok) =
       AnnotationsWithin limits ns × TokenWithin limits (plain v) p e
+  TxtWithin limits depth (Txt.of_float {e = e} {p = p} {x = x} ns tok) =
+      AnnotationsWithin limits ns × (TokenWithin limits (float (Some x)) p e × (limits.floats ≡ true))
   TxtWithin limits depth (Txt.of_text {e = e} {p = p} {bytes = bytes} ns tok) =
       AnnotationsWithin limits ns × TokenWithin limits (text bytes) p e
   TxtWithin limits depth (Txt.of_operator {e = e} {p = p} {bytes = bytes} ns tok) =

@@ -1,10 +1,11 @@
 //! The reader of texts.
-ghost use Rattle.std.specs.Prelude.{◌≡◌, ◌≢◌, ◌+◌, ◌*◌, ◌<◌, ◌≤◌, [], length, OnOk, Option, None, Ok, true};
+ghost use Rattle.std.specs.Prelude.{◌≡◌, ◌≢◌, ◌+◌, ◌*◌, ◌<◌, ◌≤◌, [], length, IfSome, OnOk, Option, None, Ok, true};
 ghost use Rattle.ion_meter.specs.Counts.{Counts, Shrinks};
 ghost use Rattle.ion_meter.specs.Limits.{AreChecked};
 ghost use Rattle.ion_meter.specs.Rules.{rules, strictly};
 ghost use Rattle.ion_meter.specs.Sources.{BytesAreLeft, cursor, skip, Exceeds, Stands};
 ghost use Rattle.ion_meter.specs.Windows.{left, lent};
+ghost use Rattle.ion_value.specs.Float.{IsFloat};
 ghost use Rattle.ion_value.specs.Items.{raw_head};
 ghost use Rattle.ion_value.specs.Reading.{Finished};
 ghost use Rattle.ion_text_in.specs.Firsts.{first_of, width};
@@ -36,6 +37,7 @@ use ion_meter::profile::{Profile, Rules};
 use ion_meter::sink::Sink;
 use ion_meter::source::Source;
 use ion_meter::stack::Stack;
+use ion_value::float::Float64;
 use ion_value::ion_type::Kind;
 use ion_value::item::{Annotation, Annotations, Head, Item};
 use ion_value::name::{is_version, is_version_word};
@@ -414,8 +416,25 @@ impl<I: Input, A: Allocator + Copy> TextReader<I, A> {
                 self.symbol(symbol, quoted, place, meter)
             }
             (Expected::Value, Token::Begin(kind)) => self.open(kind, place, meter),
-            (Expected::Value, Token::NoNumber) => Err(Fault::Refused(Reason::Float, place)),
+            (Expected::Value, Token::Float(number)) => self.float(number, place),
             _ => Err(Fault::Refused(Reason::BadToken, place)),
+        }
+    }
+
+    // Takes a float where a value may stand, where floats are read and its digits are not past the
+    // greatest.
+    fn float(&mut self, number: Option<Float64>, place: u64) -> Result<StepResult, Fault>
+        requires range { IfSome number IsFloat }
+        ensures { (m : Counts) → CanStep self.old m → self.old.expected ≡ Expected.Value
+            → StepsTo I.Input None (taking self.old place (tokens.float number)) 0
+            self.old self.new m m result }
+    {
+        if !self.limits.floats {
+            return Err(Fault::Refused(Reason::Float, place));
+        }
+        match number {
+            Some(number) => Ok(self.give(ItemKind::Scalar(Body::Float(number)), place, None)),
+            None => Err(Fault::Refused(Reason::Range, place)),
         }
     }
 
@@ -471,6 +490,7 @@ impl<I: Input, A: Allocator + Copy> TextReader<I, A> {
                 Body::Null(ion_type) => Head::Null(ion_type),
                 Body::Bool(truth) => Head::Bool(truth),
                 Body::Int(int) => Head::Int(int),
+                Body::Float(float) => Head::Float(float.bits()),
                 Body::Decimal(decimal) => Head::Decimal(decimal),
                 Body::Timestamp(timestamp) => Head::Timestamp(timestamp),
                 Body::Symbol(symbol) => {

@@ -34,7 +34,7 @@ pub(crate) enum Word {
     /// A truth value.
     Bool(bool),
     /// `nan`.
-    NoNumber,
+    Nan,
     /// A symbol's id, where 2^31 stands for every id above 2^31 - 1.
     Id(u32),
     /// A symbol by its text.
@@ -358,7 +358,7 @@ fn keyword_or_name(word: &[u8]) -> Result<Word, Reason>
         return Ok(Word::Bool(false));
     }
     if is_nan(word) {
-        return Ok(Word::NoNumber);
+        return Ok(Word::Nan);
     }
     Ok(Word::Name)
 }

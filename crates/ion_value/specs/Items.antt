@@ -1,5 +1,6 @@
 -- What is seen of the items of the code.
-use Rattle.std.specs.Prelude.{ℕ, Bool, true, false, List, [], ◌∷◌, map, Option, Some, None, option_map, slice_range}
+use Rattle.std.specs.Prelude.{ℕ, Bool, true, false, List, [], ◌∷◌, map, Option, Some, None, option_map, slice_range, from_bits}
+use lib.Ieee.{binary64}
 use Rattle.ion_value.specs.declared.item.Sym.{Sym}
 use Rattle.ion_value.specs.declared.item.Sym.TheVariants as sym
 use Rattle.ion_value.specs.declared.item.SymAt.{SymAt}
@@ -35,7 +36,7 @@ abbrev pub raw_head : Head → value.Head SymbolAt
 raw_head (code.Null type) = value.whole (value.null type)
 raw_head (code.Bool truth) = value.whole (value.bool truth)
 raw_head (code.Int number) = value.whole (value.int number)
-raw_head (code.Float number) = value.whole (value.float number)
+raw_head (code.Float bits) = value.whole (value.float (from_bits binary64 bits))
 raw_head (code.Decimal number) = value.whole (value.decimal number)
 raw_head (code.Timestamp moment) = value.whole (value.timestamp moment)
 raw_head (code.Symbol at) = value.whole (value.symbol (symbol_at at))

@@ -14,7 +14,7 @@ ghost use Rattle.ion_value.specs.Value.{whole};
 use super::spot::{Found, Next, next_told};
 use super::texts::text_between;
 use crate::first::First;
-use crate::number::{Number, scan_number};
+use crate::number::{Number, Numeral, scan_number};
 use crate::quick::{Quick, scaled, scan_quick, signed_int};
 use crate::quoted::Quote;
 use crate::scanned::Scanned;
@@ -118,7 +118,9 @@ pub(super) fn run_head<'a>(limits: Rules, place: u64, bytes: &'a [u8]) -> Option
     ensures { IfSome result (IsFound limits place bytes.now) }
 {
     match scan_number(limits.scalar, bytes) {
-        Scanned::Whole(number, count) => Some(found_as(head_of(number), after(count, bytes))),
+        Scanned::Whole(Numeral::Number(number), count) => {
+            Some(found_as(head_of(number), after(count, bytes)))
+        }
         _ => None,
     }
 }

@@ -2,7 +2,7 @@ use Rattle.std.proofs.Common.{◌∙◌, sym}
 use Rattle.std.specs.Float.Parse.{parse_float}
 use lib.Ieee.{binary64}
 use Rattle.ion_float.proofs.TextReading.{parsed-finite, parsed-infinite}
-use Rattle.ion_float.proofs.text_reading.parsed.Goals as goal
+use Rattle.ion_float.proofs.text_reading.nearest_float.Goals as goal
 
 pub returns-in-Ok : goal.returns-in-Ok
 returns-in-Ok c =

@@ -52,6 +52,7 @@ pub mod RunEnds
 pub mod ShownTokens
 pub mod RunTokens
 pub mod Gathered
+pub mod Infinities
 pub mod WordTokens
 pub mod FirstTokens
 pub mod TypedWords
@@ -64,6 +65,7 @@ pub mod LobTurns
 mod RunCuts
 mod Prepaid
 mod Rows
+mod FloatRows
 mod QuickNumbers
 mod SpelledNumbers
 mod QuotedRows

@@ -1,5 +1,5 @@
 -- What is read is permitted: a float only where floats are read.
-use Rattle.std.proofs.Common.{◌≡◌, ℕ, zero, suc, Bool, true, false, not, List, [], ◌∷◌, Option, Some, None, Result, Ok, Err, refl}
+use Rattle.std.proofs.Common.{◌≡◌, ℕ, zero, suc, Bool, true, false, not, nat_le, nat_lt, sum_by, List, [], ◌∷◌, ◌++◌, length, Option, Some, None, Result, Ok, Err, refl}
 use Rattle.std.specs.Result.{IfOk}
 use lib.Ieee.{Float}
 use Rattle.std.proofs.lemmas.Result.{IfOk-at_ok}
@@ -90,7 +90,7 @@ module _ (limits : Rules) where
 
   end-fine : (kinds : List Kind) (top : ℕ) (k : Kind) (p : ℕ) (c : Cursor) → Fine (part p (reading.end_step kinds top k p c))
   end-fine [] top k p c = tt
-  end-fine (j ∷ kinds) top k p c = refused-fine p (not (reading.is_same j k)) BadToken _ (λ _. tt)
+  end-fine (j ∷ kinds) top k p c = refused-fine p (not (reading.is_same j k)) BadToken (Ok (Gives (reading.item_of top None [] p value.end) (record { kinds = kinds; top = top; wants = reading.after_member (innermost kinds); cursor = c }))) (λ _. tt)
 
   bare-fine : (field : Option SymbolAt) (annotations : List SymbolAt) (kinds : List Kind) (top : ℕ) (k : Kind) (p : ℕ) (c : Cursor)
       → Fine (part p (reading.bare_end_step field annotations kinds top k p c))
@@ -100,13 +100,14 @@ module _ (limits : Rules) where
 
   told-fine : (kinds : List Kind) (top : ℕ) (field : Option SymbolAt) (annotations : List SymbolAt) (a : SymbolAt) (p : ℕ) (c : Cursor) (told : Bool)
       → Fine (part p (reading.value_or_version kinds top field annotations a c told))
-  told-fine kinds top field annotations a p c true = refused-fine p (not (reading.is_marker a.symbol)) reason.BadVersion _ (λ _. tt)
+  told-fine kinds top field annotations a p c true = refused-fine p (not (reading.is_marker a.symbol)) reason.BadVersion (Ok (reading.item_step kinds top field annotations a.place value.marker kinds (reading.after_member (innermost kinds)) c)) (λ _. tt)
   told-fine kinds top field annotations a p c false = tt
 
   symbol-fine : (kinds : List Kind) (top : ℕ) (field : Option SymbolAt) (annotations : List SymbolAt) (quoted : Bool) (a : SymbolAt) (p : ℕ) (c : Cursor) (o : Option Cursor)
       → Fine (part p (reading.symbol_step limits kinds top field annotations quoted a c o))
   symbol-fine kinds top field annotations quoted a p c None = told-fine kinds top field annotations a p c (tells_version (innermost kinds) annotations quoted a.symbol)
-  symbol-fine kinds top field annotations quoted a p c (Some after) = refused-fine p _ reason.AnnotationLimit _ (λ _. tt)
+  symbol-fine kinds top field annotations quoted a p c (Some after) =
+      refused-fine p (nat_lt limits.scalar (sum_by reading.cost (annotations ++ a ∷ []))) reason.AnnotationLimit (Ok (reading.onward_step kinds top (a_value field (annotations ++ a ∷ [])) after)) (λ _. tt)
 
   colon-fine : (kinds : List Kind) (top : ℕ) (a : SymbolAt) (c : Cursor) (first : First) → Fine (reading.colon_of kinds top a c first)
   colon-fine kinds top a c a_colon = tt
@@ -144,7 +145,8 @@ module _ (limits : Rules) where
   take-fine kinds top (a_value field annotations) p (operator t) c none = tt
   take-fine kinds top (a_value field annotations) p (name quoted symbol) c none =
       symbol-fine kinds top field annotations quoted (at symbol p) p c (after_colons (in_sexp (innermost kinds)) c)
-  take-fine kinds top (a_value field annotations) p (begin k) c none = refused-fine p _ reason.DepthLimit _ (λ _. tt)
+  take-fine kinds top (a_value field annotations) p (begin k) c none =
+      refused-fine p (nat_le limits.depth (length kinds)) reason.DepthLimit (Ok (reading.item_step kinds top field annotations p (value.begin k) (k ∷ kinds) (reading.member_of k) c)) (λ _. tt)
   take-fine kinds top wants p t c none = tt
 
   token-fine : (s : State) (p : ℕ) (o : Result (Token × Cursor) Reason) → IfOk o (λ x. NoFloat x.0) → Fine (part p o >>= (λ t. take limits s.kinds s.top s.wants p t.0 t.1))

@@ -1,8 +1,9 @@
 -- What a stream has at top level is raw, and where limits allow what stands in it, within them.
-use Rattle.std.proofs.Common.{◌≡◌, ℕ, suc, ◌+◌, ◌*◌, ◌≤◌, arith, Bool, true, false, if◌then◌else◌, List, [], ◌∷◌, ◌++◌, length, codes, Option, None, Some, is_some, Result, Ok, Err, refl, sym, subst}
+use Rattle.std.proofs.Common.{◌≡◌, ℕ, suc, ◌+◌, ◌*◌, ◌≤◌, arith, Bool, true, false, if◌then◌else◌, List, [], ◌∷◌, ◌++◌, length, drop, codes, Option, None, Some, is_some, Result, Ok, Err, refl, sym, subst}
 use Rattle.std.specs.List.{AllByRecursion}
 use Rattle.std.specs.Result.{IfOk}
 use Rattle.std.proofs.lemmas.Result.{IfOk-at_ok}
+use Rattle.std.specs.Str.{bytes_eq}
 use Rattle.std.proofs.lemmas.Slice.Eq.{bytes_eq-Decides}
 use lib.Ieee.{Float, nan, inf}
 use Rattle.ion_meter.specs.declared.fault.Reason.{Reason}
@@ -20,7 +21,7 @@ use Rattle.ion_value.specs.Decimal.{decimal_of_text}
 use Rattle.ion_value.specs.Digits.{has_minus}
 use Rattle.ion_value.specs.FloatText.{float_of_text}
 use Rattle.ion_value.specs.Int.{int_of_text}
-use Rattle.ion_value.specs.Name.{Keyword, a_null, a_bool, a_nan, keyword, is_id, id_of}
+use Rattle.ion_value.specs.Name.{Keyword, a_null, a_bool, a_nan, begins_with, keyword, type_named, is_id, id_of}
 use Rattle.ion_value.specs.Parts.{◌>>=◌}
 use Rattle.ion_value.specs.Scalar.{scalar_of_run, scalar_of_readings}
 use Rattle.ion_value.specs.Standing.{in_struct}
@@ -69,10 +70,11 @@ nan-text = refl
 
 nan-read : (word : List ℕ) → keyword word ≡ Some a_nan → float_of_text word ≡ Ok nan
 nan-read word e =
-    let is : codes "nan" ≡ word = (bytes_eq-Decides (codes "nan") word).0 (nan-test _ _ _ _ _ _ e) in
+    let is : codes "nan" ≡ word = (bytes_eq-Decides (codes "nan") word).0 (nan-test (bytes_eq (codes "null") word) (begins_with (codes "null.") word) (bytes_eq (codes "true") word) (bytes_eq (codes "false") word)
+    (bytes_eq (codes "nan") word) (type_named (drop 5 word)) e) in
     subst (λ (run : List ℕ). float_of_text run ≡ Ok nan) is nan-text
 
-infinity_word : Bool → List ℕ
+abbrev infinity_word : Bool → List ℕ
 infinity_word true = codes "-inf"
 infinity_word false = codes "+inf"
 
@@ -231,7 +233,8 @@ module _ (limits : Rules) where
         let raw = tokens-are_raw _ _ _ _ _ tok in
         scalar-holds depth annotations ns v within.0 (tok-means _ _ _ _ _ tok within.1) (raw.in_range, raw.text) raw.bytes (subst AreHeld (sym raw.no_symbol) tt)
     txt-holds depth (Txt.of_float {annotations = annotations} {x = x} ns tok) within =
-        scalar-holds depth annotations ns (value.float x) within.0 (within.1.1, tok-means _ _ _ _ _ tok within.1.0) (tokens-are_raw _ _ _ _ _ tok, tt) tt tt
+        let run = tok-means _ _ _ _ _ tok within.1.0 in
+        scalar-holds depth annotations ns (value.float x) within.0 (within.1.1, run.0, run.1, run.2) (tokens-are_raw _ _ _ _ _ tok, tt) tt tt
     txt-holds depth (Txt.of_text {annotations = annotations} {bytes = bytes} ns tok) within =
         scalar-holds depth annotations ns (value.string bytes) within.0 (tok-means _ _ _ _ _ tok within.1) (tt, tokens-are_raw _ _ _ _ _ tok) tt tt
     txt-holds depth (Txt.of_operator {annotations = annotations} {p = p} {bytes = bytes} ns tok) within =

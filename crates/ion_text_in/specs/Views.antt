@@ -1,12 +1,13 @@
 -- What is seen of the tokens of the code.
-use Rattle.std.specs.Prelude.{◌≡◌, ℕ, ◌<◌, ◌≤◌, Bool, false, ◌&&◌, ◌||◌, ◌==◌, nat_lt, if◌then◌else◌, map, List, [], ◌∷◌, ◌++◌, length, take, drop, Option, Some, None, IfSome, Result, Ok}
+use Rattle.std.specs.Prelude.{◌≡◌, ℕ, ◌<◌, ◌≤◌, Bool, false, ◌&&◌, ◌||◌, ◌==◌, nat_lt, if◌then◌else◌, map, List, [], ◌∷◌, ◌++◌, length, take, drop, Option, Some, None, IfSome, option_map, Result, Ok}
 use lib.Ieee.{nan}
 use Rattle.ion_meter.specs.declared.fault.Reason.{Reason}
 use Rattle.ion_meter.specs.Sources.{Cursor}
 use Rattle.ion_value.specs.Parts.{◌>>=◌}
 use Rattle.ion_value.specs.Number.{number}
 use Rattle.ion_value.specs.Digits.{is_digit, digit_value, all_are, first_is}
-use Rattle.ion_value.specs.Float.{IsFloat}
+use Rattle.ion_value.specs.declared.float.Float64.{Float64}
+use Rattle.ion_value.specs.Float.{IsFloat, value_of}
 use Rattle.ion_value.specs.Name.{raw_id}
 use Rattle.ion_value.specs.Standing.{InRange}
 use Rattle.ion_value.specs.Value as value
@@ -72,12 +73,16 @@ number_token x = plain (as_number x)
 -- a number, timestamp or float from the code, as a token
 abbrev pub numeral_token : Numeral → Token
 numeral_token (numerals.Number x) = number_token x
-numeral_token (numerals.Float x) = tokens.float x
+numeral_token (numerals.Float x) = tokens.float (option_map value_of x)
 
 -- a number, timestamp or float of this library
 abbrev pub NumeralInRange : Numeral → Type 0
 NumeralInRange (numerals.Number x) = InRange (as_number x)
-NumeralInRange (numerals.Float x) = IfSome x IsFloat
+NumeralInRange (numerals.Float x) = IfSome x (λ f. IsFloat (value_of f))
+
+-- an infinity from the code, as a token
+abbrev pub infinity_token : Float64 → Token
+infinity_token x = tokens.float (Some (value_of x))
 
 -- ---- words
 

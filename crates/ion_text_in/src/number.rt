@@ -1,18 +1,20 @@
 //! Numbers, timestamps, floats and operators (Ion specification, "Text Encoding").
-ghost use Rattle.std.specs.Prelude.{◌≡◌, ◌≤◌, ◌<◌, ◌*◌, ◌==◌, not, Some, Ok, Err, length, filter, take, IfOk, IfSome, MatchResult, OnOk};
+ghost use Rattle.std.specs.Prelude.{◌≡◌, ◌≤◌, ◌<◌, ◌*◌, ◌==◌, not, Some, Ok, Err, length, filter, take, option_map, IfOk, IfSome, MatchResult, OnOk};
+ghost use Rattle.std.specs.Float.{inf};
 ghost use Rattle.ion_meter.specs.Sources.{Stands};
 ghost use Rattle.ion_meter.specs.Windows.{lent};
 ghost use Rattle.ion_value.specs.Calls.{AnswersBy, CanRead, Reads, ReadsInto, passed_over};
 ghost use Rattle.ion_value.specs.Decimal.{decimal_of_text};
-ghost use Rattle.ion_value.specs.Float.{IsFloat};
+ghost use Rattle.ion_value.specs.Digits.{has_minus};
+ghost use Rattle.ion_value.specs.Float.{IsFloat, value_of};
 ghost use Rattle.ion_value.specs.FloatText.{float_of_text};
-ghost use Rattle.ion_value.specs.Scalar.{scalar_of_run};
+ghost use Rattle.ion_value.specs.Scalar.{scalar_of_run, with_value};
 ghost use Rattle.ion_value.specs.Standing.{InRange};
 ghost use Rattle.ion_value.specs.Shares.{GrowsWithin};
 ghost use Rattle.ion_text_in.specs.Scanners.{Shows};
 ghost use Rattle.ion_text_in.specs.Token as tokens;
 ghost use Rattle.ion_text_in.specs.Token.{a_run, an_infinity, an_operator, found_float, token_of};
-ghost use Rattle.ion_text_in.specs.Views.{IfWhole, IsWithin, NumeralInRange, as_number, numeral_token, shown_text};
+ghost use Rattle.ion_text_in.specs.Views.{IfWhole, IsWithin, NumeralInRange, as_number, infinity_token, numeral_token, shown_text};
 
 use crate::blank::run_without;
 use crate::gather::{copy, gather_token};
@@ -171,8 +173,9 @@ fn number_of(run: &[u8]) -> Result<Number, Reason>
 // The float of a run that has the shape of one, where there is no underscore in it.
 #[inline(never)]
 fn plain_float(run: &[u8]) -> Option<Option<Float64>>
-    ensures is { IfSome result (λ x. x ≡ found_float (float_of_text run.now)) }
-    ensures range { IfSome result (λ x. IfSome x IsFloat) }
+    ensures is { IfSome result
+        (λ x. option_map value_of x ≡ found_float (float_of_text run.now)) }
+    ensures range { IfSome result (λ x. IfSome x (λ f. IsFloat (value_of f))) }
 {
     if run_without(b'_', b'_', run) < run.len() {
         return None;
@@ -185,8 +188,8 @@ fn plain_float(run: &[u8]) -> Option<Option<Float64>>
 #[inline(never)]
 fn closed_float<A: Allocator + Copy>(text: &mut Buf<A>) -> Option<Float64>
     requires { decimal_of_text text.old ≡ Err Reason.Float }
-    ensures is { result ≡ found_float (float_of_text text.old) }
-    ensures range { IfSome result IsFloat }
+    ensures is { option_map value_of result ≡ found_float (float_of_text text.old) }
+    ensures range { IfSome result (λ f. IsFloat (value_of f)) }
     ensures length { length text.new ≡ length text.old }
 {
     let count = close_up(text);
@@ -213,7 +216,7 @@ fn close_up<A: Allocator + Copy>(text: &mut Buf<A>) -> usize
 // A float that was read, or none.
 #[inline(always)]
 fn found(read: Result<Float64, Reason>) -> Option<Float64>
-    ensures { result ≡ found_float read }
+    ensures { option_map value_of result ≡ found_float (with_value value_of read) }
 {
     match read {
         Ok(float) => Some(float),
@@ -278,16 +281,25 @@ pub(crate) fn next_infinity<I: Input, A: Allocator + Copy>(
 ) -> Result<Float64, Fault>
     requires stands { Stands source.old }
     requires there { 4 ≤ length (lent source.old) }
-    ensures gives { AnswersBy I.Input (λ x. tokens.float (Some x)) source.old source.new
+    ensures gives { AnswersBy I.Input infinity_token source.old source.new
         source.old.place result (token_of (Some limits.scalar) an_infinity) }
-    ensures range { IfOk result IsFloat }
+    ensures range { IfOk result (λ x. IsFloat (value_of x)) }
     ensures further { OnOk result (source.old.place < source.new.place) }
     ensures reads { Reads I.Input source.old source.new result }
 {
     if limits.scalar < 4 {
         return Err(Fault::Refused(Reason::ScalarLimit, source.place()));
     }
-    let negative = source.buffer()[0] == b'-';
+    let infinity = infinity(source.buffer());
     source.consume(4);
-    Ok(Float64::infinite(negative))
+    Ok(infinity)
+}
+
+// The infinity above zero, or the one below it where there is a minus in front.
+#[inline(always)]
+fn infinity(bytes: &[u8]) -> Float64
+    ensures is { value_of result ≡ inf (has_minus bytes.now) }
+    ensures range { IsFloat (value_of result) }
+{
+    Float64::infinite(matches!(bytes, [b'-', ..]))
 }

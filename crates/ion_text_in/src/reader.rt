@@ -1,11 +1,11 @@
 //! The reader of texts.
-ghost use Rattle.std.specs.Prelude.{◌≡◌, ◌≢◌, ◌+◌, ◌*◌, ◌<◌, ◌≤◌, [], length, IfSome, OnOk, Option, None, Ok, true};
+ghost use Rattle.std.specs.Prelude.{◌≡◌, ◌≢◌, ◌+◌, ◌*◌, ◌<◌, ◌≤◌, [], length, option_map, IfSome, OnOk, Option, None, Ok, true};
 ghost use Rattle.ion_meter.specs.Counts.{Counts, Shrinks};
 ghost use Rattle.ion_meter.specs.Limits.{AreChecked};
 ghost use Rattle.ion_meter.specs.Rules.{rules, strictly};
 ghost use Rattle.ion_meter.specs.Sources.{BytesAreLeft, cursor, skip, Exceeds, Stands};
 ghost use Rattle.ion_meter.specs.Windows.{left, lent};
-ghost use Rattle.ion_value.specs.Float.{IsFloat};
+ghost use Rattle.ion_value.specs.Float.{IsFloat, value_of};
 ghost use Rattle.ion_value.specs.Items.{raw_head};
 ghost use Rattle.ion_value.specs.Reading.{Finished};
 ghost use Rattle.ion_text_in.specs.Firsts.{first_of, width};
@@ -424,9 +424,9 @@ impl<I: Input, A: Allocator + Copy> TextReader<I, A> {
     // Takes a float where a value may stand, where floats are read and its digits are not past the
     // greatest.
     fn float(&mut self, number: Option<Float64>, place: u64) -> Result<StepResult, Fault>
-        requires range { IfSome number IsFloat }
+        requires range { IfSome number (λ f. IsFloat (value_of f)) }
         ensures { (m : Counts) → CanStep self.old m → self.old.expected ≡ Expected.Value
-            → StepsTo I.Input None (taking self.old place (tokens.float number)) 0
+            → StepsTo I.Input None (taking self.old place (tokens.float (option_map value_of number))) 0
             self.old self.new m m result }
     {
         if !self.limits.floats {
@@ -490,7 +490,7 @@ impl<I: Input, A: Allocator + Copy> TextReader<I, A> {
                 Body::Null(ion_type) => Head::Null(ion_type),
                 Body::Bool(truth) => Head::Bool(truth),
                 Body::Int(int) => Head::Int(int),
-                Body::Float(float) => Head::Float(float.bits()),
+                Body::Float(float) => Head::Float(float),
                 Body::Decimal(decimal) => Head::Decimal(decimal),
                 Body::Timestamp(timestamp) => Head::Timestamp(timestamp),
                 Body::Symbol(symbol) => {

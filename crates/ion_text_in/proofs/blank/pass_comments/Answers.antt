@@ -103,7 +103,7 @@ blanks-preserved g c =
     let over = Passed-lent device w q u count reads.stands kept two.well.1 fits c.consume.ensures in
     let before = rw reads.stands.well at one.count in
     let after = rw one.well.1 at two.count in
-    let still : device.failure_count q.device ≡ device.failure_count w.device = omega (arith, before, later) in
+    let still : device.failure_count q.device ≡ device.failure_count w.device = omega (arith, before, after) in
     record {
       gone = gone-then device s0 w u (gone-then device s0 s w c.blanks.invariant.gone (reads-gone device s w c.in_ok-pass_run.field-0 reads))
           (record { stands = over.stands; moves = over.moves; steady = ap device.failure_count c.consume.ensures.device ∙ still });

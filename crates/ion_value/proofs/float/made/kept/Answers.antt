@@ -1,7 +1,7 @@
 use Rattle.std.proofs.Common.{ap, ◌∙◌, sym}
 use lib.Ieee.{binary64, to_bits}
 use Rattle.ion_value.proofs.FloatBits.{kept-nan, kept-number, nan_above}
-use Rattle.ion_value.proofs.float.kept.Goals as goal
+use Rattle.ion_value.proofs.float.made.kept.Goals as goal
 
 pub returns-then-bits-gt-INFINITY-clause-value : goal.returns-then-bits-gt-INFINITY-clause-value
 returns-then-bits-gt-INFINITY-clause-value c = nan_above c.args.bits c.if-bits-gt-INFINITY.true

@@ -1,7 +1,11 @@
 -- The token of a run, by what the run is read as.
-use Rattle.std.proofs.Common.{◌≡◌, ◌≢◌, ℕ, List, Option, Result, Ok, Err, refl, sym, ap, ◌∙◌}
+use Rattle.std.proofs.Common.{◌≡◌, ◌≢◌, ◌⊎◌, inl, inr, ℕ, ◌==◌, Bool, true, false, not, List, filter, codes, Option, Some, None, Result, Ok, Err, refl, sym, ap, ◌∙◌}
+use Rattle.std.specs.Float.Parse.{parse_float}
+use Rattle.std.specs.Str.{bytes_eq}
+use Rattle.std.proofs.lemmas.Bool.{cases_Bool, false≢true}
+use Rattle.std.proofs.lemmas.Slice.Eq.{bytes_eq-Decides}
 use Rattle.std.specs.Result.{IfOk}
-use lib.Ieee.{Float}
+use lib.Ieee.{Float, binary64}
 use Rattle.ion_meter.specs.declared.fault.Reason.{Reason}
 use Rattle.ion_meter.specs.declared.fault.Reason.TheVariants as reason
 use Rattle.ion_meter.specs.declared.fault.Reason.TheVariants.{BadToken}
@@ -9,13 +13,15 @@ use Rattle.ion_value.specs.declared.int.Int.{Int}
 use Rattle.ion_value.specs.declared.decimal.Decimal.{Decimal}
 use Rattle.ion_value.specs.declared.timestamp.Timestamp.{Timestamp}
 use Rattle.ion_value.specs.Int.{int_of_text}
-use Rattle.ion_value.specs.Decimal.{decimal_of_text}
-use Rattle.ion_value.specs.FloatText.{float_of_text}
+use Rattle.ion_value.specs.Decimal.{parts_of, decimal_of_text}
+use Rattle.ion_value.specs.Digits.{cut_at, without_minus}
+use Rattle.ion_value.specs.FloatText.{is_float, finite, float_word, float_of_text}
 use Rattle.ion_value.specs.Timestamp.{timestamp_of_text}
 use Rattle.ion_value.specs.Scalar.{scalar_of_run}
 use Rattle.ion_value.specs.Value.{SymbolAt, Scalar, int, decimal, timestamp}
 use Rattle.ion_value.proofs.Faults.{Blames}
 use Rattle.ion_value.proofs.TextKinds.{timestamp-no_number}
+use Rattle.ion_float.proofs.TextReading.{alike-shape, shape-read}
 use Rattle.ion_text_in.specs.Token.{Token, plain, float, found_float, scalar_token, run_token}
 
 -- ---- by what the scalar is
@@ -75,3 +81,39 @@ pub first-bad : (run : List ℕ) (why : Reason) → why ≢ BadToken → timesta
 first-bad run why other e =
     let none = timestamp-no_number run (λ f. let same : why ≡ BadToken = cc (e, f) in other same) in
     timestamp-bad run why none.0 none.1 e
+
+-- no timestamp is refused as a float
+pub other-why : (why : Reason) → (why ≡ BadToken) ⊎ ((why ≡ reason.Range) ⊎ (why ≡ reason.BadTimestamp)) → why ≢ reason.Float
+other-why why (inl is) e = cc (sym is, e)
+other-why why (inr (inl is)) e = cc (sym is, e)
+other-why why (inr (inr is)) e = cc (sym is, e)
+
+-- ---- runs with underscores
+
+nan-shape : is_float (parts_of (without_minus (codes "nan"))) ≡ false
+unfolding parts_of cut_at
+nan-shape = refl
+
+plus-shape : is_float (parts_of (without_minus (codes "+inf"))) ≡ false
+unfolding parts_of cut_at
+plus-shape = refl
+
+minus-shape : is_float (parts_of (without_minus (codes "-inf"))) ≡ false
+unfolding parts_of cut_at
+minus-shape = refl
+
+-- a run with the shape of a float is no word
+no-word : (run : List ℕ) → is_float (parts_of (without_minus run)) ≡ true → float_word run ≡ None
+no-word run h = rw (other (codes "nan") nan-shape, other (codes "+inf") plus-shape, other (codes "-inf") minus-shape) refl
+  where
+    other : (text : List ℕ) → is_float (parts_of (without_minus text)) ≡ false → bytes_eq run text ≡ false
+    other text f = elim (cases_Bool (bytes_eq run text)) [
+      | inl e ↦ absurd (false≢true (sym (ap (λ (r : List ℕ). is_float (parts_of (without_minus r))) ((bytes_eq-Decides run text).0 e) ∙ f) ∙ h))
+      | inr e ↦ e
+    ]
+
+-- the float of its bytes but the underscores is the float of the run
+pub closed-read : (run text : List ℕ) (result : Result Float Reason) → decimal_of_text run ≡ Err reason.Float → text ≡ filter (λ b. not (b == 95)) run
+    → ((x : Float) → parse_float binary64 text ≡ Some x → result ≡ finite x) → result ≡ float_of_text run
+closed-read run text result e closed parsed =
+    let shape = alike-shape run e in shape-read run text result (sym (no-word run shape)) (sym shape) closed parsed

@@ -11,6 +11,7 @@ ghost use Rattle.ion_value.specs.FloatText.{float_of_text};
 ghost use Rattle.ion_value.specs.Scalar.{scalar_of_run, with_value};
 ghost use Rattle.ion_value.specs.Standing.{InRange};
 ghost use Rattle.ion_value.specs.Shares.{GrowsWithin};
+ghost use Rattle.ion_value.specs.Value.{SymbolAt};
 ghost use Rattle.ion_text_in.specs.Scanners.{Shows};
 ghost use Rattle.ion_text_in.specs.Token as tokens;
 ghost use Rattle.ion_text_in.specs.Token.{a_run, an_infinity, an_operator, found_float, token_of};
@@ -146,7 +147,7 @@ fn gather_number<I: Input, A: Allocator + Copy>(
 #[inline(always)]
 fn number_of(run: &[u8]) -> Result<Number, Reason>
     ensures gives { MatchResult result (λ x. scalar_of_run run.now ≡ Ok (as_number x))
-        (λ reason. scalar_of_run run.now ≡ Err reason) }
+        (λ reason. scalar_of_run {S = SymbolAt} run.now ≡ Err reason) }
     ensures float { result ≡ Err Reason.Float → decimal_of_text run.now ≡ Err Reason.Float }
     ensures range { IfOk result (λ x. InRange (as_number x)) }
 {

@@ -21,7 +21,6 @@ use ion_meter::device::Output;
 use ion_meter::fault::Fault;
 use ion_meter::sink::Sink;
 use ion_value::decimal::decimal_to_text;
-use ion_value::float::Float64;
 use ion_value::int::int_to_text;
 use ion_value::ion_type::IonType;
 use ion_value::item::{Head, Sym};
@@ -127,10 +126,7 @@ pub fn put_body<O: Output, A: Allocator + Copy>(
         Head::Null(of) => put(sink, null(of)),
         Head::Bool(truth) => put(sink, bool_text(truth)),
         Head::Int(int) => put(sink, int_to_text(int).as_str().as_bytes()),
-        Head::Float(bits) => put(
-            sink,
-            float_to_text(Float64::from_bits(bits)).as_str().as_bytes(),
-        ),
+        Head::Float(float) => put(sink, float_to_text(float).as_str().as_bytes()),
         Head::Decimal(decimal) => put(sink, decimal_to_text(decimal).as_str().as_bytes()),
         Head::Timestamp(moment) => put(sink, timestamp_to_text(moment).as_str().as_bytes()),
         Head::Symbol(at) => put_symbol(sink, at.sym),

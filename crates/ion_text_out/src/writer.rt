@@ -35,7 +35,6 @@ use ion_meter::meter::Meter;
 use ion_meter::sink::Sink;
 use ion_meter::stack::Stack;
 use ion_value::decimal::{Decimal, decimal_to_text};
-use ion_value::float::Float64;
 use ion_value::int::Int;
 use ion_value::ion_type::Kind;
 use ion_value::item::{Head, Item, Sym};
@@ -434,13 +433,8 @@ impl<A: Allocator + Copy> TextWriter<A> {
             Head::Null(of) => self.take_text(sink, name, note, null(of)),
             Head::Bool(truth) => self.take_text(sink, name, note, bool_text(truth)),
             Head::Int(int) => self.take_int(sink, name, note, int),
-            Head::Float(bits) => {
-                self.take_text(
-                    sink,
-                    name,
-                    note,
-                    float_to_text(Float64::from_bits(bits)).as_str().as_bytes(),
-                )
+            Head::Float(float) => {
+                self.take_text(sink, name, note, float_to_text(float).as_str().as_bytes())
             }
             Head::Decimal(decimal) => self.take_decimal(sink, name, note, decimal),
             Head::Timestamp(moment) => self.take_timestamp(sink, name, note, moment),

@@ -4,10 +4,11 @@ use Rattle.std.proofs.lemmas.Bool.{eqb-true}
 use Rattle.std.proofs.lemmas.List.{length-take-le}
 use Rattle.std.specs.Result.{IfOk}
 use Rattle.std.specs.Str.{bytes_eq, is_utf8}
+use lib.Ieee.{inf}
 use Rattle.ion_meter.specs.declared.fault.Reason.{Reason}
 use Rattle.ion_meter.specs.declared.fault.Reason.TheVariants.{BadText, ScalarLimit}
 use Rattle.ion_meter.specs.Sources.{Cursor, skip}
-use Rattle.ion_value.specs.Digits.{first_is}
+use Rattle.ion_value.specs.Digits.{first_is, has_minus}
 use Rattle.ion_value.specs.Name.{Keyword, a_null, keyword, begins_with, is_identifier_start, is_operator_byte}
 use Rattle.ion_value.specs.Parts.{◌>>=◌}
 use Rattle.ion_value.specs.Scalar.{scalar_of_run}

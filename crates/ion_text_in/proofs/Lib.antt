@@ -52,7 +52,6 @@ pub mod RunEnds
 pub mod ShownTokens
 pub mod RunTokens
 pub mod Gathered
-pub mod Infinities
 pub mod WordTokens
 pub mod FirstTokens
 pub mod TypedWords
@@ -61,6 +60,7 @@ pub mod ReaderAnnotations
 pub mod ReaderCalls
 pub mod ShownFurther
 pub mod ReaderSymbols
+pub mod ReaderFloats
 pub mod LobTurns
 mod RunCuts
 mod Prepaid

@@ -5,6 +5,7 @@ use Rattle.std.proofs.lemmas.Bool.{cases_Bool, eqb-true}
 use Rattle.std.proofs.lemmas.Nat.{from_be_bytes-to_be_bytes_4, from_be_bytes-to_be_bytes_8}
 use lib.Ieee.{Float, binary32, binary64, fits, to_bits, of_bits}
 use lib.Ieee.Bits.{of_bits-to_bits, of_bits-fits, to_bits-lt, is_true}
+use lib.Ieee.Fits.{fits_widens}
 use Rattle.ion_value.specs.Float.{IsFloat}
 use Rattle.ion_value.specs.FloatOctets.{positive_zero, is_positive_zero, float_of_octets, float_octets}
 use Rattle.ion_float.proofs.Narrow.{same_value, zero_fits, zero_or_not}
@@ -63,6 +64,25 @@ octets-fewest x octets h = elim (cases_Bool (length octets == 0)) [
       | inl e ↦
           let eight : length octets ≡ 8 = eqb-true (length octets) 8 e in
           omega (arith, eight-more x, eight)
+      | inr d ↦ absurd (none-some x (rw (a, b, d) at h))
+    ]
+  ]
+]
+
+-- ---- what is read
+
+-- what octets spell is a float of Ion
+pub octets-IsFloat : (x : Float) (octets : List ℕ) → float_of_octets octets ≡ Some x → IsFloat x
+octets-IsFloat x octets h = elim (cases_Bool (length octets == 0)) [
+  | inl e ↦ subst IsFloat (some-same positive_zero x (rw e at h)) (zero_fits binary64 false)
+  | inr a ↦ elim (cases_Bool (length octets == 4)) [
+    | inl e ↦
+        let same = some-same (from_bits binary32 (from_be_bytes w32 octets)) x (rw (a, e) at h) in
+        subst IsFloat same (fits_widens (from_bits binary32 (from_be_bytes w32 octets)) (of_bits-fits binary32 (from_be_bytes w32 octets)))
+    | inr b ↦ elim (cases_Bool (length octets == 8)) [
+      | inl e ↦
+          let same = some-same (from_bits binary64 (from_be_bytes w64 octets)) x (rw (a, b, e) at h) in
+          subst IsFloat same (of_bits-fits binary64 (from_be_bytes w64 octets))
       | inr d ↦ absurd (none-some x (rw (a, b, d) at h))
     ]
   ]

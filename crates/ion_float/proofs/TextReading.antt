@@ -9,8 +9,7 @@ use lib.Ieee.{Float, Format, nan, inf, fin, binary64, fits}
 use lib.Ieee.Fits.{round-fits}
 use Rattle.fast_float.specs.Rounding.{nearest_to_decimal}
 use Rattle.ion_value.specs.declared.float.Float64.{Float64}
-use Rattle.ion_value.specs.Float.{IsFloat, value_of}
-use Rattle.ion_value.specs.Scalar.{with_value}
+use Rattle.ion_value.specs.Float.{IsFloat, value_of, values_of}
 use Rattle.ion_meter.specs.declared.fault.Reason.{Reason}
 use Rattle.ion_meter.specs.declared.fault.Reason.TheVariants.{BadToken, Range}
 use Rattle.ion_meter.specs.declared.fault.Reason.TheVariants as reason
@@ -196,10 +195,11 @@ text-is-read run =
     (word-fits (bytes_eq run (codes "nan")) (bytes_eq run (codes "+inf")) (bytes_eq run (codes "-inf")))
     (parts-are-read (has_minus run) (parts_of (without_minus run)))
 
-pub same-read : (r : Result Float Reason) (run : List ℕ) → r ≡ float_of_text run → IsRead r
-same-read r run e = subst IsRead (sym e) (text-is-read run)
+found-read : (r : Result Float Reason) (run : List ℕ) → r ≡ float_of_text run → IsRead r
+found-read r run e = subst IsRead (sym e) (text-is-read run)
 
--- so it is of what is seen of an answer
-pub value-read : (r : Result Float64 Reason) → IsRead (with_value value_of r) → IfOk r (λ x. IsFloat (value_of x)) × IfErr r (λ e. (e ≡ BadToken) ⊎ (e ≡ Range))
-value-read (Ok x) h = (h.0, tt)
-value-read (Err e) h = (tt, h.1)
+-- as the code has it
+pub same-read : (r : Result Float64 Reason) (run : List ℕ) → values_of r ≡ float_of_text run
+    → IfOk r (λ x. IsFloat (value_of x)) × IfErr r (λ e. (e ≡ BadToken) ⊎ (e ≡ Range))
+same-read (Ok x) run e = ((found-read (Ok (value_of x)) run e).0, tt)
+same-read (Err why) run e = (tt, (found-read (Err why) run e).1)

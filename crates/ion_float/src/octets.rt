@@ -1,8 +1,8 @@
 //! Floats in octets.
-ghost use Rattle.std.specs.Prelude.{◌≡◌, ◌<◌, ◌≤◌, All, IfSome, length, Some, None, if◌then◌else◌, to_bits, from_bits};
+ghost use Rattle.std.specs.Prelude.{◌≡◌, ◌<◌, ◌≤◌, All, IfSome, length, Some, None, option_map, if◌then◌else◌, to_bits, from_bits};
 ghost use Rattle.std.specs.Float.{binary32};
 ghost use lib.Ieee.{fits};
-ghost use Rattle.ion_value.specs.Float.{IsFloat};
+ghost use Rattle.ion_value.specs.Float.{IsFloat, value_of};
 ghost use Rattle.ion_value.specs.FloatOctets.{float_of_octets, float_octets};
 
 use arrayvec::ArrayVec;
@@ -22,8 +22,8 @@ const SIGN: u32 = 1 << 31;
 /// first octet counting most (binary encoding, "4: float"). There is none of any other length.
 #[inline]
 pub fn float_from_octets(body: &[u8]) -> Option<Float64>
-    ensures read { result ≡ float_of_octets body.now }
-    ensures valid { IfSome result IsFloat }
+    ensures read { option_map value_of result ≡ float_of_octets body.now }
+    ensures valid { IfSome result (λ x. IsFloat (value_of x)) }
 {
     match body {
         [] => Some(Float64::from_bits(0)),
@@ -39,7 +39,7 @@ pub fn float_from_octets(body: &[u8]) -> Option<Float64>
 // The float with these bits of binary32.
 #[inline]
 fn widened(bits: u32) -> Float64
-    ensures { result ≡ from_bits binary32 bits }
+    ensures { value_of result ≡ from_bits binary32 bits }
 {
     if bits % SIGN > INFINITY {
         return Float64::nan();
@@ -51,7 +51,7 @@ fn widened(bits: u32) -> Float64
 /// elsewhere (binary encoding, "4: float").
 #[inline]
 pub fn float_to_octets(float: Float64) -> ArrayVec<u8, 8>
-    ensures spelled { result.items ≡ float_octets float }
+    ensures spelled { result.items ≡ float_octets (value_of float) }
     ensures octets { All (λ octet. octet < 256) result.items }
 {
     if float.bits() == 0 {
@@ -75,7 +75,8 @@ fn held(octets: &[u8]) -> ArrayVec<u8, 8>
 // The bits of binary32 of a float, where it has the value.
 #[inline]
 fn narrowed(float: Float64) -> Option<u32>
-    ensures { result ≡ (if fits binary32 float then Some (to_bits binary32 float) else None) }
+    ensures { result ≡ (if fits binary32 (value_of float)
+        then Some (to_bits binary32 (value_of float)) else None) }
 {
     if float.is_nan() {
         return Some(NAN);

@@ -3,6 +3,7 @@ ghost use Rattle.std.specs.Prelude.{◌≡◌, ◌+◌, ◌*◌, ◌%◌, ◌^�
 ghost use Rattle.std.specs.Float.{binary64};
 ghost use Rattle.arrayvec.specs.ArrayString.{array_string_len};
 ghost use Rattle.ion_value.specs.Decimal.{integer_text};
+ghost use Rattle.ion_value.specs.Float.{value_of};
 ghost use Rattle.ion_value.specs.FloatText.{pointed, exponent_of, digits_text, float_text};
 
 use crate::shortest::{Digits, shortest};
@@ -23,7 +24,7 @@ const SIGN: u64 = 1 << 63;
 /// The digits are the fewest that read as the float, and of these the nearest to it: `1e0`,
 /// `6.02214076e23`, `5e-324`. The sign of zero is kept.
 pub fn float_to_text(float: Float64) -> ArrayString<24>
-    ensures { result.bytes ≡ float_text float }
+    ensures { result.bytes ≡ float_text (value_of float) }
 {
     let mut text = ArrayString::new();
     let bits = float.bits();

@@ -1,11 +1,10 @@
 //! Floats read from text.
-ghost use Rattle.std.specs.Prelude.{◌≡◌, ◌⊎◌, ◌==◌, ◌≤◌, IfOk, IfErr, Some, true, take, filter, not, length, option_map};
+ghost use Rattle.std.specs.Prelude.{◌≡◌, ◌⊎◌, ◌==◌, ◌≤◌, IfOk, IfErr, Some, option_map, true, take, filter, not, length};
 ghost use Rattle.std.specs.Float.{binary64, Float};
 ghost use Rattle.std.specs.Float.Parse.{parse_float};
 ghost use Rattle.ion_value.specs.Digits.{all_are, without_minus};
 ghost use Rattle.ion_value.specs.Decimal.{parts_of};
-ghost use Rattle.ion_value.specs.Float.{IsFloat, value_of};
-ghost use Rattle.ion_value.specs.Scalar.{with_value};
+ghost use Rattle.ion_value.specs.Float.{IsFloat, value_of, values_of};
 ghost use Rattle.ion_value.specs.FloatText.{is_float, finite, float_word, float_of_text};
 
 use ion_meter::fault::Reason;
@@ -20,7 +19,7 @@ use ion_value::float::Float64;
 /// is out of `Range`, and every other run a `BadToken`. The underscores are closed up in place, so
 /// the run is scratch afterwards.
 pub fn float_from_text(run: &mut [u8]) -> Result<Float64, Reason>
-    ensures read { with_value value_of result ≡ float_of_text run.old }
+    ensures read { values_of result ≡ float_of_text run.old }
     ensures valid { IfOk result (λ x. IsFloat (value_of x)) }
     ensures refused { IfErr result (λ e. (e ≡ Reason.BadToken) ⊎ (e ≡ Reason.Range)) }
 {
@@ -37,7 +36,7 @@ pub fn float_from_text(run: &mut [u8]) -> Result<Float64, Reason>
 /// Reads a float in text that has no underscore, as `float_from_text` does, where it stands.
 pub fn float_from_plain_text(run: &[u8]) -> Result<Float64, Reason>
     requires { all_are (λ b. not (b == 95)) run.now ≡ true }
-    ensures read { with_value value_of result ≡ float_of_text run.now }
+    ensures read { values_of result ≡ float_of_text run.now }
     ensures valid { IfOk result (λ x. IsFloat (value_of x)) }
     ensures refused { IfErr result (λ e. (e ≡ Reason.BadToken) ⊎ (e ≡ Reason.Range)) }
 {
@@ -82,7 +81,7 @@ fn has_float_shape(run: &[u8]) -> bool
 #[inline]
 pub fn nearest_float(text: &[u8]) -> Result<Float64, Reason>
     ensures { (x : Float) → parse_float binary64 text.now ≡ Some x
-        → with_value value_of result ≡ finite x }
+        → values_of result ≡ finite x }
 {
     match fast_float::parse::<f64, _>(text) {
         Ok(value) if value.is_finite() => Ok(Float64::from_number(value)),

@@ -18,7 +18,7 @@ floats_are_read : AreRead (
     ∷ float_row "no infinity" "(+infx)" "0 (; 1/0 '+'@1; 2/0 'infx'@2; 6/0 end; done"
     ∷ float_row_within 64 4 "limit" "1e10 1.5e0" "0 1e10; ScalarLimit at 5"
     ∷ []
-)
+    )
 unfolding read_within
 floats_are_read = refl
 
@@ -28,6 +28,6 @@ floats_are_refused : AreRead (
     ∷ row "null of the type" "null.float" "0 null.float; done"
     ∷ row "fault of the shape first" "1e1_0" "BadToken at 0"
     ∷ []
-)
+    )
 unfolding read_within
 floats_are_refused = refl

@@ -6,9 +6,9 @@ ghost use Rattle.ion_meter.specs.Windows.{lent};
 ghost use Rattle.ion_value.specs.Calls.{AnswersBy, CanRead, Reads, ReadsInto, passed_over};
 ghost use Rattle.ion_value.specs.Decimal.{decimal_of_text};
 ghost use Rattle.ion_value.specs.Digits.{has_minus};
-ghost use Rattle.ion_value.specs.Float.{IsFloat, value_of};
+ghost use Rattle.ion_value.specs.Float.{IsFloat, value_of, values_of};
 ghost use Rattle.ion_value.specs.FloatText.{float_of_text};
-ghost use Rattle.ion_value.specs.Scalar.{scalar_of_run, with_value};
+ghost use Rattle.ion_value.specs.Scalar.{scalar_of_run};
 ghost use Rattle.ion_value.specs.Standing.{InRange};
 ghost use Rattle.ion_value.specs.Shares.{GrowsWithin};
 ghost use Rattle.ion_value.specs.Value.{SymbolAt};
@@ -217,7 +217,7 @@ fn close_up<A: Allocator + Copy>(text: &mut Buf<A>) -> usize
 // A float that was read, or none.
 #[inline(always)]
 fn found(read: Result<Float64, Reason>) -> Option<Float64>
-    ensures { option_map value_of result ≡ found_float (with_value value_of read) }
+    ensures { option_map value_of result ≡ found_float (values_of read) }
 {
     match read {
         Ok(float) => Some(float),

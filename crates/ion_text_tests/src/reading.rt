@@ -164,21 +164,30 @@ fn expect_pieces(
 }
 
 /// Reads each text whole, a byte at a time, and cut at each place.
-fn expect_rows(
-    rt: &impl Abort,
-    alloc: Global,
-    profile: Profile,
-    rows: &[Row],
-) -> Result<(), Fail> {
+fn expect_rows(rt: &impl Abort, alloc: Global, profile: Profile, rows: &[Row]) -> Result<(), Fail> {
     for (scalar, text, words) in rows {
         let limits = Limits {
             scalar: *scalar,
             ..LIMITS
         };
         expect_pieces(rt, alloc, limits, profile, Pieces::new(text, 1, 1), words)?;
-        expect_pieces(rt, alloc, limits, profile, Pieces::new(text, WHOLE, WHOLE), words)?;
+        expect_pieces(
+            rt,
+            alloc,
+            limits,
+            profile,
+            Pieces::new(text, WHOLE, WHOLE),
+            words,
+        )?;
         for place in 1..text.len() {
-            expect_pieces(rt, alloc, limits, profile, Pieces::new(text, place, WHOLE), words)?;
+            expect_pieces(
+                rt,
+                alloc,
+                limits,
+                profile,
+                Pieces::new(text, place, WHOLE),
+                words,
+            )?;
         }
     }
     Ok(())

@@ -1,5 +1,5 @@
 -- What is seen of plain items: those whose names and annotations are texts, with two annotations at most.
-use Rattle.std.specs.Prelude.{◌≡◌, ◌==◌, ℕ, true, false, List, [], ◌∷◌, ◌++◌, Option, Some, None, option_map, IfSome, ⊤}
+use Rattle.std.specs.Prelude.{◌≡◌, ◌==◌, ℕ, false, List, [], ◌∷◌, ◌++◌, Option, Some, None, option_map, IfSome, ⊤}
 use Rattle.ion_value.specs.declared.plain_item.TextAt.{TextAt}
 use Rattle.ion_value.specs.declared.quoting.Quoting.{Quoting}
 use Rattle.ion_value.specs.declared.quoting.Quoting.TheVariants as quoting

@@ -91,7 +91,14 @@ fn reads_long_texts(rt: HostRuntime) -> Result<(), Fail> {
         let text = text_of(alloc, *text)?;
         let words = text_of(alloc, *words)?;
         let pieces = Pieces::new(text.as_bytes(), WHOLE, WHOLE);
-        let left = expect_pieces(&rt, alloc, limits, Profile::strict(), pieces, words.as_str())?;
+        let left = expect_pieces(
+            &rt,
+            alloc,
+            limits,
+            Profile::strict(),
+            pieces,
+            words.as_str(),
+        )?;
         if let Some(held) = held {
             assert!(&rt; left == *held);
         }
@@ -109,10 +116,24 @@ fn passes_long_comments(rt: HostRuntime) -> Result<(), Fail> {
         let mut words = String::new(alloc);
         write!(words, "{place}/{place} symbol 'x'@{place}; over")?;
         let pieces = Pieces::new(text.as_bytes(), WHOLE, WHOLE);
-        expect_pieces(&rt, alloc, LIMITS, Profile::strict(), pieces, words.as_str())?;
+        expect_pieces(
+            &rt,
+            alloc,
+            LIMITS,
+            Profile::strict(),
+            pieces,
+            words.as_str(),
+        )?;
         let text = text_of(alloc, ("/*", ".", count, ""))?;
         let pieces = Pieces::new(text.as_bytes(), WHOLE, WHOLE);
-        expect_pieces(&rt, alloc, LIMITS, Profile::strict(), pieces, "Truncated at 0")?;
+        expect_pieces(
+            &rt,
+            alloc,
+            LIMITS,
+            Profile::strict(),
+            pieces,
+            "Truncated at 0",
+        )?;
     }
     Ok(())
 }
@@ -131,7 +152,14 @@ fn tells_faults_in_blanks(rt: HostRuntime) -> Result<(), Fail> {
             input: input as u64,
             ..LIMITS
         };
-        expect_pieces(&rt, alloc, limits, Profile::strict(), Pieces::new(text, 3, 3), "input limit")?;
+        expect_pieces(
+            &rt,
+            alloc,
+            limits,
+            Profile::strict(),
+            Pieces::new(text, 3, 3),
+            "input limit",
+        )?;
     }
     Ok(())
 }

@@ -118,7 +118,14 @@ fn expect(rt: &impl Abort, alloc: Global, row: Row) -> Result<(), Fail> {
     let mut refused = 0usize;
     for more in 0..64usize {
         let heap = LocalHeap::new(alloc, 4096 + 8 * more)?;
-        let told = read_by(rt, &heap, LIMITS, Profile::strict(), Pieces::new(text, most, most), alloc)?;
+        let told = read_by(
+            rt,
+            &heap,
+            LIMITS,
+            Profile::strict(),
+            Pieces::new(text, most, most),
+            alloc,
+        )?;
         if is_whole(rt, &told, words) {
             assert_eq!(rt; refused, growths);
             return Ok(());

@@ -22,7 +22,7 @@ use Rattle.ion_value.specs.Timestamp as timestamps
 use Rattle.ion_value.specs.Timestamp.{is_moment, utc_of, timestamp_of_text}
 use Rattle.ion_value.specs.Value as value
 use Rattle.ion_value.specs.Value.{SymbolAt, Scalar}
-use Rattle.ion_value.proofs.Faults.{Blames, bind_blames, then_blames, if_blames, is_limit, Free, free, fault_free, refuse_free, either-free, years-free}
+use Rattle.ion_value.proofs.Faults.{Blames, then_blames, if_blames, is_limit, Free, free, fault_free, refuse_free, either-free, years-free}
 use Rattle.ion_meter.specs.Sources.{Cursor, skip}
 use Rattle.ion_value.specs.Parts.{refuse, ◌>>=◌, ◌>>◌}
 use Rattle.ion_text_in.specs.Places.{after_run}

@@ -10,10 +10,9 @@ use Rattle.ion_value.specs.declared.timestamp.Timestamp.{Timestamp}
 use Rattle.ion_value.specs.Decimal.{decimal_of_text}
 use Rattle.ion_value.specs.Int.{int_of_text}
 use Rattle.ion_value.specs.Name.{Keyword, a_null, keyword}
-use Rattle.ion_value.specs.Parts.{◌>>=◌}
 use Rattle.ion_value.specs.Scalar.{scalar_of_run, scalar_of_readings}
 use Rattle.ion_value.specs.Timestamp.{timestamp_of_text}
-use Rattle.ion_value.specs.Value.{SymbolAt, Scalar}
+use Rattle.ion_value.specs.Value.{SymbolAt}
 use Rattle.ion_text_in.specs.Meaning.{counts}
 use Rattle.ion_text_in.proofs.RunTokens.{if-scalar}
 use Rattle.ion_text_in.specs.Token.{Token, plain, word_token, run_token, by_keyword}

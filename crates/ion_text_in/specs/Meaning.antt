@@ -1,7 +1,7 @@
 -- What a token means: the text of a scalar is read as that scalar, whatever stands after it that ends it; the characters of a blob are the base64 of its bytes; what each token means is raw. And what it counts under a limit.
 use Rattle.std.specs.Prelude.{◌≡◌, ◌≢◌, ℕ, ◌+◌, ◌-◌, ◌*◌, ◌^◌, ◌<◌, ◌≤◌, Bool, true, false, not, nat_lt, if◌then◌else◌, List, [], ◌∷◌, ◌++◌, All, length, filter, codes, decimal as digits, Option, Some, None, IsUtf8, ⊤, Ok, Err}
 use Rattle.std.specs.Str.{is_utf8}
-use lib.Ieee.{Float, nan, inf, fin}
+use lib.Ieee.{Float, fin}
 use Rattle.base64.specs.Engines.{standard}
 use Rattle.base64.specs.GeneralPurpose.{encode_of}
 use Rattle.ion_meter.specs.declared.fault.Reason.TheVariants.{ScalarLimit}

@@ -1,6 +1,6 @@
 use Rattle.std.proofs.Common.{arith}
 use Rattle.std.proofs.lemmas.Grind.{common_steps}
-use Rattle.ion_text_in.specs.Token.{an_infinity, token_of}
+use Rattle.ion_text_in.specs.Token.{token_of}
 use Rattle.ion_text_in.proofs.number.next_infinity.Goals as goal
 
 pub returns-clause-reads : goal.returns-clause-reads

@@ -1,4 +1,4 @@
-use Rattle.std.proofs.Common.{◌≡◌, None, Option, IfSome, subst}
+use Rattle.std.proofs.Common.{None, Option, IfSome, subst}
 use Rattle.ion_meter.specs.declared.fault.Reason.TheVariants as reasons
 use Rattle.ion_value.specs.declared.float.Float64.{Float64}
 use Rattle.ion_value.specs.Float.{IsFloat, value_of}

@@ -6,7 +6,7 @@ usage: diff/cases/cut_texts.py [--choose N] [--longest N] [--each N]
 The texts are those of tests/cases, catalogues among them. Of each that is no binary a row is printed, as those of
 `crates/ion_text_tests/src/reading/drawn.rt`: the limit on scalars (1048576, or that of the words), the text, and its items in
 words. --choose takes N rows, half of them with faults, each fault in turn, that show the most kinds of tokens and bytes
-after one another, --longest texts of at most N bytes (400), --each puts N rows into one constant (40). Nothing of the
+one after another, --longest texts of at most N bytes (400), --each puts N rows into one constant (40). Nothing of the
 crates is read or run.
 """
 import base64, calendar, json, os, re, subprocess, sys
@@ -428,7 +428,7 @@ def ending(row):
 def choose(rows, count):
     """So many of the rows, half of them with faults, each fault in turn: the one that shows most for its length.
 
-    A row shows kinds of tokens, kinds after one another, and bytes after one another, where all digits are one.
+    A row shows kinds of tokens, kinds one after another, and bytes one after another, where all digits are one.
     """
     def shown(row):
         kinds = ['begin'] + [told.split()[1] for told in row[2]]

@@ -58,8 +58,8 @@ fn after_field(inside: Option<Kind>, octets: &[u8]) -> Option<&[u8]>
     }
 }
 
-// Whether the first annotation in a wrapper may be that of a declaration, whose id is 3, after the length
-// of its annotations.
+// Whether the first annotation in a wrapper, after the length of its annotations, may be that of a declaration:
+// its id is 3, which is the octet 83, or zeros before it.
 fn may_declare(octets: &[u8]) -> bool {
     match scan_var(octets, 0, TOP) {
         Scanned::Whole(_, count) => matches!(&octets[count..], [0x83 | 0, ..]),

@@ -58,7 +58,7 @@ texts_more bytes more from (p ∷ ps) end h k =
     let r : texts_in (bytes ++ more) ps ≡ texts_in bytes ps = texts_more bytes more p.to ps end h.1.1 k in
     cc
 
--- what texts cost that stand after one another
+-- what texts cost that stand one after another
 pub texts_cost-follow : (bytes : List ℕ) (from : ℕ) (ps : List Place) (end : ℕ) → Follow from ps end → end ≤ length bytes → texts_cost (texts_in bytes ps) + from ≡ 16 * length ps + end
 texts_cost-follow bytes from [] end h k = omega (arith, h)
 texts_cost-follow bytes from (p ∷ ps) end h k =

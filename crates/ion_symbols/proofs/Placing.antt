@@ -54,7 +54,7 @@ length-spans ps qs e = sym (length-map qs span) ∙ (ap length e ∙ length-map 
 pub texts-spans : (bytes : List ℕ) (ps qs : List Place) → spans qs ≡ spans ps → texts_in bytes qs ≡ texts_in bytes ps
 texts-spans bytes ps qs e = sym (map-map (spanned bytes) span qs) ∙ (ap (map (spanned bytes)) e ∙ map-map (spanned bytes) span ps)
 
--- after one another
+-- one after another
 pub follow-spans : (from : ℕ) (ps qs : List Place) (end : ℕ) → spans qs ≡ spans ps → Follow from ps end → Follow from qs end
 follow-spans from [] [] end e h = h
 follow-spans from [] (q ∷ qs) end e h = absurd (cc e)

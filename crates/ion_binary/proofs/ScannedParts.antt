@@ -11,7 +11,7 @@ use Rattle.ion_meter.specs.declared.fault.Fault.{Fault}
 use Rattle.ion_meter.specs.declared.fault.Fault.TheVariants.{Refused, Memory, ReadFault, WriteFault, InputLimit}
 use Rattle.ion_meter.specs.declared.fault.Reason.{Reason}
 use Rattle.ion_meter.specs.declared.fault.Reason.TheVariants.{BadAnnotation, Overrun, Truncated}
-use Rattle.ion_meter.specs.declared.limits.Limits.{Limits}
+use Rattle.ion_meter.specs.declared.profile.Rules.{Rules}
 use Rattle.ion_meter.specs.Sources.{Cursor, Moves, Stands, cursor, skip}
 use Rattle.ion_meter.specs.Windows.{Incoming, IsPassed, left, lent}
 use Rattle.ion_meter.proofs.Lent.{lent-CanPass, lent-take}
@@ -118,26 +118,26 @@ length_code-small Shape.marker h = omega arith
 length_code-small Shape.float h = omega arith
 length_code-small Shape.illegal h = omega arith
 
-pub found_at-no_length : (limits : Limits) (a : Around) (s : Shape) (c : Cursor) (e : Reason) → length_at (length_code_of s) a.region c ≡ Err e → found_at limits a s c ≡ Err e
+pub found_at-no_length : (limits : Rules) (a : Around) (s : Shape) (c : Cursor) (e : Reason) → length_at (length_code_of s) a.region c ≡ Err e → found_at limits a s c ≡ Err e
 found_at-no_length limits a s c e h = rw h refl
 
-pub found_at-refused : (limits : Limits) (a : Around) (s : Shape) (c d : Cursor) (n : ℕ) (e : Reason) → length_at (length_code_of s) a.region c ≡ Ok (n, d) → found_by limits a s d.place n ≡ Err e
+pub found_at-refused : (limits : Rules) (a : Around) (s : Shape) (c d : Cursor) (n : ℕ) (e : Reason) → length_at (length_code_of s) a.region c ≡ Ok (n, d) → found_by limits a s d.place n ≡ Err e
     → found_at limits a s c ≡ Err e
 found_at-refused limits a s c d n e h m = rw (h, m) refl
 
-pub found_at-found : (limits : Limits) (a : Around) (s : Shape) (c d : Cursor) (n : ℕ) (f : Found) → length_at (length_code_of s) a.region c ≡ Ok (n, d) → found_by limits a s d.place n ≡ Ok f
+pub found_at-found : (limits : Rules) (a : Around) (s : Shape) (c d : Cursor) (n : ℕ) (f : Found) → length_at (length_code_of s) a.region c ≡ Ok (n, d) → found_by limits a s d.place n ≡ Ok f
     → found_at limits a s c ≡ Ok (f, d)
 found_at-found limits a s c d n f h m = rw (h, m) refl
 
-part_at-octet : (limits : Limits) (a : Around) (c d : Cursor) (b : ℕ) → octet_at a.region c ≡ Ok (b, d) → part_at limits a c ≡ (refuse (a.wrapped && is_unwrappable b) BadAnnotation >> found_at limits a (shape_of b) d)
+part_at-octet : (limits : Rules) (a : Around) (c d : Cursor) (b : ℕ) → octet_at a.region c ≡ Ok (b, d) → part_at limits a c ≡ (refuse (a.wrapped && is_unwrappable b) BadAnnotation >> found_at limits a (shape_of b) d)
 unfolding part_at
 part_at-octet limits a c d b o = rw o refl
 
-part_at-no_octet : (limits : Limits) (a : Around) (c : Cursor) (e : Reason) → octet_at a.region c ≡ Err e → part_at limits a c ≡ Err e
+part_at-no_octet : (limits : Rules) (a : Around) (c : Cursor) (e : Reason) → octet_at a.region c ≡ Err e → part_at limits a c ≡ Err e
 unfolding part_at
 part_at-no_octet limits a c e o = rw o refl
 
-module _ (limits : Limits) (a : Around) (end place : ℕ) (octets : List ℕ) (ends : EndsAt a.region end) (small : place ≤ 2 ^ 48) where
+module _ (limits : Rules) (a : Around) (end place : ℕ) (octets : List ℕ) (ends : EndsAt a.region end) (small : place ≤ 2 ^ 48) where
   pub part-over : end ≤ place → (more : List ℕ) → part_at limits a (window place octets more) ≡ Err Overrun
   part-over over more = part_at-no_octet limits a (window place octets more) Overrun (octet_over a.region end (window place octets more) ends (omega (arith, small)) over)
 

@@ -6,7 +6,7 @@ use Rattle.std.proofs.lemmas.Grind.{common_steps}
 use Rattle.std.proofs.lemmas.List.{take-append-le, drop-append-le}
 use Rattle.ion_meter.specs.Sources.{Cursor, skip}
 use Rattle.ion_meter.specs.declared.fault.Reason.{Reason}
-use Rattle.ion_meter.specs.declared.limits.Limits.{Limits}
+use Rattle.ion_meter.specs.declared.profile.Rules.{Rules}
 use Rattle.ion_value.specs.declared.ion_type.Kind.{Kind}
 use Rattle.ion_value.specs.Parts.{◌>>=◌}
 use Rattle.ion_value.specs.Scalar.{scalar_of_body}
@@ -38,7 +38,7 @@ bounds-reaches None most place bounds h = tt
 bounds-reaches (Some end) most place bounds h = omega (arith, bounds, h)
 
 -- what is within the bound of a region is within the region
-pub body_within : {limits : Limits} {octets : List ℕ} {here type_code length_code at after : ℕ} {found : Shown} (region : Region) (most : ℕ) → Bounds region most
+pub body_within : {limits : Rules} {octets : List ℕ} {here type_code length_code at after : ℕ} {found : Shown} (region : Region) (most : ℕ) → Bounds region most
     → ShowsBody limits octets here (Some most) type_code length_code at after found → ShowsBody limits octets here region type_code length_code at after found
 body_within {here = here} {after = after} region most bounds s = record {
   scalar = s.scalar;
@@ -54,7 +54,7 @@ body_within {here = here} {after = after} region most bounds s = record {
   meaning = s.meaning;
 }
 
-pub begin_within : {limits : Limits} {octets : List ℕ} {here depth length_code at after : ℕ} {kind : Kind} {found : Shown} (region : Region) (most : ℕ) → Bounds region most
+pub begin_within : {limits : Rules} {octets : List ℕ} {here depth length_code at after : ℕ} {kind : Kind} {found : Shown} (region : Region) (most : ℕ) → Bounds region most
     → ShowsBegin limits octets here (Some most) depth kind length_code at after found → ShowsBegin limits octets here region depth kind length_code at after found
 begin_within {here = here} {after = after} region most bounds s = record {
   number = s.number;
@@ -109,13 +109,13 @@ passes-not : (r : Region) (place n : ℕ) → Reaches r (place + n) → passes r
 passes-not None place n reaches = refl
 passes-not (Some end) place n reaches = le-ltb end (place + n) reaches
 
-no_more : (limits : Limits) (most end count : ℕ) (d : Cursor) → end ≡ d.place → ids_at most limits end count d ≡ Ok ([], d)
+no_more : (limits : Rules) (most end count : ℕ) (d : Cursor) → end ≡ d.place → ids_at most limits end count d ≡ Ok ([], d)
 unfolding ids_at
 no_more limits zero end count d last = refl
 no_more limits (suc most) end count d last = let over : nat_le end d.place ≡ true = le-leb end d.place (omega arith) in rw over refl
 
 -- an id, and those after it
-id_first : (limits : Limits) (most end count id : ℕ) (c d e : Cursor) (others : List SymbolAt) → 0 < most → c.place < end → var_uint_at (Some end) c ≡ Ok (id, d) → 16 * (count + 1) ≤ limits.scalar
+id_first : (limits : Rules) (most end count id : ℕ) (c d e : Cursor) (others : List SymbolAt) → 0 < most → c.place < end → var_uint_at (Some end) c ≡ Ok (id, d) → 16 * (count + 1) ≤ limits.scalar
     → ((m : ℕ) → most ≡ suc m → ids_at m limits end (count + 1) d ≡ Ok (others, e)) → ids_at most limits end count c ≡ Ok (symbol_id id c.place ∷ others, e)
 unfolding ids_at
 id_first limits zero end count id c d e others some before first few rest = absurd (omega arith)
@@ -125,7 +125,7 @@ id_first limits (suc most) end count id c d e others some before first few rest 
     rw (open_end, first, within, rest most refl) refl
 
 -- those after the first of a wrapper that has one or two
-second_shown : (limits : Limits) (octets more : List ℕ) (here at inner most : ℕ) (second : Option (ℕ × ℕ)) → 0 < most → ShowsSecond octets at second inner → 32 ≤ limits.scalar
+second_shown : (limits : Rules) (octets more : List ℕ) (here at inner most : ℕ) (second : Option (ℕ × ℕ)) → 0 < most → ShowsSecond octets at second inner → 32 ≤ limits.scalar
     → ids_at most limits (here + inner) 1 (skip at (window here octets more)) ≡ Ok (second_id here second, skip inner (window here octets more))
 second_shown limits octets more here at inner most None some last few =
     let c = window here octets more in
@@ -137,7 +137,7 @@ second_shown limits octets more here at inner most (Some s) some v few =
     (v.1.gives here more (Some (here + inner)) (omega arith)) few (λ m e. no_more limits m (here + inner) 2 (skip inner c) refl))
 
 -- the ids of a wrapper that has one or two
-ids_shown : (limits : Limits) (octets more : List ℕ) (here first : ℕ) (n : ShownNote) → 0 < n.from → ShowsVar octets n.from first n.id → ShowsSecond octets first n.second n.inner → first ≤ n.inner → 32 ≤ limits.scalar
+ids_shown : (limits : Rules) (octets more : List ℕ) (here first : ℕ) (n : ShownNote) → 0 < n.from → ShowsVar octets n.from first n.id → ShowsSecond octets first n.second n.inner → first ≤ n.inner → 32 ≤ limits.scalar
     → ids_at (here + n.inner) limits (here + n.inner) 0 (skip n.from (window here octets more)) ≡ Ok (noted_ids here n, skip n.inner (window here octets more))
 ids_shown limits octets more here first n some v second before few =
     let c = window here octets more in
@@ -170,7 +170,7 @@ begins_value (body type_code length_code) = true
 begins_value (container kind length_code) = true
 begins_value sorted = false
 begins_value marker = false
-begins_value float = false
+begins_value (float length_code) = false
 begins_value illegal = false
 
 wrappable : (b : ℕ) (s : Shape) → b < 256 → shape_of b ≡ s → begins_value s ≡ true → is_unwrappable b ≡ false
@@ -181,7 +181,7 @@ wrappable b s small e begins =
     ap (λ x. x && is_unwrappable b) (sym begins) ∙ this
 
 -- a part after its descriptor, by what that says
-typed_shown : (limits : Limits) (w : Bool) (r : Region) (depth b : ℕ) (c : Cursor) {x : Result (TypedValue × Cursor) Reason} → is_unwrappable b ≡ false
+typed_shown : (limits : Rules) (w : Bool) (r : Region) (depth b : ℕ) (c : Cursor) {x : Result (TypedValue × Cursor) Reason} → is_unwrappable b ≡ false
     → read_by_descriptor limits (record { wrapped = w; region = r; depth = depth }) (shape_of b) c ≡ x
     → typed_value_at limits (record { wrapped = w; region = r; depth = depth }) b c ≡ x
 unfolding typed_value_at
@@ -204,7 +204,7 @@ bare_shown true None depth v c full = absurd full
 bare_shown true (Some end) depth v c full = let whole : ltb (c.place + 0) end ≡ false = le-ltb (c.place + 0) end (omega (arith, full)) in rw whole refl
 
 -- what is read after a descriptor is a value that is shown
-shows_by : (limits : Limits) (octets : List ℕ) (here : ℕ) (r : Region) (depth at after : ℕ) (found : Shown) (b : ℕ)
+shows_by : (limits : Rules) (octets : List ℕ) (here : ℕ) (r : Region) (depth at after : ℕ) (found : Shown) (b : ℕ)
     → at < length octets → get_or octets at 0 ≡ b → wrapper_length (shape_of b) ≡ None → is_unwrappable b ≡ false → at + 1 ≤ after → after ≤ length octets → IsShown limits depth found
     → Reaches r (here + (at + 1))
     → ((w : Bool) (more : List ℕ) → Fills w r (far_end here after found)
@@ -222,14 +222,14 @@ shows_by limits octets here r depth at after found b h is plain free further wit
 }
 
 -- a null or a bool
-pub shows_null : (limits : Limits) (octets : List ℕ) (here : ℕ) (r : Region) (depth at : ℕ) (type : IonType) (b : ℕ)
+pub shows_null : (limits : Rules) (octets : List ℕ) (here : ℕ) (r : Region) (depth at : ℕ) (type : IonType) (b : ℕ)
     → at < length octets → b < 256 → get_or octets at 0 ≡ b → shape_of b ≡ null type → Reaches r (here + (at + 1)) → ShowsValue limits octets here r depth at (at + 1) (shown.Scalar (scalars.Null type))
 unfolding read_by_descriptor
 shows_null limits octets here r depth at type b h small is shape reaches =
     shows_by limits octets here r depth at (at + 1) (shown.Scalar (scalars.Null type)) b h is (ap wrapper_length shape) (wrappable b (null type) small shape refl) (omega arith) (omega arith) tt reaches
     (λ w more full. rw shape (bare_shown w r depth (value.null type) (skip (at + 1) (window here octets more)) full))
 
-pub shows_bool : (limits : Limits) (octets : List ℕ) (here : ℕ) (r : Region) (depth at : ℕ) (truth : Bool) (b : ℕ)
+pub shows_bool : (limits : Rules) (octets : List ℕ) (here : ℕ) (r : Region) (depth at : ℕ) (truth : Bool) (b : ℕ)
     → at < length octets → b < 256 → get_or octets at 0 ≡ b → shape_of b ≡ bool truth → Reaches r (here + (at + 1)) → ShowsValue limits octets here r depth at (at + 1) (shown.Scalar (scalars.Bool truth))
 unfolding read_by_descriptor
 shows_bool limits octets here r depth at truth b h small is shape reaches =
@@ -241,7 +241,7 @@ body_octets : (octets more : List ℕ) (from n : ℕ) → from + n ≤ length oc
 body_octets octets more from n h =
     ap (take n) (drop-append-le from octets more (omega arith)) ∙ take-append-le n (drop from octets) more (grind (arith, common_steps))
 
-body_shown : (limits : Limits) (octets more : List ℕ) (here from n : ℕ) (type_code : ℕ) (v : Scalar Symbol) → from + n ≤ length octets → n ≤ limits.scalar
+body_shown : (limits : Rules) (octets more : List ℕ) (here from n : ℕ) (type_code : ℕ) (v : Scalar Symbol) → from + n ≤ length octets → n ≤ limits.scalar
     → scalar_of_body type_code (take n (drop from octets)) ≡ Ok v → body_here limits type_code n (skip from (window here octets more)) ≡ Ok (v, skip n (skip from (window here octets more)))
 unfolding body_here
 body_shown limits octets more here from n type_code v h few meaning =
@@ -251,7 +251,7 @@ body_shown limits octets more here from n type_code v h few meaning =
     rw (short, there, reads) refl
 
 -- a scalar with a body
-pub shows_body : (limits : Limits) (octets : List ℕ) (here : ℕ) (r : Region) (depth at after type_code length_code : ℕ) (found : Shown) (b : ℕ)
+pub shows_body : (limits : Rules) (octets : List ℕ) (here : ℕ) (r : Region) (depth at after type_code length_code : ℕ) (found : Shown) (b : ℕ)
     → at < length octets → b < 256 → get_or octets at 0 ≡ b → shape_of b ≡ body type_code length_code → ShowsBody limits octets here r type_code length_code at after found
     → ShowsValue limits octets here r depth at after found
 unfolding read_by_descriptor
@@ -270,11 +270,11 @@ shows_body limits octets here r depth at after type_code length_code found b h s
     (ap (λ c. Ok (a_scalar (shown_scalar s.scalar), c)) (skip-skip octets more here s.from s.number after s.ends))))
 
 -- a container's beginning
-ends_shown : (limits : Limits) (w : Bool) (r : Region) (depth place n : ℕ) → Reaches r (place + n) → Fills w r (place + n) → depth < limits.depth
+ends_shown : (limits : Rules) (w : Bool) (r : Region) (depth place n : ℕ) → Reaches r (place + n) → Fills w r (place + n) → depth < limits.depth
     → end_by limits (record { wrapped = w; region = r; depth = depth }) place n ≡ Ok (place + n)
 ends_shown limits w r depth place n reaches full deep = let no : leb limits.depth depth ≡ false = lt-leb limits.depth depth deep in rw (fits_shown w r depth place n reaches full, no) refl
 
-pub shows_begin : (limits : Limits) (octets : List ℕ) (here : ℕ) (r : Region) (depth at after length_code : ℕ) (kind : Kind) (found : Shown) (b : ℕ)
+pub shows_begin : (limits : Rules) (octets : List ℕ) (here : ℕ) (r : Region) (depth at after length_code : ℕ) (kind : Kind) (found : Shown) (b : ℕ)
     → at < length octets → b < 256 → get_or octets at 0 ≡ b → shape_of b ≡ container kind length_code → ShowsBegin limits octets here r depth kind length_code at after found
     → ShowsValue limits octets here r depth at after found
 unfolding read_by_descriptor
@@ -292,7 +292,7 @@ shows_begin limits octets here r depth at after length_code kind found b h small
 -- ---- annotations
 
 -- the lengths of a wrapper, and its one id or two, of which the first ends at `first`
-pub shows_note : (limits : Limits) (octets : List ℕ) (here : ℕ) (r : Region) (at after first length_code count ids b : ℕ) (n : ShownNote)
+pub shows_note : (limits : Rules) (octets : List ℕ) (here : ℕ) (r : Region) (at after first length_code count ids b : ℕ) (n : ShownNote)
     → at < length octets → get_or octets at 0 ≡ b → wrapper_length (shape_of b) ≡ Some length_code → ShowsLength octets length_code (at + 1) after count → ShowsVar octets after n.from ids
     → ShowsVar octets n.from first n.id → ShowsSecond octets first n.second n.inner → n.end ≡ here + after + count → 32 ≤ limits.scalar → 3 ≤ count → n.from + ids ≡ n.inner → 0 < ids → here + n.inner < n.end → Reaches r n.end
     → ShowsNote limits octets here r at n
@@ -330,7 +330,7 @@ shows_note limits octets here r at after first length_code count ids b n h is wr
     }
 
 -- a value with no annotation
-pub shows_plain : (limits : Limits) (octets : List ℕ) (here : ℕ) (r : Region) (depth at after : ℕ) (found : Shown) → ShowsValue limits octets here r depth at after found
+pub shows_plain : (limits : Rules) (octets : List ℕ) (here : ℕ) (r : Region) (depth at after : ℕ) (found : Shown) → ShowsValue limits octets here r depth at after found
     → ShowsItem limits octets here r depth at at after [] found
 shows_plain limits octets here r depth at after found v = record {
   further = v.further;
@@ -343,7 +343,7 @@ shows_plain limits octets here r depth at after found v = record {
 }
 
 -- a value that fills a wrapper
-pub shows_noted : (limits : Limits) (octets : List ℕ) (here : ℕ) (r : Region) (depth at after : ℕ) (note : ShownNote) (found : Shown) → ShowsNote limits octets here r at note
+pub shows_noted : (limits : Rules) (octets : List ℕ) (here : ℕ) (r : Region) (depth at after : ℕ) (note : ShownNote) (found : Shown) → ShowsNote limits octets here r at note
     → ShowsValue limits octets here (Some note.end) depth note.inner after found → note.end ≡ far_end here after found
     → ShowsItem limits octets here r depth at note.inner after (noted_ids here note) found
 shows_noted limits octets here r depth at after note found n v full = record {

@@ -6,7 +6,7 @@ use Rattle.std.specs.Cmp.Lexicographic.{pointwise}
 use Rattle.std.proofs.lemmas.List.{length-append}
 use Rattle.std.proofs.lemmas.Bool.{eqb-false, cases_Bool}
 use Rattle.ion_meter.specs.declared.fault.Reason.TheVariants.{BadVersion, ScalarLimit, Truncated}
-use Rattle.ion_meter.specs.declared.limits.Limits.{Limits}
+use Rattle.ion_meter.specs.declared.profile.Rules.{Rules}
 use Rattle.ion_meter.specs.Windows.{Incoming, left, lent}
 use Rattle.ion_meter.proofs.Lent.{lent-take, lent-CanPass}
 use Rattle.ion_value.specs.declared.ion_type.Kind.{Kind}
@@ -42,15 +42,15 @@ bind-mapped (Err e) s t c f = refl
 -- ---- the header of a container
 
 -- the header of a container is known by the place of its end
-begin_at-ends : (limits : Limits) (a : Around) (k : Kind) (n : ℕ) (c : Cursor) → begin_at limits a k n c ≡ (end_by limits a c.place n >>= λ end. Ok (a_container k end, c))
+begin_at-ends : (limits : Rules) (a : Around) (k : Kind) (n : ℕ) (c : Cursor) → begin_at limits a k n c ≡ (end_by limits a c.place n >>= λ end. Ok (a_container k end, c))
 unfolding begin_at
 begin_at-ends limits a k n c = then-mapped (fits a c.place n) _ (c.place + n) (λ end. (a_container k end, c))
 
-begin_at-begun : (limits : Limits) (a : Around) (k : Kind) (n : ℕ) (c : Cursor) (end : ℕ) → end_by limits a c.place n ≡ Ok end → begin_at limits a k n c ≡ Ok (a_container k end, c)
+begin_at-begun : (limits : Rules) (a : Around) (k : Kind) (n : ℕ) (c : Cursor) (end : ℕ) → end_by limits a c.place n ≡ Ok end → begin_at limits a k n c ≡ Ok (a_container k end, c)
 begin_at-begun limits a k n c end h = begin_at-ends limits a k n c ∙ ap (λ r. r >>= λ end. Ok (a_container k end, c)) h
 
 -- a container begins after its length
-pub container_at-begun : (limits : Limits) (a : Around) (k : Kind) (length_code : ℕ) (c : Cursor) (n : ℕ) (d : Cursor) (end : ℕ)
+pub container_at-begun : (limits : Rules) (a : Around) (k : Kind) (length_code : ℕ) (c : Cursor) (n : ℕ) (d : Cursor) (end : ℕ)
     → length_at length_code a.region c ≡ Ok (n, d) → end_by limits a d.place n ≡ Ok end → container_at limits a k length_code c ≡ Ok (a_container k end, d)
 unfolding container_at
 container_at-begun limits a k length_code c n d end h m = rw h (begin_at-begun limits a k n d end m)
@@ -58,7 +58,7 @@ container_at-begun limits a k length_code c n d end h m = rw h (begin_at-begun l
 -- ---- scalars with bodies
 
 -- a scalar is what is made of its body
-pub scalar_at-body : (limits : Limits) (a : Around) (type_code length_code : ℕ) (c : Cursor) (n : ℕ) (d : Cursor) (x : Unit {0})
+pub scalar_at-body : (limits : Rules) (a : Around) (type_code length_code : ℕ) (c : Cursor) (n : ℕ) (d : Cursor) (x : Unit {0})
     → length_at length_code a.region c ≡ Ok (n, d) → fits a d.place n ≡ Ok x → scalar_at limits a type_code length_code c ≡ (body_here limits type_code n d >>= λ p. beside a_scalar p.1 p.0)
 unfolding scalar_at body_at body_here
 scalar_at-body limits a type_code length_code c n d x h m = rw h (rw m (bind-mapped (refuse (ltb limits.scalar n) ScalarLimit) (refuse (ltb (length d.rest) n) Truncated) (scalar_of_body type_code (take n d.rest)) (skip n d) a_scalar))

@@ -2,7 +2,7 @@
 use Rattle.std.specs.Prelude.{List, ℕ, ◌+◌, ◌<◌, nat_le, Result, Ok}
 use Rattle.ion_meter.specs.declared.fault.Reason.{Reason}
 use Rattle.ion_meter.specs.declared.fault.Reason.TheVariants.{DepthLimit}
-use Rattle.ion_meter.specs.declared.limits.Limits.{Limits}
+use Rattle.ion_meter.specs.declared.profile.Rules.{Rules}
 use Rattle.ion_binary.specs.declared.body.Body.{Body}
 use Rattle.ion_binary.specs.declared.value.TypedValue as typed
 use Rattle.ion_binary.specs.declared.value.TypedValue.TheVariants as kinds
@@ -28,11 +28,11 @@ IsOfDescriptor (null type) = Unit {0}
 IsOfDescriptor (bool truth) = Unit {0}
 IsOfDescriptor sorted = Unit {0}
 IsOfDescriptor marker = Unit {0}
-IsOfDescriptor float = Unit {0}
+IsOfDescriptor (float length_code) = length_code < 15
 IsOfDescriptor illegal = Unit {0}
 
 -- where a container ends whose members have n octets from a place on
-abbrev pub end_by : Limits → Around → ℕ → ℕ → Result ℕ Reason
+abbrev pub end_by : Rules → Around → ℕ → ℕ → Result ℕ Reason
 end_by limits a place n = do
   fits a place n
   refuse (nat_le limits.depth a.depth) DepthLimit

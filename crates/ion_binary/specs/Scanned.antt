@@ -5,7 +5,7 @@ use Rattle.ion_meter.specs.declared.fault.Fault as faults
 use Rattle.ion_meter.specs.declared.fault.Fault.TheVariants.{Refused}
 use Rattle.ion_meter.specs.declared.fault.Reason.{Reason}
 use Rattle.ion_meter.specs.declared.fault.Reason.TheVariants.{Truncated, BadDescriptor, BadAnnotation, Overrun, Float, DepthLimit, ScalarLimit}
-use Rattle.ion_meter.specs.declared.limits.Limits.{Limits}
+use Rattle.ion_meter.specs.declared.profile.Rules.{Rules}
 use Rattle.ion_meter.specs.Sources.{Cursor, skip}
 use Rattle.ion_meter.specs.Windows.{Extends, Incoming, left, lent}
 use Rattle.ion_value.specs.Calls.{Reads}
@@ -92,14 +92,14 @@ length_code_of float = 0
 length_code_of illegal = 0
 
 -- a container whose members have n octets, from a place on
-abbrev pub begun : Limits → Around → Kind → ℕ → ℕ → Result Found Reason
+abbrev pub begun : Rules → Around → Kind → ℕ → ℕ → Result Found Reason
 begun limits a k place n = do
   fits a place n
   refuse (nat_le limits.depth a.depth) DepthLimit
   Ok (found.Begin k (place + n))
 
 -- what a shape begins whose length is n, which ends at a place
-abbrev pub found_by : Limits → Around → Shape → ℕ → ℕ → Result Found Reason
+abbrev pub found_by : Rules → Around → Shape → ℕ → ℕ → Result Found Reason
 found_by limits a (null t) place n = do
   fits a place n
   Ok (found.Null t)
@@ -135,21 +135,21 @@ wrapping (found.Null t) = None
 wrapping (found.Bool truth) = None
 
 -- what a shape begins after its descriptor octet
-abbrev pub found_at : Limits → Around → Shape → Cursor → Result (Found × Cursor) Reason
+abbrev pub found_at : Rules → Around → Shape → Cursor → Result (Found × Cursor) Reason
 found_at limits a s c = do
   n ← length_at (length_code_of s) a.region c
   f ← found_by limits a s n.1.place n.0
   Ok (f, n.1)
 
 -- a descriptor and the length after it
-unfoldable pub part_at : Limits → Around → Cursor → Result (Found × Cursor) Reason
+unfoldable pub part_at : Rules → Around → Cursor → Result (Found × Cursor) Reason
 part_at limits a c = do
   b ← octet_at a.region c
   refuse (a.wrapped && is_unwrappable b.0) BadAnnotation
   found_at limits a (shape_of b.0) b.1
 
 -- what is found has a body within the limit, opens a container that may be opened, and is a marker at top level alone
-abbrev pub IsFound : Limits → Around → Found → Type 0
+abbrev pub IsFound : Rules → Around → Found → Type 0
 IsFound limits a (found.Body type_code n) = IsBodyTypeCode type_code × (n ≤ limits.scalar)
 IsFound limits a (found.Begin k end) = a.depth < limits.depth
 IsFound limits a found.Marker = a.region ≡ None
@@ -173,7 +173,7 @@ version_at c = do
   Ok (a_marker, skip 3 c)
 
 -- what is found with its octets: after a part they are what reading finds of the descriptor, and no wrapper stands in another
-unfoldable pub rest_at : Limits → Found → Cursor → Result (TypedValue × Cursor) Reason
+unfoldable pub rest_at : Rules → Found → Cursor → Result (TypedValue × Cursor) Reason
 rest_at limits (found.NopPad n) c = pad_at n c
 rest_at limits found.Marker c = version_at c
 rest_at limits (found.Null t) c = Ok (a_scalar (value.null t), c)
@@ -183,7 +183,7 @@ rest_at limits (found.Begin k end) c = Ok (a_container k end, c)
 rest_at limits (found.Wrapper n) c = Err BadAnnotation
 
 -- a body that follows is one of its type code, and within the limit
-abbrev pub HasBody : Limits → Found → Type 0
+abbrev pub HasBody : Rules → Found → Type 0
 HasBody limits (found.Body type_code n) = IsBodyTypeCode type_code × (n ≤ limits.scalar)
 HasBody limits (found.Begin k end) = ⊤
 HasBody limits found.Marker = ⊤
@@ -207,7 +207,7 @@ wrapper_after r n c = do
   Ok (w, ids.1)
 
 -- the annotations of a wrapper and the value in it
-abbrev pub noted_at : Limits → List Frame → ℕ → Option SymbolAt → Wrapped → Cursor → Placed (Step State)
+abbrev pub noted_at : Rules → List Frame → ℕ → Option SymbolAt → Wrapped → Cursor → Placed (Step State)
 noted_at limits frames top f w c = do
   annotations ← ids_at w.ids limits w.ids 0 c
   inner_at limits frames top f annotations.0 w.end annotations.1

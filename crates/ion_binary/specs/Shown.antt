@@ -1,7 +1,7 @@
 -- What a window shows of an item that lies whole in it.
 use Rattle.std.specs.Prelude.{◌≡◌, ℕ, ◌+◌, ◌<◌, ◌≤◌, Bool, true, false, List, [], ◌∷◌, length, take, drop, Option, Some, None, IfSome, Ok, ⊤}
 use Rattle.ion_meter.specs.Sources.{skip}
-use Rattle.ion_meter.specs.declared.limits.Limits.{Limits}
+use Rattle.ion_meter.specs.declared.profile.Rules.{Rules}
 use Rattle.ion_value.specs.declared.ion_type.Kind.{Kind}
 use Rattle.ion_value.specs.Scalar.{scalar_of_body}
 use Rattle.ion_value.specs.Value as value
@@ -38,7 +38,7 @@ shown_value (shown.Scalar scalar) = a_scalar (shown_scalar scalar)
 shown_value (shown.Begin kind end) = a_container kind end
 
 -- numbers are within their range, and a container may begin where so many are open
-abbrev pub IsShown : Limits → ℕ → Shown → Type 0
+abbrev pub IsShown : Rules → ℕ → Shown → Type 0
 IsShown limits depth (shown.Scalar scalar) = InRange (shown_scalar scalar)
 IsShown limits depth (shown.Begin kind end) = depth < limits.depth
 
@@ -57,7 +57,7 @@ pub record ShowsLength (octets : List ℕ) (length_code at after number : ℕ) :
       → length_at length_code region (skip at (window here octets more)) ≡ Ok (number, skip after (window here octets more))
 
 -- a scalar with a body, after its descriptor at a place: where its length ends, its length, and its octets
-pub record ShowsBody (limits : Limits) (octets : List ℕ) (here : ℕ) (region : Region) (type_code length_code at after : ℕ) (found : Shown) : Type 0 where
+pub record ShowsBody (limits : Rules) (octets : List ℕ) (here : ℕ) (region : Region) (type_code length_code at after : ℕ) (found : Shown) : Type 0 where
   pub scalar : ShownScalar
   pub is : found ≡ shown.Scalar scalar
   pub range : InRange (shown_scalar scalar)
@@ -71,7 +71,7 @@ pub record ShowsBody (limits : Limits) (octets : List ℕ) (here : ℕ) (region 
   pub meaning : scalar_of_body type_code (take number (drop from octets)) ≡ Ok (shown_scalar scalar)
 
 -- a container's beginning, after its descriptor at a place
-pub record ShowsBegin (limits : Limits) (octets : List ℕ) (here : ℕ) (region : Region) (depth : ℕ) (kind : Kind) (length_code at after : ℕ) (found : Shown) : Type 0 where
+pub record ShowsBegin (limits : Rules) (octets : List ℕ) (here : ℕ) (region : Region) (depth : ℕ) (kind : Kind) (length_code at after : ℕ) (found : Shown) : Type 0 where
   pub number : ℕ
   pub is : found ≡ shown.Begin kind (here + after + number)
   pub length_is : ShowsLength octets length_code (at + 1) after number
@@ -90,7 +90,7 @@ Fills true None place = ⊥
 Fills true (Some end) place = end ≡ place
 
 -- a descriptor at a place, and the part after it, in a wrapper or not
-pub record ShowsValue (limits : Limits) (octets : List ℕ) (here : ℕ) (region : Region) (depth at after : ℕ) (found : Shown) : Type 0 where
+pub record ShowsValue (limits : Rules) (octets : List ℕ) (here : ℕ) (region : Region) (depth at after : ℕ) (found : Shown) : Type 0 where
   pub further : at + 1 ≤ after
   pub within : after ≤ length octets
   pub may_be : IsShown limits depth found
@@ -117,7 +117,7 @@ abbrev pub noted_ids : ℕ → ShownNote → List SymbolAt
 noted_ids here n = symbol_id n.id (here + n.from) ∷ second_id here n.second
 
 -- the lengths of a wrapper at a place, and its one annotation or two
-pub record ShowsNote (limits : Limits) (octets : List ℕ) (here : ℕ) (region : Region) (at : ℕ) (n : ShownNote) : Type 0 where
+pub record ShowsNote (limits : Rules) (octets : List ℕ) (here : ℕ) (region : Region) (at : ℕ) (n : ShownNote) : Type 0 where
   pub further : at + 1 ≤ n.inner
   pub starts : n.from ≤ n.inner
   pub second : IfSome n.second (λ s. s.1 ≤ n.inner)
@@ -133,7 +133,7 @@ pub record ShowsNote (limits : Limits) (octets : List ℕ) (here : ℕ) (region 
       ≡ Ok (noted_ids here n, skip n.inner (window here octets more))
 
 -- what stands after a field: a value with these annotations, whose head is at a place
-pub record ShowsItem (limits : Limits) (octets : List ℕ) (here : ℕ) (region : Region) (depth at head after : ℕ) (annotations : List SymbolAt) (found : Shown) : Type 0 where
+pub record ShowsItem (limits : Rules) (octets : List ℕ) (here : ℕ) (region : Region) (depth at head after : ℕ) (annotations : List SymbolAt) (found : Shown) : Type 0 where
   pub further : at + 1 ≤ after
   pub starts : head ≤ after
   pub within : after ≤ length octets

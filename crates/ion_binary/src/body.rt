@@ -1,5 +1,5 @@
 //! Bodies of scalars (binary encoding, "Typed Value Formats").
-ghost use Rattle.std.specs.Prelude.{◌≡◌, ◌*◌, ◌≢◌, ◌+◌, ◌-◌, ◌^◌, ◌<◌, ◌≤◌, ℕ, List, length, take, Ok, Err, true, false, OnOk, MatchResult, IsTrue, ◌↔◌, IsAscii, IsUtf8};
+ghost use Rattle.std.specs.Prelude.{◌≡◌, ◌*◌, ◌≢◌, ◌+◌, ◌-◌, ◌^◌, ◌<◌, ◌≤◌, ℕ, List, length, take, Ok, Err, true, false, OnOk, IfOk, MatchResult, IsTrue, ◌↔◌, IsAscii, IsUtf8};
 ghost use Rattle.ion_meter.specs.Windows.{left, lent};
 ghost use Rattle.ion_value.specs.Number.{uint};
 ghost use Rattle.ion_value.specs.Name.{raw_id};
@@ -12,13 +12,15 @@ ghost use Rattle.ion_binary.specs.Parts.{body_here};
 ghost use Rattle.ion_value.specs.Calls.{AnswersBy, CanRead, Reads, ReadsInto, passed_over};
 ghost use Rattle.ion_value.specs.Shares.{GrowsWithin};
 
+use ion_float::octets::float_from_octets;
 use ion_meter::buf::Buf;
 use ion_meter::device::Input;
 use ion_meter::fault::{Fault, Reason};
-use ion_meter::limits::Limits;
 use ion_meter::meter::Meter;
+use ion_meter::profile::Rules;
 use ion_meter::source::Source;
 use ion_value::decimal::{Decimal, decimal_from_bytes};
+use ion_value::float::Float64;
 use ion_value::int::{Int, int_from_bytes};
 use ion_value::ion_type::IonType;
 use ion_value::timestamp::{Timestamp, timestamp_from_bytes};
@@ -33,6 +35,8 @@ pub(crate) enum Body {
     Bool(bool),
     /// An int.
     Int(Int),
+    /// A float.
+    Float(Float64),
     /// A decimal.
     Decimal(Decimal),
     /// A timestamp in local time.
@@ -95,6 +99,21 @@ fn long_id(octets: &[u8]) -> u32
     }
 }
 
+// A float of these octets.
+#[tactic(auto, unfolding(ion_value::specs::Scalar::scalar_of_body))]
+#[inline]
+fn float(octets: &[u8]) -> Result<Body, Reason>
+    ensures gives { MatchResult result
+        (λ b. (text : List ℕ) → scalar_of_body 4 octets.now ≡ Ok (as_scalar text b))
+        (λ r. scalar_of_body 4 octets.now ≡ Err r) }
+    ensures range { IfOk result (λ b. (text : List ℕ) → InRange (as_scalar text b)) }
+{
+    match float_from_octets(octets) {
+        Some(float) => Ok(Body::Float(float)),
+        None => Err(Reason::BadDescriptor),
+    }
+}
+
 // A number, a timestamp or a symbol of these octets.
 #[tactic(auto, unfolding(ion_value::specs::Scalar::scalar_of_body))]
 #[inline(always)]
@@ -108,6 +127,7 @@ fn number(type_code: u8, octets: &[u8], body: &mut Body) -> Result<(), Reason>
     *body = match type_code {
         2 => Body::Int(int_from_bytes(false, octets)?),
         3 => Body::Int(int_from_bytes(true, octets)?),
+        4 => float(octets)?,
         5 => Body::Decimal(decimal_from_bytes(octets)?),
         6 => Body::Timestamp(timestamp_from_bytes(octets)?),
         _ => Body::Symbol(uint_id(octets)),
@@ -211,7 +231,7 @@ fn gather<I: Input, A: Allocator + Copy>(
     source: &mut Source<I, A>,
     text: &mut Buf<A>,
     count: usize,
-    limits: Limits,
+    limits: Rules,
     meter: &mut Meter<A>,
 ) -> Result<bool, Fault>
     requires can_read { CanRead limits limits.scalar source.old text.old meter.old }
@@ -252,7 +272,7 @@ fn number_in_window<I: Input, A: Allocator + Copy>(
     body: &mut Body,
     type_code: u8,
     count: usize,
-    limits: Limits,
+    limits: Rules,
     place: u64,
 ) -> Result<(), Fault>
     requires stands { Stands source.old }
@@ -285,7 +305,7 @@ pub(crate) fn next_body<I: Input, A: Allocator + Copy>(
     body: &mut Body,
     type_code: u8,
     count: u64,
-    limits: Limits,
+    limits: Rules,
     place: u64,
     meter: &mut Meter<A>,
 ) -> Result<(), Fault>

@@ -31,7 +31,7 @@ pub(crate) enum Shape {
     /// The first octet of a version marker.
     Marker,
     /// A float that is no null.
-    Float,
+    Float(u8),
     /// Nothing.
     Illegal,
 }
@@ -101,7 +101,7 @@ impl Shape {
             1 => Shape::bool(length_code),
             2 => Shape::body(2, length_code),
             3 => Shape::body(3, length_code),
-            4 => Shape::Float,
+            4 => Shape::Float(length_code),
             5 => Shape::body(5, length_code),
             6 => Shape::body(6, length_code),
             7 => Shape::body(7, length_code),

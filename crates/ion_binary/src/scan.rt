@@ -12,8 +12,8 @@ ghost use Rattle.ion_binary.specs.Scanned.{EndsAt, IfWhole, IsFound, IsRegion, S
 ghost use Rattle.ion_binary.specs.Shapes.{as_shape};
 
 use crate::descriptor::Shape;
+use ion_meter::profile::Rules;
 use ion_meter::fault::Reason;
-use ion_meter::limits::Limits;
 use ion_value::ion_type::{IonType, Kind};
 
 /// What octets show of the part that begins at the front of them, whatever octets follow.
@@ -164,7 +164,7 @@ impl Region {
 
     // A container whose members have so many octets, from a place on.
     #[inline(always)]
-    fn begin(self, kind: Kind, here: u64, count: u64, limits: Limits) -> Result<Found, Reason>
+    fn begin(self, kind: Kind, here: u64, count: u64, limits: Rules) -> Result<Found, Reason>
         requires region { IsRegion self }
         requires small { here + count < 2 ^ 64 - 1 }
         ensures gives { result ≡ begun limits (as_around self) kind here count }
@@ -190,7 +190,7 @@ pub(crate) fn found_of(
     here: u64,
     count: u64,
     region: Region,
-    limits: Limits,
+    limits: Rules,
 ) -> Result<Found, Reason>
     requires region { IsRegion region }
     requires small { here + count < 2 ^ 64 - 1 }
@@ -235,7 +235,7 @@ pub(crate) fn found_of(
 ///
 /// Refuses first what a wrapper may not hold, then lengths that do not end, then what `found_of` does.
 #[inline(always)]
-pub(crate) fn scan_part(octets: &[u8], place: u64, region: Region, limits: Limits) -> Scanned<Found>
+pub(crate) fn scan_part(octets: &[u8], place: u64, region: Region, limits: Rules) -> Scanned<Found>
     requires region { IsRegion region }
     requires small { place ≤ 2 ^ 48 }
     ensures shows { Shows 10 itself_found place octets.now result

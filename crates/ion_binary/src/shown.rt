@@ -13,7 +13,6 @@ ghost use Rattle.ion_binary.specs.Shown.{Bounds, ShowsBegin, ShowsBody, ShowsLen
 
 use crate::body::{few_value, is_text, uint_id};
 use crate::descriptor::Shape;
-use ion_meter::limits::Limits;
 use ion_value::decimal::{Decimal, decimal_from_bytes};
 use ion_value::int::Int;
 use ion_value::ion_type::{IonType, Kind};
@@ -165,7 +164,7 @@ pub(crate) fn shown_value<'a>(
     at: usize,
     most: u64,
     depth: u32,
-    limits: Limits,
+    limits: Rules,
 ) -> Option<(Shown<'a>, usize)>
     requires small { here + length octets.now < 2 ^ 63 }
     requires within { at < length octets.now }
@@ -213,7 +212,7 @@ fn shown_with_body<'a>(
     here: u64,
     at: usize,
     most: u64,
-    limits: Limits,
+    limits: Rules,
     type_code: u8,
     length_code: u8,
 ) -> Option<(Shown<'a>, usize)>
@@ -249,7 +248,7 @@ fn shown_begin<'a>(
     at: usize,
     most: u64,
     depth: u32,
-    limits: Limits,
+    limits: Rules,
     kind: Kind,
     length_code: u8,
 ) -> Option<(Shown<'a>, usize)>
@@ -293,7 +292,7 @@ pub(crate) fn shown_note(
     here: u64,
     at: usize,
     most: u64,
-    limits: Limits,
+    limits: Rules,
 ) -> Option<ShownNote>
     requires small { here + length octets.now < 2 ^ 63 }
     requires within { at < length octets.now }

@@ -5,6 +5,7 @@ pub mod Octets
 pub mod VarOctets
 pub mod DecimalOctets
 pub mod Days
+pub mod FloatBits
 pub mod TimestampOctets
 pub mod YearsBeside
 pub mod TimestampBodies

@@ -10,7 +10,7 @@ use super::texts::{begins_with_dollar, shown_text};
 use crate::body::id_of;
 use crate::shown::{shown_note, shown_var};
 use crate::wrapper::Frame;
-use ion_meter::limits::Limits;
+use ion_meter::profile::Rules;
 use ion_value::ion_type::Kind;
 use ion_value::names::Names;
 use ion_value::plain_item::TextAt;
@@ -145,7 +145,7 @@ pub(super) fn noted_front<'n, N: Names>(
     around: Around,
     field: Option<TextAt<'n>>,
     at: usize,
-    limits: Limits,
+    limits: Rules,
     names: &'n N,
 ) -> Option<Front<'n>>
     requires small { here + length octets.now < 2 ^ 63 }

@@ -7,7 +7,7 @@ ghost use Rattle.ion_value.specs.Float.{value_of};
 ghost use Rattle.ion_value.specs.FloatText.{pointed, exponent_of, digits_text, float_text};
 
 use crate::shortest::{Digits, shortest};
-pub use crate::text_reading::{float_from_plain_text, float_from_text};
+pub use crate::text_reading::{float_from_plain_text, float_from_text, nearest_float};
 use arrayvec::ArrayString;
 use ion_value::float::Float64;
 use itoa::Buffer;

@@ -30,7 +30,7 @@ pub fn float_from_text(run: &mut [u8]) -> Result<Float64, Reason>
         return Err(Reason::BadToken);
     }
     let count = close_up(run);
-    parsed(&run[..count])
+    nearest_float(&run[..count])
 }
 
 /// Reads a float in text that has no underscore, as `float_from_text` does, where it stands.
@@ -46,7 +46,7 @@ pub fn float_from_plain_text(run: &[u8]) -> Result<Float64, Reason>
     if !has_float_shape(run) {
         return Err(Reason::BadToken);
     }
-    parsed(run)
+    nearest_float(run)
 }
 
 // The float that this word is.
@@ -76,9 +76,10 @@ fn has_float_shape(run: &[u8]) -> bool
     }
 }
 
-// The float nearest to the number that a text without underscores spells.
+/// The float nearest to the number that a text spells which has the shape of a float and no
+/// underscore, or `Range` where that is infinite.
 #[inline]
-fn parsed(text: &[u8]) -> Result<Float64, Reason>
+pub fn nearest_float(text: &[u8]) -> Result<Float64, Reason>
     ensures { (x : Float) → parse_float binary64 text.now ≡ Some x
         → values_of result ≡ finite x }
 {

@@ -12,12 +12,15 @@ mod ReadWithin
 mod TokenCuts
 mod One
 mod Meaning
+mod FloatTexts
 mod Blobs
 mod Strings
 mod DecodedBytes
 mod DigitNumbers
 mod LobBytes
 mod RawTokens
+mod Permitted
+mod ReadPermitted
 mod ValuesWithin
 mod Narrow
 mod Refused
@@ -57,10 +60,12 @@ pub mod ReaderAnnotations
 pub mod ReaderCalls
 pub mod ShownFurther
 pub mod ReaderSymbols
+pub mod ReaderFloats
 pub mod LobTurns
 mod RunCuts
 mod Prepaid
 mod Rows
+mod FloatRows
 mod QuickNumbers
 mod SpelledNumbers
 mod QuotedRows

@@ -95,7 +95,7 @@ fn tell_head(words: &mut String, head: Head<'_>) -> Result<(), AllocError> {
         }
         Head::Float(float) => {
             let bits = float.bits();
-            write!(words, "float {bits}")
+            write!(words, "float {bits:x}")
         }
         Head::Decimal(decimal) => {
             let sign = sign(decimal.negative);

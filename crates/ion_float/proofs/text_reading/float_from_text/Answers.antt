@@ -16,7 +16,7 @@ returns-then-not-has_float_shape-clause-read c =
 pub returns : goal.returns
 returns c =
     let read =
-    shape-read c.args.run.now _ (values_of c.parsed.result) (ap (option_map value_of) (sym c.in_default.is) ∙ c.word.ensures) (sym c.if-not-has_float_shape.false ∙ c.has_float_shape.ensures)
-    c.close_up-count.ensures.closed c.parsed.ensures in
-    let answer = same-read c.parsed.result c.args.run.now read in
+    shape-read c.args.run.now _ (values_of c.nearest_float.result) (ap (option_map value_of) (sym c.in_default.is) ∙ c.word.ensures) (sym c.if-not-has_float_shape.false ∙ c.has_float_shape.ensures)
+    c.close_up-count.ensures.closed c.nearest_float.ensures in
+    let answer = same-read c.nearest_float.result c.args.run.now read in
     record { read = read; valid = answer.0; refused = answer.1 }

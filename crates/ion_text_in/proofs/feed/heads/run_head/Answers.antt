@@ -1,17 +1,22 @@
 use Rattle.std.proofs.Common.{sym, subst, refl, Some, arith}
 use Rattle.ion_value.specs.Value.{Head, SymbolAt}
 use Rattle.ion_text_in.specs.Feeding.{IsHead}
-use Rattle.ion_text_in.specs.Token.{a_run}
-use Rattle.ion_text_in.specs.Views.{number_token}
+use Rattle.ion_text_in.specs.declared.number.Numeral.{Numeral}
+use Rattle.ion_text_in.specs.declared.scanned.Scanned.TheVariants.{Whole}
+use Rattle.ion_text_in.specs.Scanners.{Shows}
+use Rattle.ion_text_in.specs.Token.{a_run, token_of}
+use Rattle.ion_text_in.specs.Views.{NumeralInRange, number_token, numeral_token}
 use Rattle.ion_text_in.proofs.FeedReading.{found-as, head-number}
 use Rattle.ion_text_in.proofs.ShownFurther.{shown-some}
 use Rattle.ion_text_in.proofs.feed.heads.run_head.Goals as goal
 
-pub returns-in-Whole : goal.returns-in-Whole
-returns-in-Whole c =
+pub returns-in-Whole-Number-default : goal.returns-in-Whole-Number-default
+returns-in-Whole-Number-default c =
     let a = c.args in
-    let w = c.in-Whole in
-    let counts = shown-some number_token a.bytes.now w.number w.count (Some a.limits.scalar) a_run w.ensures.shows c.requires.some in
+    let w = c.in-Whole-Number-default in
+    let shows = subst (λ (x : Numeral). Shows numeral_token a.bytes.now (Whole x w.count) (token_of (Some a.limits.scalar) a_run)) w.field-0-is w.ensures.shows in
+    let range = subst (λ (x : Numeral). NumeralInRange x) w.field-0-is w.ensures.range in
+    let counts = shown-some number_token a.bytes.now w.number w.count (Some a.limits.scalar) a_run shows c.requires.some in
     found-as c.found_as.ensures refl
     (subst (λ (h : Head SymbolAt). IsHead a.limits a.place a.bytes.now h c.after.result.now) (sym c.head_of.ensures)
-    (head-number w.number c.after.ensures (omega (arith, counts)) w.ensures.shows w.ensures.range c.requires))
+    (head-number w.number c.after.ensures (omega (arith, counts)) shows range c.requires))

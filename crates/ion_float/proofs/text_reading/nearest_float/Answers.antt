@@ -3,7 +3,7 @@ use Rattle.std.specs.Float.Parse.{parse_float}
 use lib.Ieee.{binary64}
 use Rattle.ion_value.specs.Float.{value_of}
 use Rattle.ion_float.proofs.TextReading.{parsed-finite, parsed-infinite}
-use Rattle.ion_float.proofs.text_reading.parsed.Goals as goal
+use Rattle.ion_float.proofs.text_reading.nearest_float.Goals as goal
 
 pub returns-in-Ok : goal.returns-in-Ok
 returns-in-Ok c =

@@ -17,7 +17,7 @@ use Rattle.ion_binary.specs.Paths.{FieldIn, Within, frame_of, Spells}
 use Rattle.ion_binary.specs.Positions.{placed_scalar, Frame, State}
 use Rattle.ion_binary.specs.Reading.{Around, TypedValue, a_nop_pad, a_marker, a_scalar, a_container, placed_item, step_for, region_of, top_of, step, size, start, reading}
 use Rattle.ion_binary.proofs.Fitting.{BinFits, InsideFits, TopsFit, SpellsFit, Tops-allowed, Spells-allowed}
-use Rattle.ion_binary.proofs.Permitted.{permitted-all}
+use Rattle.ion_value.proofs.Permitted.{all-permitted}
 use Rattle.ion_binary.proofs.Spelled.{cursor_at, Holds, Holds-before, Holds-within}
 use Rattle.ion_binary.proofs.SpelledParts.{Suits, Finds, Plain-found, IsNopPad-found, marker-found, Header-found}
 use Rattle.ion_binary.proofs.SpelledMembers.{unwrapped, wrapped_to, value_at-bare, value_at-spelled, member_at-spelled, state, step-member, step-end, step-ends}
@@ -327,7 +327,7 @@ wide-Allows bytes = (omega arith, omega arith)
 
 wide-permits : (bytes : List ℕ) (items : List PlacedItem) → ArePermitted (wide bytes) items
 unfolding wide
-wide-permits bytes items = permitted-all (wide bytes) refl items
+wide-permits bytes items = all-permitted (wide bytes) refl items
 
 -- of two paths of the same bytes the items of one begin the other's
 pub one_path : Bodies → Shrinking → OnePath

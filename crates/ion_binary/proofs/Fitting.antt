@@ -10,7 +10,8 @@ use Rattle.ion_value.specs.ReadingLaws.{ArePermitted, IsPermitted}
 use Rattle.ion_binary.specs.Grammar.{type_code, Ids, Wrapper, Annotated, Header, Plain, Bin, Inside, Tops}
 use Rattle.ion_binary.specs.Paths.{Spells}
 use Rattle.ion_binary.specs.Positions.{Frame}
-use Rattle.ion_binary.proofs.Permitted.{ValueIsPermitted, MembersArePermitted, open-permitted, tops-last, tree-permitted, unplaced-permitted}
+use Rattle.ion_value.proofs.Permitted.{ValueIsPermitted, MembersArePermitted}
+use Rattle.ion_binary.proofs.Permitted.{open-permitted, tops-last, tree-permitted, unplaced-permitted}
 use Rattle.ion_binary.proofs.Spelled.{VarUInt-pos, Descriptor-headed}
 
 -- what a scalar has after its header is no longer than the limit, and it is permitted

@@ -26,7 +26,7 @@ use Rattle.ion_binary.specs.Reading.{Around, TypedValue, fits, body_at, scalar_a
 use Rattle.ion_binary.proofs.Complete.{Shrinking, Reads, read_from, reading-read_from, Spells-reads, streams}
 use Rattle.ion_binary.proofs.Fitting.{Spells-allowed}
 use Rattle.ion_binary.proofs.Narrow.{StepCut, narrow, step-Cut}
-use Rattle.ion_binary.proofs.Permitted.{permitted-all, permitted-same}
+use Rattle.ion_value.proofs.Permitted.{all-permitted, permitted-alike}
 use Rattle.ion_binary.proofs.Refused.{wider, wider-within, cut-ends}
 use Rattle.ion_binary.proofs.Spelled.{cursor_at, VarUInt-pos, Descriptor-headed}
 use Rattle.ion_binary.proofs.SpelledMembers.{state, wrapper_shape-long, kept-long}
@@ -459,7 +459,7 @@ passed-ends bodies shrinks limits bytes path s reason place at passes =
     let spelled = at.0 in
     let short : length bytes ≡ length spelled.before + length s.cursor.rest = ap length spelled.split ∙ length-append spelled.before s.cursor.rest in
     let there = Spells-reads bodies wide path s.frames spelled.before spelled.spells
-    (Spells-allowed wide path s.frames spelled.before spelled.spells (omega (arith, short)) (omega (arith, short)) (permitted-all wide refl (path_items path))) s.cursor.rest in
+    (Spells-allowed wide path s.frames spelled.before spelled.spells (omega (arith, short)) (omega (arith, short)) (all-permitted wide refl (path_items path))) s.cursor.rest in
     let stop = passed-stops limits s there.0 place reason passes in
     let here : IsStop (step limits (state s.frames there.0 (cursor_at (length spelled.before) s.cursor.rest))) =
     subst (λ (q : ℕ). IsStop (step limits (state s.frames there.0 (cursor_at q s.cursor.rest)))) spelled.place stop
@@ -485,7 +485,7 @@ passed_limits bodies shrinks limits bytes tops path s reason place stream permit
     elim (narrow limits wide bytes (wider-within limits bytes)) [
       | inl same ↦ (
           let finished : ending_of (reading limits bytes) ≡ Finished =
-          ap ending_of (same ∙ streams bodies shrinks wide bytes tops (omega arith, omega arith) stream.spells (permitted-same limits wide refl (top_items tops) permitted)) ∙ ending_of-items_then (top_items tops) Finished
+          ap ending_of (same ∙ streams bodies shrinks wide bytes tops (omega arith, omega arith) stream.spells (permitted-alike limits wide refl (top_items tops) permitted)) ∙ ending_of-items_then (top_items tops) Finished
           in
           absurd (none_passed bodies shrinks limits bytes finished path s reason place at passes))
       | inr cut ↦ (let ends = cut-ends limits wide refl _ _ cut in (ends.0, ends.1, ends.3, ends.2))

@@ -13,7 +13,7 @@ use Rattle.ion_binary.proofs.ExactLimits.{exact_limits}
 use Rattle.ion_binary.proofs.Narrow.{narrow}
 use Rattle.ion_binary.proofs.Stable.{stable}
 use Rattle.ion_binary.proofs.Complete.{Shrinking, streams}
-use Rattle.ion_binary.proofs.Permitted.{permitted-same}
+use Rattle.ion_value.proofs.Permitted.{permitted-alike}
 
 -- rules that permit floats where others do refuse nothing but for a limit
 narrower-limit : (limits wide : Rules) → limits.floats ≡ wide.floats → (reason : Reason) → IsNarrower limits wide reason → IsLimit reason
@@ -40,7 +40,7 @@ wider-within limits bytes = record { depth = omega arith; scalar = omega arith; 
 pub rightly_refused : Bodies → Shrinking → RightlyRefused
 rightly_refused bodies shrinks limits bytes reason place ts stops no_limit stream permitted =
     let wide : Rules = wider limits bytes in
-    let read = streams bodies shrinks wide bytes ts (omega arith, omega arith) stream.spells (permitted-same limits wide refl (path_items (closed ts)) permitted) in
+    let read = streams bodies shrinks wide bytes ts (omega arith, omega arith) stream.spells (permitted-alike limits wide refl (path_items (closed ts)) permitted) in
     elim (narrow limits wide bytes (wider-within limits bytes)) [
       | inl same ↦
           let ends : Stopped reason place ≡ Finished = sym stops ∙ ap ending_of (same ∙ read) ∙ ending_of-items_then (top_items ts) Finished in
@@ -52,7 +52,7 @@ pub streams_within_limits : Bodies → Shrinking → WithinLimitsAreRead
 streams_within_limits bodies shrinks limits bytes tops stream permitted none =
     let wide : Rules = wider limits bytes in
     elim (narrow limits wide bytes (wider-within limits bytes)) [
-      | inl same ↦ same ∙ streams bodies shrinks wide bytes tops (omega arith, omega arith) stream.spells (permitted-same limits wide refl (path_items (closed tops)) permitted)
+      | inl same ↦ same ∙ streams bodies shrinks wide bytes tops (omega arith, omega arith) stream.spells (permitted-alike limits wide refl (path_items (closed tops)) permitted)
       | inr cut ↦
           let ends = cut-ends limits wide refl _ _ cut in
           let stop = exact_limits bodies limits bytes ends.0 ends.1 ends.3 ends.2 in

@@ -17,7 +17,7 @@ use Rattle.ion_text_in.specs.Positions.{at, first_place}
 use Rattle.ion_text_in.specs.Reading.{cost}
 use Rattle.ion_text_in.specs.Token.{First, an_infinity, first_at, Token, name, token_of}
 use Rattle.ion_text_in.specs.Within.{TokenWithin, NamesWithin, AnnotationsWithin, FieldWithin, TxtWithin, InsideWithin, TopsWithin, PathWithin}
-use Rattle.ion_text_in.proofs.Permitted.{all-parts, MembersArePermitted, PathIsPermitted, TopIsPermitted, TopsArePermitted, ValueIsPermitted, open-permitted, path-permitted, tops-permitted}
+use Rattle.ion_value.proofs.Permitted.{all-parts, MembersArePermitted, PathIsPermitted, TopIsPermitted, TopsArePermitted, ValueIsPermitted, open-permitted, path-permitted, tops-permitted}
 use Rattle.ion_text_in.proofs.Shrinking.{blanks-within, Long, name_length, NameTaken, TokenIs, token-is}
 use Rattle.ion_text_in.proofs.TokenBegins.{what-begins}
 use Rattle.ion_text_in.proofs.TokenLimits.{got}

@@ -19,7 +19,6 @@ mod DecodedBytes
 mod DigitNumbers
 mod LobBytes
 mod RawTokens
-mod Permitted
 mod ReadPermitted
 mod ValuesWithin
 mod Narrow

@@ -10,7 +10,7 @@ use Rattle.ion_value.specs.ReadingLaws.{Allows}
 use Rattle.ion_value.proofs.ReadingLaws.{prefixes}
 use Rattle.ion_text_in.specs.Laws.{OnePath, OneStream}
 use Rattle.ion_text_in.proofs.Complete.{complete, streams_are_read}
-use Rattle.ion_text_in.proofs.Permitted.{all-permitted}
+use Rattle.ion_value.proofs.Permitted.{all-permitted}
 
 -- limits that allow an input
 abbrev roomy : List ℕ → Rules

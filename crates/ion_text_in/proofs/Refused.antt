@@ -14,7 +14,7 @@ use Rattle.ion_value.proofs.ReadingLaws.{ending_of-items_then}
 use Rattle.ion_text_in.specs.Laws.{Passes, RightlyRefused, StrictIsReadAlike, WithinLimitsAreRead}
 use Rattle.ion_text_in.proofs.Narrow.{narrow}
 use Rattle.ion_text_in.proofs.Complete.{streams_are_read}
-use Rattle.ion_text_in.proofs.Permitted.{all-permitted, permitted-alike}
+use Rattle.ion_value.proofs.Permitted.{all-permitted, permitted-alike}
 
 -- what passes a limit is a limit's fault, or floats are not read
 passes-limit : (limits : Rules) (s : State) (place : ℕ) (why : Reason) → Passes limits s place why → IsLimit why ⊎ ((why ≡ reason.Float) × (limits.floats ≡ false))

@@ -40,7 +40,7 @@ use Rattle.ion_text_in.specs.Token.{First, a_run, a_word, a_quoted, a_short, a_l
 use Rattle.ion_text_in.specs.Within.{TokenWithin, AnnotationsWithin, NamesWithin, FieldWithin, TxtWithin, InsideWithin, TopsWithin}
 use Rattle.ion_text_in.proofs.Advancing.{tops-allowed}
 use Rattle.ion_text_in.proofs.LobBytes.{all-append}
-use Rattle.ion_text_in.proofs.Permitted.{all-permitted}
+use Rattle.ion_value.proofs.Permitted.{all-permitted}
 use Rattle.ion_text_in.proofs.RawTokens.{tokens-are_raw}
 use Rattle.ion_text_in.proofs.RunTokens.{if-scalar}
 use Rattle.ion_text_in.proofs.Shrinking.{Any, LobOf, any-lob}

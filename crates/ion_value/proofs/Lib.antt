@@ -30,6 +30,7 @@ pub mod ReadingLaws
 pub mod Faults
 pub mod Paths
 pub mod GrowingPaths
+pub mod Permitted
 pub mod Items
 pub mod Outcomes
 pub mod ValueRows

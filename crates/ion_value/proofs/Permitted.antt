@@ -1,4 +1,4 @@
--- Where rules permit the items of a path, they permit its values, its open containers' members too.
+-- Where rules permit the items of a path, they permit its values, and the members of its open containers.
 use Rattle.std.proofs.Common.{◌≡◌, ◌∙◌, ℕ, true, List, [], ◌∷◌, ◌++◌, Option}
 use Rattle.std.specs.Bool.{⊤}
 use Rattle.std.specs.List.{AllByRecursion}
@@ -12,7 +12,7 @@ pub all-parts : {A : Type 0} (P : A → Type 0) (xs ys : List A) → AllByRecurs
 all-parts P [] ys h = (tt, h)
 all-parts P (x ∷ xs) ys h = let more = all-parts P xs ys h.1 in ((h.0, more.0), more.1)
 
-scalar-alike : (limits wide : Rules) → wide.floats ≡ limits.floats → (body : Scalar SymbolAt) → IsPermitted limits body → IsPermitted wide body
+scalar-alike : {S : Type 0} (limits wide : Rules) → wide.floats ≡ limits.floats → (body : Scalar S) → IsPermitted limits body → IsPermitted wide body
 scalar-alike limits wide same (float number) h = same ∙ h
 scalar-alike limits wide same (null type) h = tt
 scalar-alike limits wide same (bool truth) h = tt
@@ -24,7 +24,7 @@ scalar-alike limits wide same (string bytes) h = tt
 scalar-alike limits wide same (clob bytes) h = tt
 scalar-alike limits wide same (blob bytes) h = tt
 
-head-alike : (limits wide : Rules) → wide.floats ≡ limits.floats → (head : Head SymbolAt) → HeadIsPermitted limits head → HeadIsPermitted wide head
+head-alike : {S : Type 0} (limits wide : Rules) → wide.floats ≡ limits.floats → (head : Head S) → HeadIsPermitted limits head → HeadIsPermitted wide head
 head-alike limits wide same (whole body) h = scalar-alike limits wide same body h
 head-alike limits wide same (begin kind) h = tt
 head-alike limits wide same end h = tt
@@ -35,7 +35,7 @@ pub permitted-alike : (limits wide : Rules) → wide.floats ≡ limits.floats �
 permitted-alike limits wide same [] h = tt
 permitted-alike limits wide same (item ∷ items) h = (head-alike limits wide same item.head h.0, permitted-alike limits wide same items h.1)
 
-scalar-all : (limits : Rules) → limits.floats ≡ true → (body : Scalar SymbolAt) → IsPermitted limits body
+scalar-all : {S : Type 0} (limits : Rules) → limits.floats ≡ true → (body : Scalar S) → IsPermitted limits body
 scalar-all limits on (float number) = on
 scalar-all limits on (null type) = tt
 scalar-all limits on (bool truth) = tt
@@ -47,7 +47,7 @@ scalar-all limits on (string bytes) = tt
 scalar-all limits on (clob bytes) = tt
 scalar-all limits on (blob bytes) = tt
 
-head-all : (limits : Rules) → limits.floats ≡ true → (head : Head SymbolAt) → HeadIsPermitted limits head
+head-all : {S : Type 0} (limits : Rules) → limits.floats ≡ true → (head : Head S) → HeadIsPermitted limits head
 head-all limits on (whole body) = scalar-all limits on body
 head-all limits on (begin kind) = tt
 head-all limits on end = tt
@@ -89,11 +89,11 @@ module _ (limits : Rules) where
   -- ---- by the items
 
   mutual
-    value-permitted : (top : ℕ) (field : Option SymbolAt) (annotations : List SymbolAt) (p : ℕ) (x : Value SymbolAt ℕ) → ArePermitted limits (value_items top field annotations p x) → ValueIsPermitted x
+    pub value-permitted : (top : ℕ) (field : Option SymbolAt) (annotations : List SymbolAt) (p : ℕ) (x : Value SymbolAt ℕ) → ArePermitted limits (value_items top field annotations p x) → ValueIsPermitted x
     value-permitted top field annotations p (scalar body) h = h.0
     value-permitted top field annotations p (container kind members last) h = members-permitted top members (all-parts Holds (member_items top members) _ h.1).0
 
-    members-permitted : (top : ℕ) (members : Members SymbolAt ℕ) → ArePermitted limits (member_items top members) → MembersArePermitted members
+    pub members-permitted : (top : ℕ) (members : Members SymbolAt ℕ) → ArePermitted limits (member_items top members) → MembersArePermitted members
     members-permitted top nothing h = tt
     members-permitted top (member before field annotations p x) h =
         let parts = all-parts Holds (member_items top before) (value_items top field annotations p x) h in

@@ -2,7 +2,7 @@
 use Rattle.std.proofs.Common.{arith, refl, sym, ap, ◌∙◌, ◌≡◌, ℕ, ◌+◌, ◌/◌, ◌^◌, ◌<◌, Bool, true, false, ◌&&◌, not, nat_eq, nat_le, nat_lt, if◌then◌else◌, List, [], ◌∷◌, length, take, Option, Some, None, Result, Ok, Err}
 use Rattle.std.proofs.lemmas.Bool.{eq-eqb, le-ltb, leb-false}
 use Rattle.ion_meter.specs.declared.fault.Reason.{Reason}
-use Rattle.ion_meter.specs.declared.fault.Reason.TheVariants.{BadAnnotation, BadDescriptor, DepthLimit, Overrun, ScalarLimit, Truncated}
+use Rattle.ion_meter.specs.declared.fault.Reason.TheVariants.{BadAnnotation, BadDescriptor, DepthLimit, Float, Overrun, ScalarLimit, Truncated}
 use Rattle.ion_meter.specs.declared.profile.Rules.{Rules}
 use Rattle.ion_meter.specs.Sources.{Cursor, skip}
 use Rattle.ion_value.specs.declared.ion_type.Kind.{Kind}
@@ -18,7 +18,7 @@ use Rattle.ion_binary.specs.Descriptor.{Region, Shape, falls_short, first_octet,
 use Rattle.ion_binary.specs.Parts.{body_here}
 use Rattle.ion_binary.specs.Positions.{Frame, State}
 use Rattle.ion_binary.specs.Reading.{Around, TypedValue, a_scalar, annotated_at, bare_at, begin_at, body_at, by_wrapper, container_at, fits, inner_at, is_top, marker_at, nop_pad_at, plain_at, read_by_descriptor, region_of, scalar_at, sorted_at, step_for, typed_value_at, value_at, wrapper_length}
-use Rattle.ion_binary.specs.Scanned.{HasBody, IsFound, begun, found_at, found_by, length_code_of, noted_at, pad_at, part_at, rest_at, wrapper_after, wrapping}
+use Rattle.ion_binary.specs.Scanned.{HasBody, IsFound, begun, bodied, found_at, found_by, length_code_of, noted_at, pad_at, part_at, rest_at, wrapper_after, wrapping}
 use Rattle.ion_binary.proofs.StepPreservesPath.{wrapper_is}
 use Rattle.ion_binary.proofs.WrapperCode.{wrapper_at-after}
 
@@ -87,13 +87,27 @@ begin-parts limits a k n d =
     let deep = refuse (nat_le limits.depth a.depth) DepthLimit in
     ap (λ y. fits a d.place n >> y) (then-bind deep (Ok (found.Begin k (d.place + n))) (λ f. rest_at limits f d)) ∙ then-bind (fits a d.place n) (deep >> Ok (found.Begin k (d.place + n))) (λ f. rest_at limits f d)
 
-body-parts : (limits : Rules) (a : Around) (type_code length_code n : ℕ) (d : Cursor) → body_at limits a type_code n d ≡ (found_by limits a (Shape.body type_code length_code) d.place n >>= λ f. rest_at limits f d)
+body-parts : (limits : Rules) (a : Around) (type_code n : ℕ) (d : Cursor) → body_at limits a type_code n d ≡ (bodied limits a type_code d.place n >>= λ f. rest_at limits f d)
 unfolding body_at rest_at body_here
-body-parts limits a type_code length_code n d =
+body-parts limits a type_code n d =
     let few = refuse (nat_lt limits.scalar n) ScalarLimit in
     let there = refuse (nat_lt (length d.rest) n) Truncated in
     ap (λ y. fits a d.place n >> y) (body-once few there (scalar_of_body type_code (take n d.rest)) (skip n d) ∙ then-bind few (Ok (found.Body type_code n)) (λ f. rest_at limits f d))
     ∙ then-bind (fits a d.place n) (few >> Ok (found.Body type_code n)) (λ f. rest_at limits f d)
+
+-- a scalar is its length and its body
+scalar-parts : (limits : Rules) (a : Around) (type_code length_code : ℕ) (c : Cursor)
+    → scalar_at limits a type_code length_code c ≡ ((length_at length_code a.region c >>= λ n. (bodied limits a type_code n.1.place n.0 >>= beside_found n.1)) >>= rest_of limits)
+unfolding scalar_at
+scalar-parts limits a type_code length_code c =
+    bind-parts limits (length_at length_code a.region c) (λ n. bodied limits a type_code n.1.place n.0) (λ n. body_at limits a type_code n.0 n.1) (λ n. body-parts limits a type_code n.0 n.1)
+
+-- a float is one where floats are read
+float-parts : (limits : Rules) (a : Around) (length_code : ℕ) (c : Cursor) (on : Bool) → limits.floats ≡ on
+    → (refuse (not limits.floats) Float >> scalar_at limits a 4 length_code c) ≡ (found_at limits a (Shape.float length_code) c >>= rest_of limits)
+unfolding length_at
+float-parts limits a length_code c true e = rw e (scalar-parts limits a 4 length_code c)
+float-parts limits a length_code c false e = rw e refl
 
 read_by-parts : (limits : Rules) (a : Around) (s : Shape) (c : Cursor) → passes a.region c.place 0 ≡ false → wrapper_length s ≡ None → read_by_descriptor limits a s c ≡ (found_at limits a s c >>= rest_of limits)
 unfolding read_by_descriptor rest_at bare_at nop_pad_at scalar_at container_at sorted_at marker_at length_at
@@ -104,8 +118,7 @@ read_by-parts limits a (Shape.nop_pad length_code) c within none =
     (λ n. then-bind (refuse (passes a.region n.1.place n.0) Overrun) (Ok (found.NopPad n.0)) (λ f. rest_at limits f n.1))
 read_by-parts limits a (Shape.wrapper length_code) c within none = absurd (cc none)
 read_by-parts limits a (Shape.body type_code length_code) c within none =
-    bind-parts limits (length_at length_code a.region c) (λ n. found_by limits a (Shape.body type_code length_code) n.1.place n.0) (λ n. body_at limits a type_code n.0 n.1)
-    (λ n. body-parts limits a type_code length_code n.0 n.1)
+    scalar-parts limits a type_code length_code c
 read_by-parts limits a (Shape.container k length_code) c within none =
     bind-parts limits (length_at length_code a.region c) (λ n. begun limits a k n.1.place n.0) (λ n. begin_at limits a k n.0 n.1) (λ n. begin-parts limits a k n.0 n.1)
 read_by-parts limits a Shape.sorted c within none =
@@ -113,7 +126,7 @@ read_by-parts limits a Shape.sorted c within none =
     (λ n. ap (λ y. refuse (nat_eq n.0 0) BadDescriptor >> y) (begin-parts limits a kind.Struct n.0 n.1) ∙ then-bind (refuse (nat_eq n.0 0) BadDescriptor) (begun limits a kind.Struct n.1.place n.0) (λ f. rest_at limits f n.1))
 read_by-parts limits a Shape.marker c within none =
     then-bind (refuse (not (is_top a.region)) BadDescriptor) (Ok found.Marker) (λ f. rest_at limits f c) ∙ found-rest limits (refuse (not (is_top a.region)) BadDescriptor >> Ok found.Marker) c
-read_by-parts limits a Shape.float c within none = refl
+read_by-parts limits a (Shape.float length_code) c within none = float-parts limits a length_code c limits.floats refl
 read_by-parts limits a Shape.illegal c within none = refl
 
 -- ---- a descriptor octet
@@ -200,7 +213,8 @@ found_by-plain limits a (Shape.body type_code length_code) place n none = wraps-
 found_by-plain limits a (Shape.container k length_code) place n none = begun-plain limits a k place n
 found_by-plain limits a Shape.sorted place n none = wraps-then (refuse (nat_eq n 0) BadDescriptor) _ (begun-plain limits a kind.Struct place n)
 found_by-plain limits a Shape.marker place n none = wraps-then (refuse (not (is_top a.region)) BadDescriptor) (Ok found.Marker) refl
-found_by-plain limits a Shape.float place n none = refl
+found_by-plain limits a (Shape.float length_code) place n none =
+    wraps-then (refuse (not limits.floats) Float) _ (wraps-then (fits a place n) _ (wraps-then (refuse (nat_lt limits.scalar n) ScalarLimit) (Ok (found.Body 4 n)) refl))
 found_by-plain limits a Shape.illegal place n none = refl
 
 module _ (limits : Rules) (frames : List Frame) (top : ℕ) (f : Option SymbolAt) (place : ℕ) where
@@ -220,7 +234,7 @@ module _ (limits : Rules) (frames : List Frame) (top : ℕ) (f : Option SymbolAt
   unfolding plain_at
   plain-parts b within none =
       ap (λ t. part place t >>= λ v. Ok (step_for frames top f [] place v.0 v.1)) (typed_at-parts limits (record { wrapped = false; region = region_of frames; depth = length frames }) b within none)
-      ∙ of_length (length_at (length_code_of (shape_of b.0)) (region_of frames) b.1) (shape_of b.0) none
+      ∙ of_length (length_at (length_code_of limits (shape_of b.0)) (region_of frames) b.1) (shape_of b.0) none
 
   wrapped-length : (o : Result (ℕ × Cursor) Reason)
       → (part place (o >>= λ n. wrapper_after (region_of frames) n.0 n.1) >>= λ w. noted_at limits frames top f w.0 w.1)
@@ -241,7 +255,7 @@ module _ (limits : Rules) (frames : List Frame) (top : ℕ) (f : Option SymbolAt
   wrapped-shape (Shape.container k m) d length_code e = absurd (cc e)
   wrapped-shape Shape.sorted d length_code e = absurd (cc e)
   wrapped-shape Shape.marker d length_code e = absurd (cc e)
-  wrapped-shape Shape.float d length_code e = absurd (cc e)
+  wrapped-shape (Shape.float m) d length_code e = absurd (cc e)
   wrapped-shape Shape.illegal d length_code e = absurd (cc e)
 
   value-octet : (o : Result (ℕ × Cursor) Reason) (c : Cursor) → octet_at (region_of frames) c ≡ o

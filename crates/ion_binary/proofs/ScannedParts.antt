@@ -106,26 +106,29 @@ window-sliced place octets more h =
 -- ---- a descriptor and its length
 
 -- the length code of a descriptor
-pub length_code-small : (s : Shape) → IsOfDescriptor s → length_code_of s < 15
-length_code-small (Shape.nop_pad length_code) h = h
-length_code-small (Shape.wrapper length_code) h = h
-length_code-small (Shape.body type_code length_code) h = h.1
-length_code-small (Shape.container k length_code) h = h
-length_code-small Shape.sorted h = omega arith
-length_code-small (Shape.null t) h = omega arith
-length_code-small (Shape.bool truth) h = omega arith
-length_code-small Shape.marker h = omega arith
-length_code-small Shape.float h = omega arith
-length_code-small Shape.illegal h = omega arith
+pub length_code-small : (limits : Rules) (s : Shape) → IsOfDescriptor s → length_code_of limits s < 15
+length_code-small limits (Shape.nop_pad length_code) h = h
+length_code-small limits (Shape.wrapper length_code) h = h
+length_code-small limits (Shape.body type_code length_code) h = h.1
+length_code-small limits (Shape.container k length_code) h = h
+length_code-small limits Shape.sorted h = omega arith
+length_code-small limits (Shape.null t) h = omega arith
+length_code-small limits (Shape.bool truth) h = omega arith
+length_code-small limits Shape.marker h = omega arith
+length_code-small limits (Shape.float length_code) h = elim (limits.floats) [
+  | true ↦ h
+  | false ↦ omega arith
+]
+length_code-small limits Shape.illegal h = omega arith
 
-pub found_at-no_length : (limits : Rules) (a : Around) (s : Shape) (c : Cursor) (e : Reason) → length_at (length_code_of s) a.region c ≡ Err e → found_at limits a s c ≡ Err e
+pub found_at-no_length : (limits : Rules) (a : Around) (s : Shape) (c : Cursor) (e : Reason) → length_at (length_code_of limits s) a.region c ≡ Err e → found_at limits a s c ≡ Err e
 found_at-no_length limits a s c e h = rw h refl
 
-pub found_at-refused : (limits : Rules) (a : Around) (s : Shape) (c d : Cursor) (n : ℕ) (e : Reason) → length_at (length_code_of s) a.region c ≡ Ok (n, d) → found_by limits a s d.place n ≡ Err e
+pub found_at-refused : (limits : Rules) (a : Around) (s : Shape) (c d : Cursor) (n : ℕ) (e : Reason) → length_at (length_code_of limits s) a.region c ≡ Ok (n, d) → found_by limits a s d.place n ≡ Err e
     → found_at limits a s c ≡ Err e
 found_at-refused limits a s c d n e h m = rw (h, m) refl
 
-pub found_at-found : (limits : Rules) (a : Around) (s : Shape) (c d : Cursor) (n : ℕ) (f : Found) → length_at (length_code_of s) a.region c ≡ Ok (n, d) → found_by limits a s d.place n ≡ Ok f
+pub found_at-found : (limits : Rules) (a : Around) (s : Shape) (c d : Cursor) (n : ℕ) (f : Found) → length_at (length_code_of limits s) a.region c ≡ Ok (n, d) → found_by limits a s d.place n ≡ Ok f
     → found_at limits a s c ≡ Ok (f, d)
 found_at-found limits a s c d n f h m = rw (h, m) refl
 
@@ -161,14 +164,14 @@ module _ (limits : Rules) (a : Around) (end place : ℕ) (octets : List ℕ) (en
           ∙ (ap (λ t. refuse t BadAnnotation >> found_at limits a (shape_of b) (skip 1 (window place octets more))) free
           ∙ (ap (λ t. found_at limits a t (skip 1 (window place octets more))) shape ∙ ap (found_at limits a s) (sym (window-sliced place octets more (omega (arith, some))))))
 
-      pub part-no_length : (e : Reason) (more : List ℕ) → length_at (length_code_of s) a.region (window (place + 1) (sliced octets) more) ≡ Err e → part_at limits a (window place octets more) ≡ Err e
+      pub part-no_length : (e : Reason) (more : List ℕ) → length_at (length_code_of limits s) a.region (window (place + 1) (sliced octets) more) ≡ Err e → part_at limits a (window place octets more) ≡ Err e
       part-no_length e more h = part-shape more ∙ found_at-no_length limits a s (window (place + 1) (sliced octets) more) e h
 
-      pub part-refused : (e : Reason) (count n : ℕ) (more : List ℕ) → length_at (length_code_of s) a.region (window (place + 1) (sliced octets) more) ≡ Ok (count, skip n (window (place + 1) (sliced octets) more))
+      pub part-refused : (e : Reason) (count n : ℕ) (more : List ℕ) → length_at (length_code_of limits s) a.region (window (place + 1) (sliced octets) more) ≡ Ok (count, skip n (window (place + 1) (sliced octets) more))
           → found_by limits a s (place + 1 + n) count ≡ Err e → part_at limits a (window place octets more) ≡ Err e
       part-refused e count n more h m = part-shape more ∙ found_at-refused limits a s (window (place + 1) (sliced octets) more) (skip n (window (place + 1) (sliced octets) more)) count e h m
 
-      pub part-found : (f : Found) (count n : ℕ) (more : List ℕ) → length_at (length_code_of s) a.region (window (place + 1) (sliced octets) more) ≡ Ok (count, skip n (window (place + 1) (sliced octets) more))
+      pub part-found : (f : Found) (count n : ℕ) (more : List ℕ) → length_at (length_code_of limits s) a.region (window (place + 1) (sliced octets) more) ≡ Ok (count, skip n (window (place + 1) (sliced octets) more))
           → found_by limits a s (place + 1 + n) count ≡ Ok f → part_at limits a (window place octets more) ≡ Ok (f, skip (n + 1) (window place octets more))
       part-found f count n more h m =
           let w = window place octets more in

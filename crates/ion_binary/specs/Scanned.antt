@@ -78,18 +78,18 @@ IsRegion c = EndsAt (region_in c.within c.end) c.end
 abbrev pub itself_found : Found → Found
 itself_found f = f
 
--- the length code by which a shape's length goes, and 0 where it has none
-abbrev pub length_code_of : Shape → ℕ
-length_code_of (nop_pad length_code) = length_code
-length_code_of (wrapper length_code) = length_code
-length_code_of (body type_code length_code) = length_code
-length_code_of (container k length_code) = length_code
-length_code_of sorted = 14
-length_code_of (null t) = 0
-length_code_of (bool truth) = 0
-length_code_of marker = 0
-length_code_of float = 0
-length_code_of illegal = 0
+-- the length code by which a shape's length goes, and 0 where it has none, or is a float that is not read
+abbrev pub length_code_of : Rules → Shape → ℕ
+length_code_of limits (nop_pad length_code) = length_code
+length_code_of limits (wrapper length_code) = length_code
+length_code_of limits (body type_code length_code) = length_code
+length_code_of limits (container k length_code) = length_code
+length_code_of limits sorted = 14
+length_code_of limits (null t) = 0
+length_code_of limits (bool truth) = 0
+length_code_of limits marker = 0
+length_code_of limits (float length_code) = if limits.floats then length_code else 0
+length_code_of limits illegal = 0
 
 -- a container whose members have n octets, from a place on
 abbrev pub begun : Rules → Around → Kind → ℕ → ℕ → Result Found Reason
@@ -97,6 +97,13 @@ begun limits a k place n = do
   fits a place n
   refuse (nat_le limits.depth a.depth) DepthLimit
   Ok (found.Begin k (place + n))
+
+-- a scalar whose body has n octets, from a place on
+abbrev pub bodied : Rules → Around → ℕ → ℕ → ℕ → Result Found Reason
+bodied limits a type_code place n = do
+  fits a place n
+  refuse (nat_lt limits.scalar n) ScalarLimit
+  Ok (found.Body type_code n)
 
 -- what a shape begins whose length is n, which ends at a place
 abbrev pub found_by : Rules → Around → Shape → ℕ → ℕ → Result Found Reason
@@ -110,10 +117,7 @@ found_by limits a (nop_pad length_code) place n = do
   refuse (passes a.region place n) Overrun
   Ok (found.NopPad n)
 found_by limits a (wrapper length_code) place n = Ok (found.Wrapper n)
-found_by limits a (body type_code length_code) place n = do
-  fits a place n
-  refuse (nat_lt limits.scalar n) ScalarLimit
-  Ok (found.Body type_code n)
+found_by limits a (body type_code length_code) place n = bodied limits a type_code place n
 found_by limits a (container k length_code) place n = begun limits a k place n
 found_by limits a sorted place n = do
   refuse (nat_eq n 0) BadDescriptor
@@ -121,7 +125,9 @@ found_by limits a sorted place n = do
 found_by limits a marker place n = do
   refuse (not (is_top a.region)) BadDescriptor
   Ok found.Marker
-found_by limits a float place n = Err Float
+found_by limits a (float length_code) place n = do
+  refuse (not limits.floats) Float
+  bodied limits a 4 place n
 found_by limits a illegal place n = Err BadDescriptor
 
 -- how many octets follow where an annotation wrapper is found
@@ -137,7 +143,7 @@ wrapping (found.Bool truth) = None
 -- what a shape begins after its descriptor octet
 abbrev pub found_at : Rules → Around → Shape → Cursor → Result (Found × Cursor) Reason
 found_at limits a s c = do
-  n ← length_at (length_code_of s) a.region c
+  n ← length_at (length_code_of limits s) a.region c
   f ← found_by limits a s n.1.place n.0
   Ok (f, n.1)
 

@@ -5,15 +5,16 @@
 //! before it: where it holds they are in the region too, and where not, one of them is the first outside.
 ghost use Rattle.std.specs.Prelude.{◌≡◌, ◌+◌, ◌-◌, ◌^◌, ◌<◌, ◌≤◌, ◌&&◌, IfOk};
 ghost use Rattle.ion_value.specs.Answers.{itself};
+ghost use Rattle.ion_binary.specs.Bodies.{IsBodyTypeCode};
 ghost use Rattle.ion_binary.specs.Descriptor.{Region as region, is_unwrappable, length_at, var_uint_at};
 ghost use Rattle.ion_binary.specs.Finds.{IsOfDescriptor};
 ghost use Rattle.ion_binary.specs.Reading.{fits};
-ghost use Rattle.ion_binary.specs.Scanned.{EndsAt, IfWhole, IsFound, IsRegion, Shows, as_around, begun, found_by, itself_found, part_at, wrapping};
+ghost use Rattle.ion_binary.specs.Scanned.{EndsAt, IfWhole, IsFound, IsRegion, Shows, as_around, begun, bodied, found_by, itself_found, part_at, wrapping};
 ghost use Rattle.ion_binary.specs.Shapes.{as_shape};
 
 use crate::descriptor::Shape;
-use ion_meter::profile::Rules;
 use ion_meter::fault::Reason;
+use ion_meter::profile::Rules;
 use ion_value::ion_type::{IonType, Kind};
 
 /// What octets show of the part that begins at the front of them, whatever octets follow.
@@ -162,6 +163,22 @@ impl Region {
         Ok(())
     }
 
+    // A scalar of this type code whose body has so many octets, from a place on.
+    #[inline(always)]
+    fn body(self, type_code: u8, here: u64, count: u64, limits: Rules) -> Result<Found, Reason>
+        requires region { IsRegion self }
+        requires small { here + count < 2 ^ 64 - 1 }
+        requires type_code { IsBodyTypeCode type_code }
+        ensures gives { result ≡ bodied limits (as_around self) type_code here count }
+        ensures found { IfOk result (IsFound limits (as_around self)) }
+    {
+        match self.check_fits(here, count) {
+            Err(reason) => Err(reason),
+            Ok(()) if limits.scalar < count => Err(Reason::ScalarLimit),
+            Ok(()) => Ok(Found::Body(type_code, count)),
+        }
+    }
+
     // A container whose members have so many octets, from a place on.
     #[inline(always)]
     fn begin(self, kind: Kind, here: u64, count: u64, limits: Rules) -> Result<Found, Reason>
@@ -204,7 +221,8 @@ pub(crate) fn found_of(
         Shape::Sorted if count == 0 => Err(Reason::BadDescriptor),
         Shape::Sorted => region.begin(Kind::Struct, here, count, limits),
         Shape::Wrapper(_) => Ok(Found::Wrapper(count)),
-        Shape::Float => Err(Reason::Float),
+        Shape::Float(_) if !limits.floats => Err(Reason::Float),
+        Shape::Float(_) => region.body(4, here, count, limits),
         Shape::Illegal => Err(Reason::BadDescriptor),
         Shape::Marker => match region.within {
             Within::Top => Ok(Found::Marker),
@@ -223,11 +241,7 @@ pub(crate) fn found_of(
         Shape::Body {
             type_code,
             length_code: _,
-        } => match region.check_fits(here, count) {
-            Err(reason) => Err(reason),
-            Ok(()) if limits.scalar < count => Err(Reason::ScalarLimit),
-            Ok(()) => Ok(Found::Body(type_code, count)),
-        },
+        } => region.body(type_code, here, count, limits),
     }
 }
 
@@ -255,7 +269,7 @@ pub(crate) fn scan_part(octets: &[u8], place: u64, region: Region, limits: Rules
     }
     let shape = Shape::of(octet);
     let here = place + 1;
-    match scan_length(&octets[1..], here, region.end, shape.length_code()) {
+    match scan_length(&octets[1..], here, region.end, shape.length_code(limits)) {
         Scanned::Cut => Scanned::Cut,
         Scanned::Fault(reason) => Scanned::Fault(reason),
         Scanned::Whole(count, n) => {

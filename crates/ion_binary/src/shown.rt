@@ -13,6 +13,7 @@ ghost use Rattle.ion_binary.specs.Shown.{Bounds, ShowsBegin, ShowsBody, ShowsLen
 
 use crate::body::{few_value, is_text, uint_id};
 use crate::descriptor::Shape;
+use ion_meter::profile::Rules;
 use ion_value::decimal::{Decimal, decimal_from_bytes};
 use ion_value::int::Int;
 use ion_value::ion_type::{IonType, Kind};

@@ -2,6 +2,7 @@
 ghost use Rattle.std.specs.Prelude.{◌≤◌, length, IfSome};
 
 use crate::scan::{Found, Region, Scanned, TOP, Within, scan_part, scan_var};
+use ion_meter::profile::Rules;
 use ion_value::ion_type::Kind;
 
 // No region is looked at here: what passes its region is refused without an octet more.

@@ -9,9 +9,9 @@ ghost use Rattle.ion_value.specs.Answers.{itself};
 ghost use Rattle.ion_value.specs.Calls.{AnswersBy, Reads};
 
 use crate::scan::{Found, Region, Scanned, scan_part, scan_var};
-use ion_meter::profile::Rules;
 use ion_meter::device::Input;
 use ion_meter::fault::{Fault, Reason};
+use ion_meter::profile::Rules;
 use ion_meter::source::Source;
 use std::alloc::Allocator;
 

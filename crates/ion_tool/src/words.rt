@@ -64,9 +64,10 @@ struct Asked<'a> {
 const ABOUT: &str = "Shows, checks and converts Amazon Ion 1.0, a data format like JSON with more
 types and a binary form. A stream that begins with the byte E0 is binary.
 
-Memory stays small and bounded. A stream that is not valid, passes a limit or
-has a float is refused: standard error then says why, and at which byte offset.
-JSON is read too, but for numbers with an exponent, as 1e3: these are floats.";
+Memory stays small and bounded. A stream that is not valid, passes a limit or,
+without --floats, has a float is refused: standard error then says why, and at
+which byte offset. JSON is read too; its numbers with an exponent, as 1e3, are
+floats.";
 
 /// How the program is called, which `clap` also says of wrong words.
 const USAGE: &str = "ion <show|check|convert> [OPTIONS] [FILE]
@@ -139,7 +140,7 @@ fn floats_arg<'a>(alloc: Global) -> Arg<'a>
     Arg::new(alloc, "floats")
         .long("floats")
         .action(ArgAction::SetTrue)
-        .help("Accept floats too, as 1.5e0")
+        .help("Accept floats, as 1.5e0, which are refused without it")
 }
 
 /// The argument FILE.

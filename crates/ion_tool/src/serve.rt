@@ -246,11 +246,7 @@ fn serve_job<F: FileSource, I: Input, O: Output, E: Output>(
         input result.1 out result.2 err result.3 result.0 }
     ensures status { (result.0 ≡ 0) ⊎ ((result.0 ≡ 1) ⊎ (result.0 ≡ 3)) }
 {
-    let Job {
-        task,
-        limits,
-        file,
-    } = job;
+    let Job { task, limits, file } = job;
     let Some(name) = file else {
         return serve_input(meter, catalog, task, limits, input, out, err);
     };

@@ -69,8 +69,9 @@ fn answer(
     let catalog = Catalog::new(&meter);
     let reader = FromRead::new(Giving::all(input, most));
     let writer = ToWrite::new(Vec::new(alloc));
-    let (outcome, _input, output) =
-        run_with(&mut meter, &catalog, LIMITS, profile, to, reader, writer);
+    let (outcome, _input, output) = run_with(
+        &mut meter, &catalog, LIMITS, profile, to, reader, writer,
+    );
     same(rt, meter.held(), 0);
     (outcome, output.into_inner())
 }
@@ -84,13 +85,34 @@ fn floats_are_read_and_written(rt: HostRuntime) {
         for most in [1, 4096] {
             let (outcome, out) = answer(&rt, alloc, floats, To::Text, input, most);
             let want = (text(row.values), row.shown.as_bytes());
-            same_at(&rt, "shown", row.input, most, (outcome, out.as_slice()), want);
+            same_at(
+                &rt,
+                "shown",
+                row.input,
+                most,
+                (outcome, out.as_slice()),
+                want,
+            );
             let (outcome, out) = answer(&rt, alloc, floats, To::Binary, input, most);
             let want = (text(row.values), row.octets);
-            same_at(&rt, "converted", row.input, most, (outcome, out.as_slice()), want);
+            same_at(
+                &rt,
+                "converted",
+                row.input,
+                most,
+                (outcome, out.as_slice()),
+                want,
+            );
             let (outcome, out) = answer(&rt, alloc, floats, To::Text, row.octets, most);
             let want = (binary(row.values), row.shown.as_bytes());
-            same_at(&rt, "shown from binary", row.input, most, (outcome, out.as_slice()), want);
+            same_at(
+                &rt,
+                "shown from binary",
+                row.input,
+                most,
+                (outcome, out.as_slice()),
+                want,
+            );
         }
     }
 }
@@ -102,7 +124,14 @@ fn floats_are_refused_strictly(rt: HostRuntime) {
         let input = row.input.as_bytes();
         let (outcome, out) = answer(&rt, alloc, Profile::strict(), To::Nothing, input, 4096);
         let want = (refused(Reason::Float, row.place), b"".as_slice());
-        same_at(&rt, "refused", row.input, 0, (outcome, out.as_slice()), want);
+        same_at(
+            &rt,
+            "refused",
+            row.input,
+            0,
+            (outcome, out.as_slice()),
+            want,
+        );
     }
 }
 

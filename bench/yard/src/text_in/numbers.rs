@@ -14,7 +14,7 @@ impl TextReader<'_, '_> {
                 if self.lim.scalar < 4 {
                     return refuse(Reason::ScalarLimit, place);
                 }
-                return refuse(Reason::Float, place);
+                return self.infinity(h, c, place);
             }
         }
         if self.k != SEXP {
@@ -37,6 +37,18 @@ impl TextReader<'_, '_> {
         let s = self.w.pos;
         h.symbol(Sym { text: self.w.slice(s, s + n), form: S_QUOTED }, self.at(s))?;
         self.w.pos += n;
+        Ok(())
+    }
+
+    /// `+inf` or `-inf` at `pos`.
+    fn infinity<H: Handler>(&mut self, h: &mut H, sign: u8, place: u64) -> Res {
+        if !self.lim.floats {
+            return refuse(Reason::Float, place);
+        }
+        self.ready(h)?;
+        let x = if sign == b'+' { f64::INFINITY } else { f64::NEG_INFINITY };
+        h.float(x, self.at(self.w.pos))?;
+        self.w.pos += 4;
         Ok(())
     }
 
@@ -88,6 +100,7 @@ impl TextReader<'_, '_> {
                 if n <= 10 && matches!(c, b'.' | b'd' | b'D') {
                     // a decimal of at most 18 digits and a short exponent
                     let mut q = p;
+                    let mut v = v;
                     let mut places = 0;
                     let mut e = c;
                     if c == b'.' {
@@ -129,11 +142,66 @@ impl TextReader<'_, '_> {
                     }
                 }
             }
+            if self.lim.floats && matches!(c, b'.' | b'e' | b'E') && n <= 19 && self.float(h, d, n, v)? {
+                return Ok(());
+            }
             if n >= 20 {
                 return self.number_big(h);
             }
             return self.number_slow(h);
         }
+    }
+
+    /// A float of at most 19 digits and a short exponent, whose first digits, at `d`, are `n` and `v`; false leaves it to the slow way.
+    #[inline(never)]
+    fn float<H: Handler>(&mut self, h: &mut H, d: usize, n: usize, v: u64) -> Res<bool> {
+        let s = self.w.pos;
+        let Some((digits, power, end)) = self.short_float(d, n, v) else { return Ok(false) };
+        if (end - s) as u64 > self.lim.scalar {
+            return refuse(Reason::ScalarLimit, self.w.place(s));
+        }
+        let x = match float::exact(digits, power) {
+            Some(x) if d > s => -x,
+            Some(x) => x,
+            // SAFETY: signs, digits, a point and a letter
+            None => unsafe { std::str::from_utf8_unchecked(self.w.slice(s, end)) }.parse().unwrap(),
+        };
+        if x.is_infinite() {
+            return refuse(Reason::Range, self.w.place(s));
+        }
+        self.ready(h)?;
+        h.float(x, self.at(s))?;
+        self.w.pos = end;
+        Ok(true)
+    }
+
+    /// Its digits, their power of ten and its end.
+    #[inline(always)]
+    fn short_float(&self, d: usize, n: usize, v: u64) -> Option<(u64, i64, usize)> {
+        // SAFETY: a place up to the end and its slack
+        let load = |i: usize| eight(unsafe { (self.w.ptr(i) as *const u64).read_unaligned() });
+        let (mut p, mut digits, mut places) = (d + n, v, 0);
+        if self.w.b(p) == b'.' {
+            p += 1;
+            while places < 24 {
+                let (m, part) = load(p);
+                digits = digits.wrapping_mul(P10[m]).wrapping_add(part);
+                (p, places) = (p + m, places + m);
+                if m < 8 {
+                    break;
+                }
+            }
+        }
+        let sign = self.w.b(p + 1);
+        let first = p + 1 + (sign == b'-' || sign == b'+') as usize;
+        let (m, exponent) = load(first);
+        let end = first + m;
+        let is_led_by_zero = n > 1 && self.w.b(d) == b'0';
+        if self.w.b(p) | 0x20 != b'e' || m == 0 || m == 8 || n + places > 19 || is_led_by_zero || !TERM[self.w.b(end) as usize] {
+            return None;
+        }
+        let exponent = if sign == b'-' { -(exponent as i64) } else { exponent as i64 };
+        Some((digits, exponent - places as i64, end))
     }
 
     /// An int of 20 digits and more: up to 38 here, as they stay below 2^128.
@@ -194,7 +262,7 @@ impl TextReader<'_, '_> {
             }
         }
         let s = self.w.pos;
-        let num = match parse_run(self.w.slice(s, s + n)) {
+        let num = match parse_run(self.w.slice(s, s + n), self.lim.floats) {
             Ok(x) => x,
             Err(r) => return refuse(r, place),
         };
@@ -204,6 +272,7 @@ impl TextReader<'_, '_> {
             Num::Int(neg, m) if m <= u64::MAX as u128 => h.int(neg, m as u64, at)?,
             Num::Int(neg, m) => h.int_big(neg, m, at)?,
             Num::Dec(neg, c, e) => h.decimal(neg, c, e, at)?,
+            Num::Float(x) => h.float(x, at)?,
             Num::Ts(t) => h.timestamp(&t, at)?,
         }
         self.w.pos += n;

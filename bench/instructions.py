@@ -16,6 +16,8 @@ import subprocess
 import sys
 from concurrent.futures import ThreadPoolExecutor
 
+from streams import OPTIONS
+
 HERE = os.path.dirname(os.path.abspath(__file__))
 YARD = os.environ.get('YARD') or os.path.join(HERE, 'yard', 'target', 'release', 'yard')
 KINDS = ['log', 'ints', 'strings', 'blobs', 'deep', 'config', 'fields', 'nest']
@@ -62,8 +64,8 @@ def main(words):
     works = [(kind, form, command) for kind in kinds for form in ('ion', '10n') for command in ('show', 'check', 'convert')]
 
     def both(work):
-        path = f'{folder}/{work[0]}.{work[1]}'
-        return work, counted([ion, work[2], path]), counted([YARD, work[2], path])
+        words = [work[2], *OPTIONS.get(work[0], []), f'{folder}/{work[0]}.{work[1]}']
+        return work, counted([ion, *words]), counted([YARD, *words])
 
     ratios = {}
     print('| file | work | ion | yard | ratio |\n|---|---|---|---|---|')

@@ -142,7 +142,7 @@ impl TextReader<'_, '_> {
                     }
                 }
             }
-            if self.lim.floats && matches!(c, b'.' | b'e' | b'E') && n <= 19 && self.float(h, d, n, v)? {
+            if self.lim.floats && matches!(c, b'.' | b'e' | b'E') && self.float(h)? {
                 return Ok(());
             }
             if n >= 20 {
@@ -152,11 +152,13 @@ impl TextReader<'_, '_> {
         }
     }
 
-    /// A float of at most 19 digits and a short exponent, whose first digits, at `d`, are `n` and `v`; false leaves it to the slow way.
+    /// A float of at most 19 digits and a short exponent; false leaves it to the slow way. It reads its first digits again, so
+    /// that their value is not kept where `number` has no use for it.
     #[inline(never)]
-    fn float<H: Handler>(&mut self, h: &mut H, d: usize, n: usize, v: u64) -> Res<bool> {
+    fn float<H: Handler>(&mut self, h: &mut H) -> Res<bool> {
         let s = self.w.pos;
-        let Some((digits, power, end)) = self.short_float(d, n, v) else { return Ok(false) };
+        let d = s + (self.w.b(s) == b'-') as usize;
+        let Some((digits, power, end)) = self.short_float(d) else { return Ok(false) };
         if (end - s) as u64 > self.lim.scalar {
             return refuse(Reason::ScalarLimit, self.w.place(s));
         }
@@ -175,22 +177,24 @@ impl TextReader<'_, '_> {
         Ok(true)
     }
 
-    /// Its digits, their power of ten and its end.
+    /// The digits of such a float from `d` on, their power of ten and its end.
     #[inline(always)]
-    fn short_float(&self, d: usize, n: usize, v: u64) -> Option<(u64, i64, usize)> {
+    fn short_float(&self, d: usize) -> Option<(u64, i64, usize)> {
         // SAFETY: a place up to the end and its slack
         let load = |i: usize| eight(unsafe { (self.w.ptr(i) as *const u64).read_unaligned() });
-        let (mut p, mut digits, mut places) = (d + n, v, 0);
-        if self.w.b(p) == b'.' {
-            p += 1;
-            while places < 24 {
-                let (m, part) = load(p);
-                digits = digits.wrapping_mul(P10[m]).wrapping_add(part);
-                (p, places) = (p + m, places + m);
-                if m < 8 {
-                    break;
-                }
+        let run = |mut p: usize, mut digits: u64| loop {
+            let (m, part) = load(p);
+            digits = digits.wrapping_mul(P10[m]).wrapping_add(part);
+            p += m;
+            if m < 8 || p - d > 24 {
+                return (p, digits);
             }
+        };
+        let (mut p, mut digits) = run(d, 0);
+        let (n, mut places) = (p - d, 0);
+        if self.w.b(p) == b'.' {
+            (p, digits) = run(p + 1, digits);
+            places = p - d - n - 1;
         }
         let sign = self.w.b(p + 1);
         let first = p + 1 + (sign == b'-' || sign == b'+') as usize;

@@ -100,7 +100,6 @@ impl TextReader<'_, '_> {
                 if n <= 10 && matches!(c, b'.' | b'd' | b'D') {
                     // a decimal of at most 18 digits and a short exponent
                     let mut q = p;
-                    let mut v = v;
                     let mut places = 0;
                     let mut e = c;
                     if c == b'.' {
@@ -142,9 +141,6 @@ impl TextReader<'_, '_> {
                     }
                 }
             }
-            if self.lim.floats && matches!(c, b'.' | b'e' | b'E') && self.float(h)? {
-                return Ok(());
-            }
             if n >= 20 {
                 return self.number_big(h);
             }
@@ -153,8 +149,8 @@ impl TextReader<'_, '_> {
     }
 
     /// A float of at most 19 digits and a short exponent; false leaves it to the slow way. It reads its first digits again, so
-    /// that their value is not kept where `number` has no use for it.
-    #[inline(never)]
+    /// that `number` need not keep their value where nothing else wants it.
+    #[inline(always)]
     fn float<H: Handler>(&mut self, h: &mut H) -> Res<bool> {
         let s = self.w.pos;
         let d = s + (self.w.b(s) == b'-') as usize;
@@ -240,6 +236,9 @@ impl TextReader<'_, '_> {
 
     #[inline(never)]
     pub(super) fn number_slow<H: Handler>(&mut self, h: &mut H) -> Res {
+        if self.lim.floats && self.float(h)? {
+            return Ok(());
+        }
         let mut n = 0;
         let place = self.w.place(self.w.pos);
         loop {

@@ -1,6 +1,7 @@
 //! `yard batch`: one case a line, one result a line.
 //! `TO DEPTH SCALAR SYMBOLS VALUE 1 CATALOGUE|- INPUT|-`: what to write (`text`, `binary`, `nothing`, `other`), limits,
-//! the form of the output (there is one), and the bytes of a catalogue and of the input in hexadecimal.
+//! the form of the output (there is one), and the bytes of a catalogue and of the input in hexadecimal. `--floats` holds for
+//! all lines.
 
 use crate::common::*;
 use crate::run::*;

@@ -67,7 +67,7 @@ pub unsafe fn put_octets(p: *mut u8, x: f64) -> usize {
     9
 }
 
-/// The canonical text, after its sign: how many bytes. Room of 32.
+/// The canonical text: how many bytes. Room of 32.
 #[inline(always)]
 pub unsafe fn put_text(p: *mut u8, x: f64, put_digits: unsafe fn(*mut u8, u64) -> usize) -> usize {
     let word: &[u8] = match x.classify() {

@@ -6,8 +6,8 @@ usage: bench/beside.py ION FOLDER [RUNS [KIND ..]]
 FOLDER is made by `bench/streams.py FOLDER [MB]`. Each command on each file, in text and in binary, one run of each program in
 turn, the best of RUNS (7) in processor time (user and system). A row in Markdown for each work: MB of input a second of both, the
 ratio of times (above 1: ion is slower), and whether the outputs are the same by SHA-256. Work that `ion` refuses is left
-out. `(cd bench/yard && cargo build --release --offline)` builds yard, which needs nothing but Rust's own library; YARD in
-the environment names another place of it.
+out; both are given --floats for the kind floats. `(cd bench/yard && cargo build --release --offline)` builds yard, which needs
+nothing but Rust's own library; YARD in the environment names another place of it.
 """
 import hashlib
 import os

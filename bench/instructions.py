@@ -6,7 +6,7 @@ usage: bench/instructions.py ION FOLDER [KIND ..]
 FOLDER is made by `bench/streams.py FOLDER 2` (2 MB a file). `valgrind --tool=callgrind` counts, some six minutes for all on
 two cores; JOBS (2) in the environment is how many run at a time. A row in Markdown for each file and work: millions of
 instructions of both, less those of an empty run, and the ratio (above 1: ion takes more); then the ratios' median and greatest,
-without and with strings and blobs. bench/beside.py says how yard is built.
+without and with strings and blobs. Both are given --floats for the kind floats. bench/beside.py says how yard is built.
 """
 import os
 import re

@@ -19,10 +19,6 @@ as_scalar text code.String = value.string text
 as_scalar text code.Clob = value.clob text
 as_scalar text code.Blob = value.blob text
 
--- the type codes of numbers, timestamps and symbols
-abbrev pub IsNumberCode : ℕ → Type 0
-IsNumberCode type_code = (2 ≤ type_code) × (type_code ≤ 7)
-
--- the type codes of all scalars that have bodies: those, and strings, clobs and blobs
+-- the type codes of all scalars that have bodies: numbers, timestamps, symbols, strings, clobs and blobs
 abbrev pub IsBodyTypeCode : ℕ → Type 0
 IsBodyTypeCode type_code = (2 ≤ type_code) × (type_code ≤ 10)

@@ -351,9 +351,11 @@ fn limits_of(options: &ArgMatches<'_>) -> Option<Limits>
 fn profile_of(options: &ArgMatches<'_>) -> Profile
     ensures { result ≡ profile_in (rows_of (found_of options.now)) }
 {
-    Profile {
-        floats: options.get_str("floats") == Some("true"),
-    }
+    let floats = match options.get_str("floats") {
+        Some(word) => word == "true",
+        None => false,
+    };
+    Profile { floats }
 }
 
 /// The action that a subcommand stands for, with the word that `--to` gives it.

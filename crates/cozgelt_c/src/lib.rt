@@ -195,7 +195,9 @@ fn convert_by(
     let (loaded, _) = load_catalog(&mut meter, limits, FromRead::new(catalog));
     match loaded {
         Ok(tables) => {
-            let status = convert_with(alloc, &mut meter, &tables, limits, task, stream, room, answer);
+            let status = convert_with(
+                alloc, &mut meter, &tables, limits, task, stream, room, answer,
+            );
             tables.release(&mut meter);
             status
         }
@@ -224,7 +226,8 @@ fn convert(
 {
     match profile_of(profile) {
         Some(profile) => {
-            convert_by(alloc, limits, Task { profile, to }, catalog, stream, room, answer)
+            let task = Task { profile, to };
+            convert_by(alloc, limits, task, catalog, stream, room, answer)
         }
         None => INVALID,
     }
@@ -251,7 +254,7 @@ pub extern "C" fn cozgelt_to_text(
     ensures { Answers limits.now to.Text catalog.now stream.now result
         answer.old answer.new room.old room.new }
 {
-    convert(alloc, STRICT, limits, To::Text, catalog, stream, room, answer)
+    cozgelt_to_text_with(alloc, STRICT, limits, catalog, stream, room, answer)
 }
 
 /// The stream, a text, as canonical binary; one that is binary is refused as `SameForm` at 0.
@@ -267,7 +270,7 @@ pub extern "C" fn cozgelt_to_binary(
     ensures { Answers limits.now to.Binary catalog.now stream.now result
         answer.old answer.new room.old room.new }
 {
-    convert(alloc, STRICT, limits, To::Binary, catalog, stream, room, answer)
+    cozgelt_to_binary_with(alloc, STRICT, limits, catalog, stream, room, answer)
 }
 
 /// The stream's verdict alone: its output is empty, and the room stays as it is.
@@ -283,7 +286,7 @@ pub extern "C" fn cozgelt_check(
     ensures { Answers limits.now to.Nothing catalog.now stream.now result
         answer.old answer.new room.old room.new }
 {
-    convert(alloc, STRICT, limits, To::Nothing, catalog, stream, room, answer)
+    cozgelt_check_with(alloc, STRICT, limits, catalog, stream, room, answer)
 }
 
 /// The stream as canonical text, where it is read by the profile that a number names.
@@ -300,7 +303,8 @@ pub extern "C" fn cozgelt_to_text_with(
     ensures { AnswersAt profile limits.now to.Text catalog.now stream.now result
         answer.old answer.new room.old room.new }
 {
-    convert(alloc, profile, limits, To::Text, catalog, stream, room, answer)
+    let to = To::Text;
+    convert(alloc, profile, limits, to, catalog, stream, room, answer)
 }
 
 /// The stream, a text, as canonical binary, where it is read by the profile that a number names.
@@ -317,7 +321,8 @@ pub extern "C" fn cozgelt_to_binary_with(
     ensures { AnswersAt profile limits.now to.Binary catalog.now stream.now result
         answer.old answer.new room.old room.new }
 {
-    convert(alloc, profile, limits, To::Binary, catalog, stream, room, answer)
+    let to = To::Binary;
+    convert(alloc, profile, limits, to, catalog, stream, room, answer)
 }
 
 /// The stream's verdict alone, where it is read by the profile that a number names.
@@ -334,5 +339,6 @@ pub extern "C" fn cozgelt_check_with(
     ensures { AnswersAt profile limits.now to.Nothing catalog.now stream.now result
         answer.old answer.new room.old room.new }
 {
-    convert(alloc, profile, limits, To::Nothing, catalog, stream, room, answer)
+    let to = To::Nothing;
+    convert(alloc, profile, limits, to, catalog, stream, room, answer)
 }

@@ -1,5 +1,5 @@
 /* Amazon Ion 1.0 in the caller's memory, text or binary: as canonical text, as binary, or checked. It is a transcoder: no value can
- * be read from it but out of what it writes. A float other than null.float is refused (Float, 11) but by calls that are given
+ * be read from it but out of what it writes. A float other than null.float is refused (Float, 11), unless a call is given
  * COZGELT_FLOATS.
  *
  * What a call answers (but for want of memory), and every byte that it writes, is proved (crates/cozgelt_c), of callers that keep what no
@@ -68,9 +68,9 @@ enum {
     COZGELT_CATALOG_REFUSED = 6   /* the catalogue is refused: reason and place are of it */
 };
 
-/* What a stream is read by: the profile of the calls _with. The other calls are those at COZGELT_STRICT. */
+/* Which values a stream may have: the profile of the calls with _with in their names. The others are these at COZGELT_STRICT. */
 enum {
-    COZGELT_STRICT = 0, /* of floats null.float alone: any other is refused (Float, 11) */
+    COZGELT_STRICT = 0, /* no float but null.float: any other is refused (Float, 11) */
     COZGELT_FLOATS = 1  /* floats too */
 };
 
@@ -93,7 +93,7 @@ uint32_t cozgelt_to_binary(const CozgeltLimits *limits, const uint8_t *catalog, 
 uint32_t cozgelt_check(const CozgeltLimits *limits, const uint8_t *catalog, size_t catalog_len, const uint8_t *stream,
                        size_t stream_len, uint8_t *room, size_t room_len, CozgeltAnswer *answer);
 
-/* The three by a profile; the catalogue is read by COZGELT_STRICT under each. A float's canonical text has the fewest digits that are
+/* The three with a profile; the catalogue is always read by COZGELT_STRICT. A float's canonical text has the fewest digits that are
  * read as it (1.5e0, -0e0, 5e-324, nan, +inf, -inf), its canonical binary the fewest octets: none for 0e0, 4 where binary32 has its
  * value, else 8. */
 uint32_t cozgelt_to_text_with(uint32_t profile, const CozgeltLimits *limits, const uint8_t *catalog, size_t catalog_len,

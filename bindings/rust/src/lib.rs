@@ -2,7 +2,7 @@
 //! Cozgelt. What is accepted, what is refused, why and where, and every byte of the output are what its definitions say.
 //!
 //! It is a transcoder: no value can be read from it but out of what it writes. A float other than `null.float` is refused
-//! ([`Reason::Float`]) but by the calls that are given [`Profile::Floats`].
+//! ([`Reason::Float`]), unless a call is given [`Profile::Floats`].
 //!
 //! ```
 //! use cozgelt::{check, to_binary, to_text, to_text_with, Error, Limits, Profile, Reason};
@@ -81,11 +81,11 @@ macro_rules! changed {
 
 changed! { depth: u32, scalar: u64, symbols: u64, value: u64, input: u64 }
 
-/// What a stream is read by. The catalogue is read by `Strict` under each.
+/// Which values a stream may have. The catalogue is always read by `Strict`.
 #[derive(Clone, Copy, Debug, Default, PartialEq, Eq, Hash)]
 #[non_exhaustive]
 pub enum Profile {
-    /// Of floats `null.float` alone: any other is refused. So read the calls that are given no profile.
+    /// No float but `null.float`: any other is refused. So read the calls without a profile.
     #[default]
     Strict = 0,
     /// Floats too.
@@ -315,7 +315,7 @@ pub fn check(stream: &[u8], catalog: &[u8], limits: &Limits) -> Result<u64, Erro
     check_with(Profile::Strict, stream, catalog, limits)
 }
 
-/// As [`to_text`], by a profile.
+/// As [`to_text`], with a profile.
 pub fn to_text_with(
     profile: Profile,
     stream: &[u8],
@@ -333,7 +333,7 @@ pub fn to_text_with(
     .0)
 }
 
-/// As [`to_binary`], by a profile.
+/// As [`to_binary`], with a profile.
 pub fn to_binary_with(
     profile: Profile,
     stream: &[u8],
@@ -351,7 +351,7 @@ pub fn to_binary_with(
     .0)
 }
 
-/// As [`check`], by a profile.
+/// As [`check`], with a profile.
 pub fn check_with(
     profile: Profile,
     stream: &[u8],

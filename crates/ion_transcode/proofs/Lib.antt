@@ -31,6 +31,7 @@ mod NoneRefused
 mod Accepted
 mod AcceptedTrees
 mod ReadWhole
+mod StrictAccepted
 mod OpenContainers
 mod NoDeeper
 mod WrittenFits

@@ -41,3 +41,4 @@ mod TopRows
 mod WrittenRows
 mod TreeRows
 mod ShownRows
+mod FloatRows

@@ -8,13 +8,11 @@ use Rattle.ion_value.specs.Path.{closed, path_items}
 use Rattle.ion_value.specs.Reading.{Reading, Finished, items_then}
 use Rattle.ion_value.specs.ReadingLaws.{AreWithin, ending_of}
 use Rattle.ion_value.specs.Value.{PlacedItem}
-use Rattle.ion_symbols.specs.Table.{Shared}
 use Rattle.ion_binary.specs.Laws.{IsCut, here, later, Narrow}
 use Rattle.ion_text_in.specs.Laws.{StrictIsReadAlike}
 use Rattle.ion_transcode.specs.declared.to.Form.{Form}
 use Rattle.ion_transcode.specs.declared.to.Form.TheVariants as form
 use Rattle.ion_transcode.specs.declared.to.Target.{Target}
-use Rattle.ion_transcode.specs.declared.to.To.{To}
 use Rattle.ion_transcode.specs.Acceptance.{WhatIsReadIsAccepted, WhatIsAcceptedIsRead}
 use Rattle.ion_transcode.specs.Forms.{form_of, reading_of}
 use Rattle.ion_transcode.specs.Laws.{WhatStrictAcceptsIsAccepted}

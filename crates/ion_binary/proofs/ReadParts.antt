@@ -103,11 +103,11 @@ scalar-parts limits a type_code length_code c =
     bind-parts limits (length_at length_code a.region c) (λ n. bodied limits a type_code n.1.place n.0) (λ n. body_at limits a type_code n.0 n.1) (λ n. body-parts limits a type_code n.0 n.1)
 
 -- a float is one where floats are read
-float-parts : (limits : Rules) (a : Around) (length_code : ℕ) (c : Cursor) (on : Bool) → limits.floats ≡ on
-    → (refuse (not limits.floats) Float >> scalar_at limits a 4 length_code c) ≡ (found_at limits a (Shape.float length_code) c >>= rest_of limits)
+float-parts : (limits : Rules) (a : Around) (length_code : ℕ) (c : Cursor) (on : Bool) → (refuse (not on) Float >> scalar_at limits a 4 length_code c)
+    ≡ ((length_at (if on then length_code else 0) a.region c >>= λ n. ((refuse (not on) Float >> bodied limits a 4 n.1.place n.0) >>= beside_found n.1)) >>= rest_of limits)
 unfolding length_at
-float-parts limits a length_code c true e = rw e (scalar-parts limits a 4 length_code c)
-float-parts limits a length_code c false e = rw e refl
+float-parts limits a length_code c true = scalar-parts limits a 4 length_code c
+float-parts limits a length_code c false = refl
 
 read_by-parts : (limits : Rules) (a : Around) (s : Shape) (c : Cursor) → passes a.region c.place 0 ≡ false → wrapper_length s ≡ None → read_by_descriptor limits a s c ≡ (found_at limits a s c >>= rest_of limits)
 unfolding read_by_descriptor rest_at bare_at nop_pad_at scalar_at container_at sorted_at marker_at length_at
@@ -126,7 +126,7 @@ read_by-parts limits a Shape.sorted c within none =
     (λ n. ap (λ y. refuse (nat_eq n.0 0) BadDescriptor >> y) (begin-parts limits a kind.Struct n.0 n.1) ∙ then-bind (refuse (nat_eq n.0 0) BadDescriptor) (begun limits a kind.Struct n.1.place n.0) (λ f. rest_at limits f n.1))
 read_by-parts limits a Shape.marker c within none =
     then-bind (refuse (not (is_top a.region)) BadDescriptor) (Ok found.Marker) (λ f. rest_at limits f c) ∙ found-rest limits (refuse (not (is_top a.region)) BadDescriptor >> Ok found.Marker) c
-read_by-parts limits a (Shape.float length_code) c within none = float-parts limits a length_code c limits.floats refl
+read_by-parts limits a (Shape.float length_code) c within none = float-parts limits a length_code c limits.floats
 read_by-parts limits a Shape.illegal c within none = refl
 
 -- ---- a descriptor octet

@@ -1,5 +1,5 @@
 -- What scanners show of octets in a window is what reading gives there.
-use Rattle.std.proofs.Common.{◌≡◌, ℕ, suc, ◌+◌, ◌-◌, ◌^◌, ◌<◌, ◌≤◌, ◌&&◌, ◌==◌, Bool, true, false, List, [], ◌∷◌, ◌++◌, length, take, drop, get_or, inl, inr, Some, None, slice_get, Result, Ok, Err, refl, ap, sym, ◌∙◌, arith, add-one}
+use Rattle.std.proofs.Common.{◌≡◌, ℕ, suc, ◌+◌, ◌-◌, ◌^◌, ◌<◌, ◌≤◌, ◌&&◌, ◌==◌, Bool, true, false, if◌then◌else◌, List, [], ◌∷◌, ◌++◌, length, take, drop, get_or, inl, inr, Some, None, slice_get, Result, Ok, Err, refl, ap, sym, ◌∙◌, arith, add-one}
 use Rattle.std.proofs.lemmas.Bool.{cases_lt, eqb-false, eqb-true, le-leb, lt-leb}
 use Rattle.std.proofs.lemmas.Grind.{common_steps}
 use Rattle.std.proofs.lemmas.Option.{slice_get-get_or}
@@ -105,6 +105,10 @@ window-sliced place octets more h =
 
 -- ---- a descriptor and its length
 
+read-small : (on : Bool) (n : ℕ) → n < 15 → (if on then n else 0) < 15
+read-small true n h = h
+read-small false n h = omega arith
+
 -- the length code of a descriptor
 pub length_code-small : (limits : Rules) (s : Shape) → IsOfDescriptor s → length_code_of limits s < 15
 length_code-small limits (Shape.nop_pad length_code) h = h
@@ -115,10 +119,7 @@ length_code-small limits Shape.sorted h = omega arith
 length_code-small limits (Shape.null t) h = omega arith
 length_code-small limits (Shape.bool truth) h = omega arith
 length_code-small limits Shape.marker h = omega arith
-length_code-small limits (Shape.float length_code) h = elim (limits.floats) [
-  | true ↦ h
-  | false ↦ omega arith
-]
+length_code-small limits (Shape.float length_code) h = read-small limits.floats length_code h
 length_code-small limits Shape.illegal h = omega arith
 
 pub found_at-no_length : (limits : Rules) (a : Around) (s : Shape) (c : Cursor) (e : Reason) → length_at (length_code_of limits s) a.region c ≡ Err e → found_at limits a s c ≡ Err e

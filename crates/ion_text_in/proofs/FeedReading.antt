@@ -1,8 +1,10 @@
 -- What the bytes of a window show of the next token, as reading has it.
 use Rattle.std.proofs.Common.{◌≡◌, ℕ, zero, suc, ◌+◌, ◌-◌, ◌<◌, ◌≤◌, Bool, true, false, not, nat_le, ◌==◌, List, [], ◌∷◌, ◌++◌, length, take, drop, get_or, Option, Some, None, IfSome, Ok, refl, sym, ap, subst, ◌∙◌, arith, append_assoc}
 use Rattle.std.proofs.lemmas.List.{take-append-drop, drop-drop, length-drop, length-take-le}
+use lib.Ieee.{Float}
 use Rattle.ion_meter.specs.Sources.{Cursor, skip}
 use Rattle.ion_meter.specs.declared.profile.Rules.{Rules}
+use Rattle.ion_meter.specs.declared.fault.Reason.TheVariants as reason
 use Rattle.ion_meter.specs.declared.fault.Reason.TheVariants.{BadToken, DepthLimit}
 use Rattle.ion_value.specs.declared.ion_type.Kind.{Kind}
 use Rattle.ion_value.specs.Digits.{all_are, first_is}
@@ -19,20 +21,23 @@ use Rattle.ion_text_in.specs.declared.feed.spot.Start.{Start}
 use Rattle.ion_text_in.specs.declared.expected.Expected.{Expected}
 use Rattle.ion_text_in.specs.declared.expected.Expected.TheVariants as codes
 use Rattle.ion_text_in.specs.declared.number.Number.{Number}
+use Rattle.ion_text_in.specs.declared.number.Numeral.TheVariants as numerals
 use Rattle.ion_text_in.specs.declared.number.Number.TheVariants as numbers
 use Rattle.ion_text_in.specs.declared.quick.Quick.{Quick}
 use Rattle.ion_text_in.specs.declared.scanned.Scanned.TheVariants.{Whole}
 use Rattle.ion_text_in.specs.Expecting.{wanted, MayExpect}
 use Rattle.ion_text_in.specs.Quick.{as_quick}
 use Rattle.ion_text_in.specs.Scanners.{Shows}
-use Rattle.ion_text_in.specs.Views.{as_number, number_token}
+use Rattle.ion_text_in.specs.Views.{as_number, number_token, numeral_token}
+use Rattle.ion_value.specs.Float.{IsFloat, value_of}
+use Rattle.ion_value.specs.declared.float.Float64.{Float64}
 use Rattle.ion_value.specs.Items.{raw_head}
 use Rattle.ion_value.specs.PlainItems.{IsPlainScalar, IsTextOf}
 use Rattle.ion_value.specs.Standing.{InRange}
 use Rattle.ion_text_in.specs.Feeding.{expected_of, item_in, place_in, state, Begins, BeginsAs, IsAfter, IsFound, IsHead, IsHeadAs, IsNext, IsStart, Onward, PassesBlanks}
 use Rattle.ion_text_in.specs.Meaning.{at}
 use Rattle.ion_text_in.specs.Positions.{Wants, a_value, a_field, a_separator, innermost, in_sexp}
-use Rattle.ion_text_in.specs.Reading.{take as taken, may_come, at_member, after_member, is_same, item_step, item_of, member_of, top_of}
+use Rattle.ion_text_in.specs.Reading.{take as taken, may_come, at_member, after_member, is_same, item_step, scalar_step, item_of, member_of, top_of}
 use Rattle.ion_text_in.specs.Scanning.{moved_to}
 use Rattle.ion_text_in.specs.Steps.{comes, later}
 use Rattle.ion_text_in.specs.Token as tokens
@@ -302,6 +307,20 @@ pub head-number : {limits : Rules} {place n : ℕ} {bytes rest : List ℕ} (x : 
     → InRange (as_number x) → BeginsAs tokens.a_run bytes → IsHead limits place bytes (value.whole (as_number x)) rest
 head-number {limits} {place} {n} {bytes} {rest} x after counts shows range begins =
     head-token (as_number x) (as_number x) (number-simple x) range (token-front after counts shows.0 shows.1 begins) (λ kinds top q field annotations more. plain-taken limits kinds top place q field annotations (as_number x) (rest ++ more))
+
+float-taken : (limits : Rules) (kinds : List Kind) (top place q : ℕ) (field : Option SymbolAt) (annotations : List SymbolAt) (x : Float) (rest : List ℕ) → limits.floats ≡ true
+    → comes limits (taken limits kinds top (a_value field annotations) place (tokens.float (Some x)) (at q rest))
+    ≡ More (item_in kinds top field annotations place (value.whole (value.float x))) (later limits (state kinds (top_of kinds top annotations place) (after_member (innermost kinds)) q rest))
+unfolding taken
+float-taken limits kinds top place q field annotations x rest on =
+    ap (λ (b : Bool). comes limits (part place (refuse (not b) reason.Float >> Ok (scalar_step kinds top field annotations place (value.float x) (at q rest))))) on
+
+pub head-float : {limits : Rules} {place n : ℕ} {bytes rest : List ℕ} (x : Float64) → limits.floats ≡ true → rest ≡ drop n bytes → 0 < n
+    → Shows numeral_token bytes (Whole (numerals.Float (Some x)) n) (token_of (Some limits.scalar) tokens.a_run) → IsFloat (value_of x) → BeginsAs tokens.a_run bytes
+    → IsHead limits place bytes (value.whole (value.float (value_of x))) rest
+head-float {limits} {place} {n} {bytes} {rest} x on after counts shows range begins =
+    let body : Scalar SymbolAt = value.float (value_of x) in
+    head-token body body tt range (token-front after counts shows.0 shows.1 begins) (λ kinds top q field annotations more. float-taken limits kinds top place q field annotations (value_of x) (rest ++ more) on)
 
 -- the code found a number that it read in one pass
 pub found-number : {limits : Rules} {place : ℕ} {bytes : List ℕ} {found : Found} (x : Quick) → raw_head found.head ≡ value.whole (as_number (as_quick x)) → found.rest.now ≡ drop x.count bytes → 0 < x.count

@@ -21,7 +21,7 @@ use crate::blank::run_without;
 use crate::gather::{copy, gather_token};
 use crate::run::{Run, token_extent};
 use crate::scanned::Scanned;
-use ion_float::text::{float_from_plain_text, nearest_float};
+use ion_float::text::nearest_float;
 use ion_meter::buf::Buf;
 use ion_meter::device::Input;
 use ion_meter::fault::{Fault, Reason};
@@ -174,6 +174,7 @@ fn number_of(run: &[u8]) -> Result<Number, Reason>
 // The float of a run that has the shape of one, where there is no underscore in it.
 #[inline(never)]
 fn plain_float(run: &[u8]) -> Option<Option<Float64>>
+    requires { decimal_of_text run.now ≡ Err Reason.Float }
     ensures is { IfSome result
         (λ x. option_map value_of x ≡ found_float (float_of_text run.now)) }
     ensures range { IfSome result (λ x. IfSome x (λ f. IsFloat (value_of f))) }
@@ -181,7 +182,7 @@ fn plain_float(run: &[u8]) -> Option<Option<Float64>>
     if run_without(b'_', b'_', run) < run.len() {
         return None;
     }
-    Some(found(float_from_plain_text(run)))
+    Some(found(nearest_float(run)))
 }
 
 // The float of a run that has the shape of one. Its underscores are closed up in place, so its bytes

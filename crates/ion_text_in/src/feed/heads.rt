@@ -111,7 +111,7 @@ fn head_of<'a>(number: Number) -> Head<'a>
     }
 }
 
-/// Any number or timestamp.
+/// Any number or timestamp, and a float where floats are read.
 #[inline(never)]
 pub(super) fn run_head<'a>(limits: Rules, place: u64, bytes: &'a [u8]) -> Option<Found<'a>>
     requires { BeginsAs a_run bytes.now }
@@ -120,6 +120,9 @@ pub(super) fn run_head<'a>(limits: Rules, place: u64, bytes: &'a [u8]) -> Option
     match scan_number(limits.scalar, bytes) {
         Scanned::Whole(Numeral::Number(number), count) => {
             Some(found_as(head_of(number), after(count, bytes)))
+        }
+        Scanned::Whole(Numeral::Float(Some(float)), count) if limits.floats => {
+            Some(found_as(Head::Float(float), after(count, bytes)))
         }
         _ => None,
     }

@@ -1,5 +1,5 @@
 -- An item that a window shows whole is the next one of the reading.
-use Rattle.std.proofs.Common.{◌≡◌, ℕ, ◌+◌, ◌-◌, ◌*◌, ◌<◌, ◌≤◌, Bool, true, false, List, [], ◌∷◌, ◌++◌, length, drop, map, Option, Some, None, Ok, refl, ap, ap₂, sym, subst, ◌∙◌, arith}
+use Rattle.std.proofs.Common.{◌≡◌, ℕ, ◌+◌, ◌-◌, ◌*◌, ◌^◌, ◌<◌, ◌≤◌, Bool, true, false, List, [], ◌∷◌, ◌++◌, length, drop, map, Option, Some, None, Ok, refl, ap, ap₂, sym, subst, ◌∙◌, arith}
 use Rattle.std.specs.Prelude.{option_map, is_some, slice_get, IfSome, ◌==◌, ◌&&◌, not}
 use Rattle.std.proofs.lemmas.Option.{slice_get-get_or}
 use Rattle.std.proofs.lemmas.Grind.{common_steps}
@@ -17,14 +17,13 @@ use Rattle.ion_value.specs.Value as value
 use Rattle.ion_value.specs.Value.{SymbolAt, PlacedItem}
 use Rattle.ion_value.proofs.Readings.{reading_by-gives}
 use Rattle.ion_binary.specs.declared.wrapper.Frame as frame
-use Rattle.ion_binary.specs.declared.shown.Shown.{Shown}
-use Rattle.ion_binary.specs.declared.shown.ShownNote.{ShownNote}
+use Rattle.ion_binary.specs.declared.reader.front.ShownNote.{ShownNote}
 use Rattle.ion_binary.specs.Positions.{Frame, placed_scalar, symbol_id}
 use Rattle.ion_binary.specs.Descriptor.{var_uint_at}
-use Rattle.ion_binary.specs.Reading.{field_at, member_at, placed_item, region_of, step, step_for, step_of, top_of}
+use Rattle.ion_binary.specs.Reading.{TypedValue, field_at, member_at, placed_item, region_of, step, step_for, step_of, top_of}
 use Rattle.ion_binary.specs.Reader.{IsInnermost, at_top, inside}
-use Rattle.ion_binary.specs.Scanned.{Reaches, window}
-use Rattle.ion_binary.specs.Shown.{Bounds, ShowsItem, ShowsNote, ShowsVar, noted_ids, second_id, shown_value}
+use Rattle.ion_binary.specs.Scanned.{EndsAt, Reaches, window}
+use Rattle.ion_binary.specs.Shown.{ShowsItem, ShowsNote, ShowsVar, noted_ids, second_id}
 use Rattle.ion_binary.proofs.ScannedParts.{left-window, reaches-less}
 use Rattle.ion_binary.proofs.ShownParts.{shows_noted, shows_plain}
 use Rattle.ion_value.specs.declared.plain_item.TextAt.{TextAt}
@@ -65,10 +64,10 @@ step-member limits frames None top here octets more inner goes_on some = step-to
 step-member limits frames (Some f) top here octets more inner goes_on some = inside-member limits frames f top (window here octets more) inner goes_on
 
 -- a member that is shown is the next step
-pub member_shown : (limits : Limits) (frames : List Frame) (f : Option frame.Frame) (top here at head after : ℕ) (raws : List SymbolAt) (texts : ℕ → Option (List ℕ)) (octets more : List ℕ) (field : Option TextAt) (found : Shown)
+pub member_shown : (limits : Limits) (frames : List Frame) (f : Option frame.Frame) (top here at head after : ℕ) (raws : List SymbolAt) (texts : ℕ → Option (List ℕ)) (octets more : List ℕ) (field : Option TextAt) (found : TypedValue)
     → IsInnermost frames f → GoesOn f here → (name : ShowsField texts octets here (innermost f) field at) → ShowsItem limits octets here (region_of (innermost f)) (length frames) at head after raws found
     → step limits (record { frames = frames; top = top; cursor = window here octets more })
-    ≡ step_for frames (top_of frames top here) name.raw raws (here + head) (shown_value found) (skip after (window here octets more))
+    ≡ step_for frames (top_of frames top here) name.raw raws (here + head) found (skip after (window here octets more))
 member_shown limits frames f top here at head after raws texts octets more field found inner goes_on name v =
     let some : 0 < length octets = omega (arith, v.further, v.within) in
     let c = window here octets more in
@@ -123,7 +122,7 @@ front_bare texts limits octets here frames field at name = record {
   quoted = tt;
   second = tt;
   within = name.within;
-  gives = λ depth after found v full. shows_plain limits octets here (region_of frames) depth at after found v;
+  gives = λ depth after found v. shows_plain limits octets here (region_of frames) depth at after found v;
 }
 
 -- annotations by the ids of a wrapper
@@ -158,7 +157,7 @@ front_noted texts limits octets here frames field at note t u name n first secon
   quoted = first.quoted;
   second = second-quoted texts here t note.second u second;
   within = n.within;
-  gives = λ depth after found v full. shows_noted limits octets here (region_of frames) depth at after note found n v full;
+  gives = λ depth after found v. shows_noted limits octets here (region_of frames) depth at after note found n v;
 }
 
 -- ---- a member, and where the reader stands after it
@@ -169,18 +168,18 @@ top-innermost _ _ top place (inside f outer) = refl
 
 -- the step that a member gives that is shown, its octets being passed over
 pub step_shown : {I : Type 0} (device : InputOf I) (limits : Limits) (frames : List Frame) (f : Option frame.Frame) (top after at head : ℕ) (raws : List SymbolAt) (s t : Incoming I) (texts : ℕ → Option (List ℕ)) (field : Option TextAt)
-    (found : Shown) → IsInnermost frames f → GoesOn f s.place → (name : ShowsField texts (lent s) s.place (innermost f) field at)
+    (found : TypedValue) → IsInnermost frames f → GoesOn f s.place → (name : ShowsField texts (lent s) s.place (innermost f) field at)
     → ShowsItem limits (lent s) s.place (region_of (innermost f)) (length frames) at head after raws found → IsPassed s t after
     → step limits (record { frames = frames; top = top; cursor = cursor device s })
-    ≡ step_for frames (top_of (innermost f) top s.place) name.raw raws (s.place + head) (shown_value found) (cursor device t)
+    ≡ step_for frames (top_of (innermost f) top s.place) name.raw raws (s.place + head) found (cursor device t)
 step_shown device limits frames f top after at head raws s t texts field found inner goes_on name v passed =
     let more = drop (length (lent s)) (left device.rest s) in
     let shown = left-window device s in
     let further : skip after (window s.place (lent s) more) ≡ cursor device t = ap (skip after) (sym shown) ∙ sym (IsPassed-cursor device s t after v.within passed) in
     ap (λ c. step limits (record { frames = frames; top = top; cursor = c })) shown
     ∙ (member_shown limits frames f top s.place at head after raws texts (lent s) more field found inner goes_on name v
-    ∙ (ap (λ n. step_for frames n name.raw raws (s.place + head) (shown_value found) (skip after (window s.place (lent s) more))) (top-innermost frames f top s.place inner)
-    ∙ ap (λ c. step_for frames (top_of (innermost f) top s.place) name.raw raws (s.place + head) (shown_value found) c) further))
+    ∙ (ap (λ n. step_for frames n name.raw raws (s.place + head) found (skip after (window s.place (lent s) more))) (top-innermost frames f top s.place inner)
+    ∙ ap (λ c. step_for frames (top_of (innermost f) top s.place) name.raw raws (s.place + head) found c) further))
 
 reverse-push : {X : Type 0} (xs : List X) (x : X) → reverse (xs ++ x ∷ []) ≡ x ∷ reverse xs
 reverse-push xs x = grind (arith, common_steps)
@@ -349,13 +348,13 @@ around_pushed frames f a k end = record {
   top = λ none. absurd (some_is (sym k ∙ none));
 }
 
-bounds_in : (k : Option Kind) (end : ℕ) → Bounds (region_of (innermost (frame_of k end))) end
-bounds_in None end = tt
-bounds_in (Some k) end = omega arith
+ends_in : (k : Option Kind) (end : ℕ) → (k ≡ None → end ≡ 2 ^ 64 - 1) → EndsAt (region_of (innermost (frame_of k end))) end
+ends_in None end top = top refl
+ends_in (Some k) end top = refl
 
--- the end of where a member stands bounds its region
-pub bounds_around : (a : Around) → Bounds (region_of (innermost (frame_in a))) a.end
-bounds_around a = bounds_in (kind_around a.level) a.end
+-- the region of a member ends where that says in which it stands
+pub ends_around : (frames : List Frame) (a : Around) → IsAround frames a → EndsAt (region_of (innermost (frame_in a))) a.end
+ends_around frames a i = ends_in (kind_around a.level) a.end i.top
 
 -- one that ends here is open
 pub ends-some : (o : Option frame.Frame) (place : ℕ) → EndsHere o place → (f : frame.Frame) × (o ≡ Some f) × (f.end ≤ place)

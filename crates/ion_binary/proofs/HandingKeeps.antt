@@ -71,12 +71,6 @@ held-within r sized = let few = sized.few in let noted = sized.annotated in let 
 opened-within : {I A : Type 0} (r : BinReader I A) → IsSized r → length r.frames < r.limits.depth → held_by r + 16 ≤ share_of r
 opened-within r sized few = let noted = sized.annotated in let short = sized.short in omega (arith, few, noted, short)
 
--- the place of a head that a window shows is a number of 64 bits
-pub head-fits : {I : Type 0} (s : Incoming I) (head : ℕ) → Stands s → head < length (lent s) → s.place + head < 2 ^ 64
-head-fits s head stands there =
-    let passes = (lent-CanPass s head (omega (arith, there))).1 in let within = stands.within in let small = stands.small in
-    omega (arith, passes, within, small)
-
 stands-passed : {I : Type 0} (s t : Incoming I) (k : ℕ) → Stands s → k ≤ length (lent s) → IsPassed s t k → Stands t
 stands-passed s t k stands there passed =
     let passes = (lent-CanPass s k there).1 in let within = stands.within in let small = stands.small in let place = passed.place in let limit = passed.limit in

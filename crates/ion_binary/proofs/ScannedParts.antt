@@ -129,7 +129,7 @@ pub found_at-found : (limits : Limits) (a : Around) (s : Shape) (c d : Cursor) (
     → found_at limits a s c ≡ Ok (f, d)
 found_at-found limits a s c d n f h m = rw (h, m) refl
 
-part_at-octet : (limits : Limits) (a : Around) (c d : Cursor) (b : ℕ) → octet_at a.region c ≡ Ok (b, d) → part_at limits a c ≡ (refuse (a.wrapped && is_unwrappable b) BadAnnotation >> found_at limits a (shape_of b) d)
+pub part_at-octet : (limits : Limits) (a : Around) (c d : Cursor) (b : ℕ) → octet_at a.region c ≡ Ok (b, d) → part_at limits a c ≡ (refuse (a.wrapped && is_unwrappable b) BadAnnotation >> found_at limits a (shape_of b) d)
 unfolding part_at
 part_at-octet limits a c d b o = rw o refl
 

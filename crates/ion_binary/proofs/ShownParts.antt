@@ -1,68 +1,29 @@
 -- What a window shows is what reading gives, whatever follows it.
-use Rattle.std.proofs.Common.{◌≡◌, ℕ, suc, ◌+◌, ◌*◌, ◌-◌, ◌%◌, ◌<◌, ◌≤◌, Bool, true, false, ◌&&◌, leb, ltb, List, [], ◌∷◌, ◌++◌, length, take, drop, get_or, Option, Some, None, Result, Ok, refl, ap, sym, subst, ◌∙◌, arith}
-use Rattle.std.specs.Prelude.{IfSome, ◌||◌, nat_eq, nat_le, nat_lt, zero}
-use Rattle.std.proofs.lemmas.Bool.{agree_below_at, le-leb, le-ltb, lt-leb, ne_eqb}
+use Rattle.std.proofs.Common.{◌≡◌, ℕ, suc, ◌+◌, ◌*◌, ◌-◌, ◌%◌, ◌<◌, ◌≤◌, true, false, ◌&&◌, List, [], ◌∷◌, ◌++◌, length, take, drop, get_or, Option, Some, None, Ok, refl, ap, sym, ◌∙◌, arith}
+use Rattle.std.specs.Prelude.{IfSome, nat_le, nat_lt, zero}
+use Rattle.std.proofs.lemmas.Bool.{le-leb, le-ltb, lt-leb}
 use Rattle.std.proofs.lemmas.Grind.{common_steps}
 use Rattle.std.proofs.lemmas.List.{take-append-le, drop-append-le}
 use Rattle.ion_meter.specs.Sources.{Cursor, skip}
-use Rattle.ion_meter.specs.declared.fault.Reason.{Reason}
+use Rattle.ion_meter.specs.declared.fault.Reason.TheVariants.{BadAnnotation}
 use Rattle.ion_meter.specs.declared.limits.Limits.{Limits}
 use Rattle.ion_value.specs.declared.ion_type.Kind.{Kind}
-use Rattle.ion_value.specs.Parts.{◌>>=◌}
+use Rattle.ion_value.specs.Parts.{◌>>=◌, ◌>>◌, part, refuse}
 use Rattle.ion_value.specs.Scalar.{scalar_of_body}
-use Rattle.ion_value.specs.Value as value
 use Rattle.ion_value.specs.Value.{Symbol, SymbolAt, Scalar}
+use Rattle.ion_binary.specs.declared.reader.front.ShownNote.{ShownNote}
+use Rattle.ion_binary.specs.declared.scan.Found.{Found}
+use Rattle.ion_binary.specs.declared.scan.Found.TheVariants as found
 use Rattle.ion_binary.specs.Positions.{symbol_id}
-use Rattle.ion_binary.specs.Descriptor.{Region, Shape, null, bool, nop_pad, wrapper, body, container, sorted, marker, float, illegal, is_unwrappable, length_at, passes, shape_of, var_uint_at}
-use Rattle.ion_binary.specs.Finds.{end_by}
-use Rattle.ion_binary.specs.Parts.{body_here}
-use Rattle.ion_binary.specs.Reading.{TypedValue, a_scalar, bare_at, fits, ids_at, inner_at, read_by_descriptor, typed_value_at, wrapper_length}
-use Rattle.ion_binary.specs.Scanned.{Reaches, window}
-use Rattle.ion_binary.specs.Shown.{Bounds, Fills, IsShown, ShowsBegin, ShowsBody, ShowsItem, ShowsLength, ShowsNote, ShowsSecond, ShowsValue, ShowsVar, far_end, noted_ids, second_id, shown_scalar, shown_value}
-use Rattle.ion_binary.specs.declared.shown.Shown.{Shown}
-use Rattle.ion_binary.specs.declared.shown.ShownNote.{ShownNote}
-use Rattle.ion_binary.specs.declared.shown.Shown.TheVariants as shown
-use Rattle.ion_binary.specs.declared.shown.ShownScalar.TheVariants as scalars
-use Rattle.ion_value.specs.declared.ion_type.IonType.{IonType}
-use Rattle.ion_binary.proofs.ScannedParts.{octet_shown, reaches-less, skip-skip}
-use Rattle.ion_binary.proofs.TypedValueCode.{container_at-begun, scalar_at-body}
-use Rattle.ion_binary.proofs.ValueParts.{annotated_at-wrapper, inner_at-octet, value_at-plain, value_at-wrapper}
-use Rattle.ion_binary.proofs.WrapperCode.{wrapper_at-tested}
+use Rattle.ion_binary.specs.Descriptor.{Region, Shape, wrapper, is_unwrappable, length_at, shape_of, var_uint_at}
+use Rattle.ion_binary.specs.Reading.{Around, TypedValue, a_container, a_scalar, ids_at, inner_at}
+use Rattle.ion_binary.specs.Scanned.{Reaches, found_at, found_by, length_code_of, noted_at, part_at, rest_at, window, wrapper_by, wrapping}
+use Rattle.ion_binary.specs.Shown.{ShowsItem, ShowsLength, ShowsNote, ShowsPart, ShowsRest, ShowsSecond, ShowsValue, ShowsVar, around_after, noted_ids, second_id}
+use Rattle.ion_binary.proofs.BodyParts.{body_here-read}
+use Rattle.ion_binary.proofs.ReadParts.{inner_at-found, value_at-found, value_at-wrapped}
+use Rattle.ion_binary.proofs.ScannedParts.{found_at-found, octet_shown, part_at-octet, reaches-less, skip-skip}
+use Rattle.ion_binary.proofs.WrapperCode.{wrapper_after-ids}
 use Rattle.ion_binary.proofs.VarLoop.{var_from-ends, var_from-goes_on, var_uint_at-prefix}
-
--- ---- octets
-
--- a place up to the bound of a region is in it
-pub bounds-reaches : (region : Region) (most place : ℕ) → Bounds region most → place ≤ most → Reaches region place
-bounds-reaches None most place bounds h = tt
-bounds-reaches (Some end) most place bounds h = omega (arith, bounds, h)
-
--- what is within the bound of a region is within the region
-pub body_within : {limits : Limits} {octets : List ℕ} {here type_code length_code at after : ℕ} {found : Shown} (region : Region) (most : ℕ) → Bounds region most
-    → ShowsBody limits octets here (Some most) type_code length_code at after found → ShowsBody limits octets here region type_code length_code at after found
-body_within {here = here} {after = after} region most bounds s = record {
-  scalar = s.scalar;
-  is = s.is;
-  range = s.range;
-  from = s.from;
-  number = s.number;
-  length_is = s.length_is;
-  ends = s.ends;
-  within = s.within;
-  few = s.few;
-  reaches = bounds-reaches region most (here + after) bounds s.reaches;
-  meaning = s.meaning;
-}
-
-pub begin_within : {limits : Limits} {octets : List ℕ} {here depth length_code at after : ℕ} {kind : Kind} {found : Shown} (region : Region) (most : ℕ) → Bounds region most
-    → ShowsBegin limits octets here (Some most) depth kind length_code at after found → ShowsBegin limits octets here region depth kind length_code at after found
-begin_within {here = here} {after = after} region most bounds s = record {
-  number = s.number;
-  is = s.is;
-  length_is = s.length_is;
-  deep = s.deep;
-  reaches = bounds-reaches region most (here + after + s.number) bounds s.reaches;
-}
 
 -- ---- lengths
 
@@ -104,10 +65,6 @@ length_shown octets length_code at after number is v = record {
 }
 
 -- ---- one annotation or two
-
-passes-not : (r : Region) (place n : ℕ) → Reaches r (place + n) → passes r place n ≡ false
-passes-not None place n reaches = refl
-passes-not (Some end) place n reaches = le-ltb end (place + n) reaches
 
 no_more : (limits : Limits) (most end count : ℕ) (d : Cursor) → end ≡ d.place → ids_at most limits end count d ≡ Ok ([], d)
 unfolding ids_at
@@ -160,205 +117,108 @@ second-starts octets at inner (Some s) v = omega (arith, v.0, v.1.further)
 
 -- ---- values
 
--- what begins a value, which a wrapper may hold
-abbrev begins_value : Shape → Bool
-begins_value (null type) = true
-begins_value (bool truth) = true
-begins_value (nop_pad length_code) = false
-begins_value (wrapper length_code) = false
-begins_value (body type_code length_code) = true
-begins_value (container kind length_code) = true
-begins_value sorted = false
-begins_value marker = false
-begins_value float = false
-begins_value illegal = false
+-- a descriptor and its length
+pub part_shown : (limits : Limits) (octets : List ℕ) (here : ℕ) (a : Around) (at after count : ℕ) (s : Shape) (f : Found)
+    → at < length octets → s ≡ shape_of (get_or octets at 0) → (a.wrapped && is_unwrappable (get_or octets at 0)) ≡ false → ShowsLength octets (length_code_of s) (at + 1) after count → found_by limits a s (here + after) count ≡ Ok f
+    → (more : List ℕ) → Reaches a.region (here + after) → part_at limits a (skip at (window here octets more)) ≡ Ok (f, skip after (window here octets more))
+part_shown limits octets here a at after count s f h is free l found more reaches =
+    let c = window here octets more in
+    let b = get_or octets at 0 in
+    let near : Reaches a.region (here + (at + 1)) = reaches-less a.region (here + (at + 1)) (here + after) (omega (arith, l.further)) reaches in
+    part_at-octet limits a (skip at c) (skip (at + 1) c) b (octet_shown octets more at here a.region h near)
+    ∙ (ap (λ t. refuse t BadAnnotation >> found_at limits a (shape_of b) (skip (at + 1) c)) free
+    ∙ (ap (λ t. found_at limits a t (skip (at + 1) c)) (sym is)
+    ∙ found_at-found limits a s (skip (at + 1) c) (skip after c) count f (l.gives here more a.region reaches) found))
 
-wrappable : (b : ℕ) (s : Shape) → b < 256 → shape_of b ≡ s → begins_value s ≡ true → is_unwrappable b ≡ false
-unfolding shape_of
-wrappable b s small e begins =
-    let all : (begins_value (shape_of b) && is_unwrappable b) ≡ false = agree_below_at (λ x. begins_value (shape_of x) && is_unwrappable x) (λ x. false) 256 b refl small in
-    let this : (begins_value s && is_unwrappable b) ≡ false = ap (λ x. begins_value x && is_unwrappable b) (sym e) ∙ all in
-    ap (λ x. x && is_unwrappable b) (sym begins) ∙ this
-
--- a part after its descriptor, by what that says
-typed_shown : (limits : Limits) (w : Bool) (r : Region) (depth b : ℕ) (c : Cursor) {x : Result (TypedValue × Cursor) Reason} → is_unwrappable b ≡ false
-    → read_by_descriptor limits (record { wrapped = w; region = r; depth = depth }) (shape_of b) c ≡ x
-    → typed_value_at limits (record { wrapped = w; region = r; depth = depth }) b c ≡ x
-unfolding typed_value_at
-typed_shown limits false r depth b c e h = h
-typed_shown limits true r depth b c e h = rw e h
-
-fits_shown : (w : Bool) (r : Region) (depth place n : ℕ) → Reaches r (place + n) → Fills w r (place + n) → fits (record { wrapped = w; region = r; depth = depth }) place n ≡ Ok tt
-fits_shown false None depth place n reaches full = refl
-fits_shown false (Some end) depth place n reaches full = let no : ltb end (place + n) ≡ false = le-ltb end (place + n) reaches in rw no refl
-fits_shown true None depth place n reaches full = absurd full
-fits_shown true (Some end) depth place n reaches full =
-    let no : ltb end (place + n) ≡ false = le-ltb end (place + n) reaches in
-    let whole : ltb (place + n) end ≡ false = le-ltb (place + n) end (omega (arith, full)) in
-    rw (no, whole) refl
-
-bare_shown : (w : Bool) (r : Region) (depth : ℕ) (v : Scalar Symbol) (c : Cursor) → Fills w r c.place → bare_at (record { wrapped = w; region = r; depth = depth }) v c ≡ Ok (a_scalar v, c)
-unfolding bare_at
-bare_shown false r depth v c full = refl
-bare_shown true None depth v c full = absurd full
-bare_shown true (Some end) depth v c full = let whole : ltb (c.place + 0) end ≡ false = le-ltb (c.place + 0) end (omega (arith, full)) in rw whole refl
-
--- what is read after a descriptor is a value that is shown
-shows_by : (limits : Limits) (octets : List ℕ) (here : ℕ) (r : Region) (depth at after : ℕ) (found : Shown) (b : ℕ)
-    → at < length octets → get_or octets at 0 ≡ b → wrapper_length (shape_of b) ≡ None → is_unwrappable b ≡ false → at + 1 ≤ after → after ≤ length octets → IsShown limits depth found
-    → Reaches r (here + (at + 1))
-    → ((w : Bool) (more : List ℕ) → Fills w r (far_end here after found)
-    → read_by_descriptor limits (record { wrapped = w; region = r; depth = depth }) (shape_of b) (skip (at + 1) (window here octets more)) ≡ Ok (shown_value found, skip after (window here octets more)))
-    → ShowsValue limits octets here r depth at after found
-shows_by limits octets here r depth at after found b h is plain free further within may reaches read = record {
-  further = further;
-  within = within;
-  may_be = may;
-  reaches = reaches;
-  octet = b;
-  first = λ more. octet_shown octets more at here r h reaches ∙ ap (λ n. Ok (n, skip (at + 1) (window here octets more))) is;
+-- what has no octets after its length
+pub rest_none : (limits : Limits) (octets : List ℕ) (here : ℕ) (f : Found) (at after : ℕ) (v : TypedValue) → after ≡ at → at ≤ length octets → wrapping f ≡ None → ((c : Cursor) → rest_at limits f c ≡ Ok (v, c))
+    → ShowsRest limits octets here f at after v
+rest_none limits octets here f at after v same within plain none = record {
+  further = omega arith;
+  within = omega arith;
   plain = plain;
-  gives = λ w more full. typed_shown limits w r depth b (skip (at + 1) (window here octets more)) free (read w more full);
+  gives = λ more. none (skip at (window here octets more)) ∙ ap (λ k. Ok (v, skip k (window here octets more))) (sym same);
 }
 
--- a null or a bool
-pub shows_null : (limits : Limits) (octets : List ℕ) (here : ℕ) (r : Region) (depth at : ℕ) (type : IonType) (b : ℕ)
-    → at < length octets → b < 256 → get_or octets at 0 ≡ b → shape_of b ≡ null type → Reaches r (here + (at + 1)) → ShowsValue limits octets here r depth at (at + 1) (shown.Scalar (scalars.Null type))
-unfolding read_by_descriptor
-shows_null limits octets here r depth at type b h small is shape reaches =
-    shows_by limits octets here r depth at (at + 1) (shown.Scalar (scalars.Null type)) b h is (ap wrapper_length shape) (wrappable b (null type) small shape refl) (omega arith) (omega arith) tt reaches
-    (λ w more full. rw shape (bare_shown w r depth (value.null type) (skip (at + 1) (window here octets more)) full))
-
-pub shows_bool : (limits : Limits) (octets : List ℕ) (here : ℕ) (r : Region) (depth at : ℕ) (truth : Bool) (b : ℕ)
-    → at < length octets → b < 256 → get_or octets at 0 ≡ b → shape_of b ≡ bool truth → Reaches r (here + (at + 1)) → ShowsValue limits octets here r depth at (at + 1) (shown.Scalar (scalars.Bool truth))
-unfolding read_by_descriptor
-shows_bool limits octets here r depth at truth b h small is shape reaches =
-    shows_by limits octets here r depth at (at + 1) (shown.Scalar (scalars.Bool truth)) b h is (ap wrapper_length shape) (wrappable b (bool truth) small shape refl) (omega arith) (omega arith) tt reaches
-    (λ w more full. rw shape (bare_shown w r depth (value.bool truth) (skip (at + 1) (window here octets more)) full))
+-- a container's beginning
+pub shows_begin : {limits : Limits} {octets : List ℕ} {here at after end : ℕ} {a : Around} {kind : Kind} → ShowsPart limits octets here a at after (found.Begin kind end) → ShowsValue limits octets here a at after (a_container kind end)
+unfolding rest_at
+shows_begin {limits} {octets} {here} {at} {after} {end} {a} {kind} p =
+    record { found = found.Begin kind end; from = after; part = p; rest = rest_none limits octets here (found.Begin kind end) after after (a_container kind end) refl p.within refl (λ c. refl) }
 
 -- the octets of a body, which are in the window
 body_octets : (octets more : List ℕ) (from n : ℕ) → from + n ≤ length octets → take n (drop from (octets ++ more)) ≡ take n (drop from octets)
 body_octets octets more from n h =
     ap (take n) (drop-append-le from octets more (omega arith)) ∙ take-append-le n (drop from octets) more (grind (arith, common_steps))
 
-body_shown : (limits : Limits) (octets more : List ℕ) (here from n : ℕ) (type_code : ℕ) (v : Scalar Symbol) → from + n ≤ length octets → n ≤ limits.scalar
-    → scalar_of_body type_code (take n (drop from octets)) ≡ Ok v → body_here limits type_code n (skip from (window here octets more)) ≡ Ok (v, skip n (skip from (window here octets more)))
-unfolding body_here
-body_shown limits octets more here from n type_code v h few meaning =
-    let short : ltb limits.scalar n ≡ false = le-ltb limits.scalar n few in
-    let there : ltb (length (drop from (octets ++ more))) n ≡ false = le-ltb (length (drop from (octets ++ more))) n (grind (arith, common_steps)) in
-    let reads : scalar_of_body type_code (take n (drop from (octets ++ more))) ≡ Ok v = ap (scalar_of_body type_code) (body_octets octets more from n h) ∙ meaning in
-    rw (short, there, reads) refl
-
--- a scalar with a body
-pub shows_body : (limits : Limits) (octets : List ℕ) (here : ℕ) (r : Region) (depth at after type_code length_code : ℕ) (found : Shown) (b : ℕ)
-    → at < length octets → b < 256 → get_or octets at 0 ≡ b → shape_of b ≡ body type_code length_code → ShowsBody limits octets here r type_code length_code at after found
-    → ShowsValue limits octets here r depth at after found
-unfolding read_by_descriptor
-shows_body limits octets here r depth at after type_code length_code found b h small is shape s =
-    let longer : at + 1 ≤ s.from = s.length_is.further in
-    let near : Reaches r (here + (at + 1)) = reaches-less r (here + (at + 1)) (here + after) (omega (arith, s.ends)) s.reaches in
-    let header : Reaches r (here + s.from) = reaches-less r (here + s.from) (here + after) (omega (arith, s.ends)) s.reaches in
-    let whole : Reaches r (here + s.from + s.number) = reaches-less r (here + s.from + s.number) (here + after) (omega (arith, s.ends)) s.reaches in
-    let range : IsShown limits depth found = subst (λ f. IsShown limits depth f) (sym s.is) s.range in
-    let far : here + after ≡ here + s.from + s.number = omega (arith, s.ends) in
-    shows_by limits octets here r depth at after found b h is (ap wrapper_length shape) (wrappable b (body type_code length_code) small shape refl) (omega (arith, s.ends)) s.within range near
-    (λ w more full. rw (shape, s.is)
-    (scalar_at-body limits (record { wrapped = w; region = r; depth = depth }) type_code length_code (skip (at + 1) (window here octets more)) s.number (skip s.from (window here octets more)) tt
-    (s.length_is.gives here more r header) (fits_shown w r depth (here + s.from) s.number whole (subst (λ n. Fills w r n) (ap (far_end here after) s.is ∙ far) full))
-    ∙ rw (body_shown limits octets more here s.from s.number type_code (shown_scalar s.scalar) (omega (arith, s.ends, s.within)) s.few s.meaning)
-    (ap (λ c. Ok (a_scalar (shown_scalar s.scalar), c)) (skip-skip octets more here s.from s.number after s.ends))))
-
--- a container's beginning
-ends_shown : (limits : Limits) (w : Bool) (r : Region) (depth place n : ℕ) → Reaches r (place + n) → Fills w r (place + n) → depth < limits.depth
-    → end_by limits (record { wrapped = w; region = r; depth = depth }) place n ≡ Ok (place + n)
-ends_shown limits w r depth place n reaches full deep = let no : leb limits.depth depth ≡ false = lt-leb limits.depth depth deep in rw (fits_shown w r depth place n reaches full, no) refl
-
-pub shows_begin : (limits : Limits) (octets : List ℕ) (here : ℕ) (r : Region) (depth at after length_code : ℕ) (kind : Kind) (found : Shown) (b : ℕ)
-    → at < length octets → b < 256 → get_or octets at 0 ≡ b → shape_of b ≡ container kind length_code → ShowsBegin limits octets here r depth kind length_code at after found
-    → ShowsValue limits octets here r depth at after found
-unfolding read_by_descriptor
-shows_begin limits octets here r depth at after length_code kind found b h small is shape s =
-    let longer : at + 1 ≤ after = s.length_is.further in
-    let near : Reaches r (here + (at + 1)) = reaches-less r (here + (at + 1)) (here + after + s.number) (omega arith) s.reaches in
-    let header : Reaches r (here + after) = reaches-less r (here + after) (here + after + s.number) (omega arith) s.reaches in
-    let may : IsShown limits depth found = subst (λ f. IsShown limits depth f) (sym s.is) s.deep in
-    shows_by limits octets here r depth at after found b h is (ap wrapper_length shape) (wrappable b (container kind length_code) small shape refl) longer s.length_is.within may near
-    (λ w more full. rw (shape, s.is)
-    (container_at-begun limits (record { wrapped = w; region = r; depth = depth }) kind length_code (skip (at + 1) (window here octets more)) s.number (skip after (window here octets more))
-    (here + after + s.number) (s.length_is.gives here more r header)
-    (ends_shown limits w r depth (here + after) s.number s.reaches (subst (λ n. Fills w r n) (ap (far_end here after) s.is) full) s.deep)))
+-- a body of these bytes
+pub rest_body : (limits : Limits) (octets bytes : List ℕ) (here type_code n at : ℕ) (v : Scalar Symbol) → at + n ≤ length octets → n ≤ limits.scalar → bytes ≡ take n (drop at octets) → scalar_of_body type_code bytes ≡ Ok v
+    → ShowsRest limits octets here (found.Body type_code n) at (at + length bytes) (a_scalar v)
+unfolding rest_at
+rest_body limits octets bytes here type_code n at v h few is meaning =
+    let long : length bytes ≡ n = grind (arith, common_steps) in
+    record {
+      further = omega arith;
+      within = omega arith;
+      plain = refl;
+      gives = λ more.
+          let c = window here octets more in
+          let read : scalar_of_body type_code (take n (drop at (octets ++ more))) ≡ Ok v = ap (scalar_of_body type_code) (body_octets octets more at n h ∙ sym is) ∙ meaning in
+          ap (λ t. t >>= λ v. Ok (a_scalar v.0, v.1)) (body_here-read limits type_code n (skip at c) v few (grind (arith, common_steps)) read)
+          ∙ ap (λ d. Ok (a_scalar v, d)) (skip-skip octets more here at n (at + length bytes) (omega (arith, long)));
+    }
 
 -- ---- annotations
 
 -- the lengths of a wrapper, and its one id or two, of which the first ends at `first`
-pub shows_note : (limits : Limits) (octets : List ℕ) (here : ℕ) (r : Region) (at after first length_code count ids b : ℕ) (n : ShownNote)
-    → at < length octets → get_or octets at 0 ≡ b → wrapper_length (shape_of b) ≡ Some length_code → ShowsLength octets length_code (at + 1) after count → ShowsVar octets after n.from ids
-    → ShowsVar octets n.from first n.id → ShowsSecond octets first n.second n.inner → n.end ≡ here + after + count → 32 ≤ limits.scalar → 3 ≤ count → n.from + ids ≡ n.inner → 0 < ids → here + n.inner < n.end → Reaches r n.end
+pub shows_note : (limits : Limits) (octets : List ℕ) (here : ℕ) (r : Region) (at after first length_code count ids : ℕ) (n : ShownNote)
+    → at < length octets → wrapper length_code ≡ shape_of (get_or octets at 0) → ShowsLength octets length_code (at + 1) after count → ShowsVar octets after n.from ids → ShowsVar octets n.from first n.id
+    → ShowsSecond octets first n.second n.inner → here + n.inner < here + after + count → Reaches r (here + after + count) → wrapper_by r (here + after) count (here + n.from) ids ≡ Ok (record { ids = here + n.inner; end = n.end }) → 32 ≤ limits.scalar
     → ShowsNote limits octets here r at n
-shows_note limits octets here r at after first length_code count ids b n h is wraps l v i s e few long fills some room reaches =
-    let from = n.from in
-    let inner = n.inner in
-    let end = n.end in
-    let before : first ≤ inner = second-further octets first inner n.second s in
-    let near : Reaches r (here + (at + 1)) = reaches-less r (here + (at + 1)) end (omega (arith, l.further, v.further, i.further)) reaches in
-    let header : Reaches r (here + after) = reaches-less r (here + after) end (omega (arith, v.further, i.further)) reaches in
+shows_note limits octets here r at after first length_code count ids n h is l v i s room reaches made few =
+    let before : first ≤ n.inner = second-further octets first n.inner n.second s in
+    let header : Reaches r (here + after) = reaches-less r (here + after) (here + after + count) (omega arith) reaches in
     record {
-      further = omega (arith, l.further, v.further, i.further);
-      starts = omega (arith, i.further);
-      second = second-starts octets first inner n.second s;
-      within = second-within octets first inner n.second i.within s;
-      reaches = near;
-      octet = b;
-      length_code = length_code;
-      first = λ more. octet_shown octets more at here r h near ∙ ap (λ n. Ok (n, skip (at + 1) (window here octets more))) is;
-      is = wraps;
+      starts = omega (arith, i.further, before);
+      second = second-starts octets first n.inner n.second s;
+      within = second-within octets first n.inner n.second i.within s;
+      count = count;
+      after = after;
+      further = (omega (arith, l.further), omega (arith, v.further));
+      reaches = header;
+      part = λ depth more. part_shown limits octets here (around_after None r depth) at after count (wrapper length_code) (found.Wrapper count) h is refl l refl more header;
       lengths = λ more.
           let c = window here octets more in
-          let inside : Reaches (Some (here + after + count)) (here + from) = omega arith in
-          let over : false ≡ passes r (here + after) count = sym (passes-not r (here + after) count (subst (λ n. Reaches r n) e reaches)) in
-          let short : nat_lt count 3 ≡ false = le-ltb count 3 long in
-          let none : nat_eq ids 0 ≡ false = ne_eqb ids 0 (λ e. omega (arith, e)) in
-          let last : nat_le (here + after + count) (here + from + ids) ≡ false = lt-leb (here + after + count) (here + from + ids) (omega arith) in
-          let bad : false ≡ (nat_lt count 3 || nat_eq ids 0 || nat_le (here + after + count) (here + from + ids)) = rw (short, none, last) refl in
-          let where_ids : here + from + ids ≡ here + inner = omega arith in
-          wrapper_at-tested r length_code count ids (here + after) (here + from) (skip (at + 1) c) (skip after c) (skip from c) false false
-          (l.gives here more r header) refl (v.gives here more (Some (here + after + count)) inside) refl over bad
-          ∙ ap (λ n. Ok (record { ids = n; end = here + after + count }, skip from c)) where_ids
-          ∙ ap (λ n. Ok (record { ids = here + inner; end = n }, skip from c)) (sym e);
+          wrapper_after-ids r count ids (skip after c) (skip n.from c) (v.gives here more (Some (here + after + count)) (omega (arith, i.further, before, room))) ∙ ap (λ t. t >>= λ w. Ok (w, skip n.from c)) made;
       ids = λ more. ids_shown limits octets more here first n (omega (arith, l.further, v.further)) i s before few;
     }
 
 -- a value with no annotation
-pub shows_plain : (limits : Limits) (octets : List ℕ) (here : ℕ) (r : Region) (depth at after : ℕ) (found : Shown) → ShowsValue limits octets here r depth at after found
-    → ShowsItem limits octets here r depth at at after [] found
-shows_plain limits octets here r depth at after found v = record {
-  further = v.further;
-  starts = omega (arith, v.further);
-  within = v.within;
-  may_be = v.may_be;
-  reaches = v.reaches;
-  gives = λ more frames top field e l.
-      value_at-plain limits frames top field (skip at (window here octets more)) (skip (at + 1) (window here octets more)) r depth v.octet e l (v.first more) v.plain ∙ rw (v.gives false more tt) refl;
-}
+pub shows_plain : (limits : Limits) (octets : List ℕ) (here : ℕ) (r : Region) (depth at after : ℕ) (v : TypedValue) → ShowsValue limits octets here (around_after None r depth) at after v → ShowsItem limits octets here r depth at at after [] v
+shows_plain limits octets here r depth at after v s =
+    let reaches : Reaches r (here + s.from) = s.part.reaches s.rest.plain in
+    record {
+      further = omega (arith, s.part.further, s.rest.further);
+      within = s.rest.within;
+      reaches = reaches-less r (here + (at + 1)) (here + s.from) (omega (arith, s.part.further)) reaches;
+      gives = λ more frames top field e l.
+          let c = window here octets more in
+          value_at-found limits frames top field (skip at c) (skip s.from c) false r depth s.found refl e l (s.part.gives more reaches) s.rest.plain ∙ rw (s.rest.gives more) refl;
+    }
 
 -- a value that fills a wrapper
-pub shows_noted : (limits : Limits) (octets : List ℕ) (here : ℕ) (r : Region) (depth at after : ℕ) (note : ShownNote) (found : Shown) → ShowsNote limits octets here r at note
-    → ShowsValue limits octets here (Some note.end) depth note.inner after found → note.end ≡ far_end here after found
-    → ShowsItem limits octets here r depth at note.inner after (noted_ids here note) found
-shows_noted limits octets here r depth at after note found n v full = record {
-  further = omega (arith, n.further, v.further);
-  starts = omega (arith, v.further);
-  within = v.within;
-  may_be = v.may_be;
-  reaches = n.reaches;
+pub shows_noted : (limits : Limits) (octets : List ℕ) (here : ℕ) (r : Region) (depth at after : ℕ) (note : ShownNote) (v : TypedValue) → ShowsNote limits octets here r at note
+    → ShowsValue limits octets here (around_after (Some note.end) r depth) note.inner after v → ShowsItem limits octets here r depth at note.inner after (noted_ids here note) v
+shows_noted limits octets here r depth at after note v n s = record {
+  further = omega (arith, n.further.0, n.further.1, n.starts, s.part.further, s.rest.further);
+  within = s.rest.within;
+  reaches = reaches-less r (here + (at + 1)) (here + n.after) (omega (arith, n.further.0)) n.reaches;
   gives = λ more frames top field e l.
       let c = window here octets more in
-      let inner = note.inner in
-      value_at-wrapper limits frames top field (skip at c) (skip (at + 1) c) r n.octet n.length_code e (n.first more) n.is
-      ∙ (annotated_at-wrapper limits frames top field (here + at) n.length_code (skip (at + 1) c) (skip note.from c) r (record { ids = here + inner; end = note.end }) e (n.lengths more)
-      ∙ (ap (λ p. p >>= λ annotations. inner_at limits frames top field annotations.0 note.end annotations.1) (n.ids more)
-      ∙ (inner_at-octet limits frames top field (noted_ids here note) note.end (skip inner c) (skip (inner + 1) c) depth v.octet l (v.first more) ∙ rw (v.gives true more full) refl)));
+      value_at-wrapped limits frames top field (skip at c) (skip n.after c) false r depth (found.Wrapper n.count) refl e l (n.part depth more) n.count refl
+      ∙ (ap (λ t. part (here + at) t >>= λ w. noted_at limits frames top field w.0 w.1) (n.lengths more)
+      ∙ (ap (λ t. t >>= λ ids. inner_at limits frames top field ids.0 note.end ids.1) (n.ids more)
+      ∙ (inner_at-found limits frames top field (noted_ids here note) note.end (skip note.inner c) (skip s.from c) depth s.found l (s.part.gives more (s.part.reaches s.rest.plain)) ∙ rw (s.rest.gives more) refl)));
 }
 
 -- ---- what calls answer

@@ -15,53 +15,9 @@ use Rattle.ion_meter.specs.Sources.{Cursor, skip}
 use Rattle.ion_value.specs.Parts.{◌>>=◌, ◌>>◌, refuse}
 use Rattle.ion_binary.specs.Descriptor.{Shape, bool_shape, struct_shape, wrapper_shape, null_shapes, sized_shapes, shape_of, length_at}
 use Rattle.ion_binary.specs.Reading.{Around, a_marker, a_scalar, a_container, marker_rest, fits, body_at, scalar_at, begin_at, container_at}
-use Rattle.ion_binary.specs.Finds.{end_by, IsOfDescriptor}
+use Rattle.ion_binary.specs.Finds.{IsOfDescriptor}
 use Rattle.ion_binary.specs.Parts.{body_here}
 use Rattle.ion_binary.specs.Scanned.{version_at}
-
--- ---- steps one after the other
-
--- what is made of the answer of two lines
-then-mapped : {A B E : Type 0} (r s : Result (Unit {0}) E) (x : A) (f : A → B) → (r >> (s >> Ok (f x))) ≡ ((r >> (s >> Ok x)) >>= λ y. Ok (f y))
-then-mapped (Ok p) (Ok q) x f = refl
-then-mapped (Ok p) (Err e) x f = refl
-then-mapped (Err e) s x f = refl
-
--- what is made of a value, and where reading stands after it
-abbrev pub beside : {A B C E : Type 0} → (A → B) → C → A → Result (B × C) E
-beside f c v = Ok (f v, c)
-
--- what is made of the answer of two lines and a step
-bind-mapped : {A B C E : Type 0} (r s : Result (Unit {0}) E) (t : Result A E) (c : C) (f : A → B)
-    → (r >> (s >> (t >>= beside f c))) ≡ ((r >> (s >> (t >>= beside (λ v. v) c))) >>= λ p. beside f p.1 p.0)
-bind-mapped (Ok p) (Ok q) (Ok v) c f = refl
-bind-mapped (Ok p) (Ok q) (Err e) c f = refl
-bind-mapped (Ok p) (Err e) t c f = refl
-bind-mapped (Err e) s t c f = refl
-
--- ---- the header of a container
-
--- the header of a container is known by the place of its end
-begin_at-ends : (limits : Limits) (a : Around) (k : Kind) (n : ℕ) (c : Cursor) → begin_at limits a k n c ≡ (end_by limits a c.place n >>= λ end. Ok (a_container k end, c))
-unfolding begin_at
-begin_at-ends limits a k n c = then-mapped (fits a c.place n) _ (c.place + n) (λ end. (a_container k end, c))
-
-begin_at-begun : (limits : Limits) (a : Around) (k : Kind) (n : ℕ) (c : Cursor) (end : ℕ) → end_by limits a c.place n ≡ Ok end → begin_at limits a k n c ≡ Ok (a_container k end, c)
-begin_at-begun limits a k n c end h = begin_at-ends limits a k n c ∙ ap (λ r. r >>= λ end. Ok (a_container k end, c)) h
-
--- a container begins after its length
-pub container_at-begun : (limits : Limits) (a : Around) (k : Kind) (length_code : ℕ) (c : Cursor) (n : ℕ) (d : Cursor) (end : ℕ)
-    → length_at length_code a.region c ≡ Ok (n, d) → end_by limits a d.place n ≡ Ok end → container_at limits a k length_code c ≡ Ok (a_container k end, d)
-unfolding container_at
-container_at-begun limits a k length_code c n d end h m = rw h (begin_at-begun limits a k n d end m)
-
--- ---- scalars with bodies
-
--- a scalar is what is made of its body
-pub scalar_at-body : (limits : Limits) (a : Around) (type_code length_code : ℕ) (c : Cursor) (n : ℕ) (d : Cursor) (x : Unit {0})
-    → length_at length_code a.region c ≡ Ok (n, d) → fits a d.place n ≡ Ok x → scalar_at limits a type_code length_code c ≡ (body_here limits type_code n d >>= λ p. beside a_scalar p.1 p.0)
-unfolding scalar_at body_at body_here
-scalar_at-body limits a type_code length_code c n d x h m = rw h (rw m (bind-mapped (refuse (ltb limits.scalar n) ScalarLimit) (refuse (ltb (length d.rest) n) Truncated) (scalar_of_body type_code (take n d.rest)) (skip n d) a_scalar))
 
 -- ---- version markers
 

@@ -48,29 +48,3 @@ module _ (frames : List Frame) (top : ℕ) (f : Option SymbolAt) (annotations : 
   -- equal steps
   pub step-same : (r : Result (typed.TypedValue × ℕ) Fault) (after : Cursor) (s t : Placed (Step State)) → s ≡ t → GivesStep frames top f annotations text scalar r after t → GivesStep frames top f annotations text scalar r after s
   step-same r after s t e h = subst (λ u. GivesStep frames top f annotations text scalar r after u) (sym e) h
-
--- after the octet of a descriptor in a wrapper
-pub inner_at-octet : (limits : Limits) (frames : List Frame) (top : ℕ) (f : Option SymbolAt) (annotations : List SymbolAt) (end : ℕ) (c d : Cursor) (depth b : ℕ)
-    → length frames ≡ depth → octet_at (Some end) c ≡ Ok (b, d)
-    → inner_at limits frames top f annotations end c ≡ (part c.place (typed_value_at limits (record { wrapped = true; region = Some end; depth = depth }) b d) >>= λ v. Ok (step_for frames top f annotations c.place v.0 v.1))
-unfolding inner_at
-inner_at-octet limits frames top f annotations end c d depth b e o = rw (o, e) refl
-
--- after a wrapper's lengths
-pub annotated_at-wrapper : (limits : Limits) (frames : List Frame) (top : ℕ) (f : Option SymbolAt) (place length_code : ℕ) (c d : Cursor) (r : Region) (w : Wrapped)
-    → region_of frames ≡ r → wrapper_at r length_code c ≡ Ok (w, d)
-    → annotated_at limits frames top f place length_code c ≡ (ids_at w.ids limits w.ids 0 d >>= λ annotations. inner_at limits frames top f annotations.0 w.end annotations.1)
-unfolding annotated_at
-annotated_at-wrapper limits frames top f place length_code c d r w e h = rw (e, h) refl
-
--- after a descriptor's octet
-pub value_at-plain : (limits : Limits) (frames : List Frame) (top : ℕ) (f : Option SymbolAt) (c d : Cursor) (r : Region) (depth b : ℕ)
-    → region_of frames ≡ r → length frames ≡ depth → octet_at r c ≡ Ok (b, d) → wrapper_length (shape_of b) ≡ None
-    → value_at limits frames top f c ≡ (part c.place (typed_value_at limits (record { wrapped = false; region = r; depth = depth }) b d) >>= λ v. Ok (step_for frames top f [] c.place v.0 v.1))
-unfolding value_at plain_at
-value_at-plain limits frames top f c d r depth b e l o n = rw (e, o, n, l) refl
-
-pub value_at-wrapper : (limits : Limits) (frames : List Frame) (top : ℕ) (f : Option SymbolAt) (c d : Cursor) (r : Region) (b length_code : ℕ)
-    → region_of frames ≡ r → octet_at r c ≡ Ok (b, d) → wrapper_length (shape_of b) ≡ Some length_code → value_at limits frames top f c ≡ annotated_at limits frames top f c.place length_code d
-unfolding value_at
-value_at-wrapper limits frames top f c d r b length_code e o n = rw (e, o, n) refl

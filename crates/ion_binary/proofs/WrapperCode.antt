@@ -72,15 +72,3 @@ wrapper_at-after r length_code c = of_length (length_at length_code r c)
         → (o >>= λ n. (var_uint_at (Some (n.1.place + n.0)) n.1 >>= tested r n)) ≡ (o >>= λ n. (var_uint_at (Some (n.1.place + n.0)) n.1 >>= by_wrapper_by r n))
     of_length (Ok n) = of_ids n (var_uint_at (Some (n.1.place + n.0)) n.1)
     of_length (Err e) = refl
-
--- what is tested once all octets were taken
-abbrev pub wrapped_by : Bool → Bool → Wrapped × Cursor → Result (Wrapped × Cursor) Reason
-wrapped_by overrun bad w = refuse overrun Overrun >> (refuse bad BadAnnotation >> Ok w)
-
-pub wrapper_at-tested : (r : Region) (length_code n ids here after : ℕ) (c d f : Cursor) (overrun bad : Bool) → length_at length_code r c ≡ Ok (n, d) → here ≡ d.place
-    → var_uint_at (Some (here + n)) d ≡ Ok (ids, f) → after ≡ f.place → overrun ≡ passes r here n → bad ≡ (nat_lt n 3 || nat_eq ids 0 || nat_le (here + n) (after + ids))
-    → wrapper_at r length_code c ≡ wrapped_by overrun bad (record { ids = after + ids; end = here + n }, f)
-unfolding wrapper_at
-wrapper_at-tested r length_code n ids here after c d f overrun bad h p k q o b =
-    let k : var_uint_at (Some (d.place + n)) d ≡ Ok (ids, f) = ap (λ q. var_uint_at (Some (q + n)) d) (sym p) ∙ k in
-    rw (h, k, o, b, p, q) refl

@@ -17,11 +17,6 @@ as_scalar text code.String = value.string text
 as_scalar text code.Clob = value.clob text
 as_scalar text code.Blob = value.blob text
 
--- the type codes of ints, decimals, timestamps and symbols
-abbrev pub IsNumberCode : ℕ → Type 0
-IsNumberCode type_code =
-    (type_code ≡ 2) ⊎ ((type_code ≡ 3) ⊎ ((type_code ≡ 5) ⊎ ((type_code ≡ 6) ⊎ (type_code ≡ 7))))
-
 -- the type codes of all scalars whose bodies are read: ints, decimals, timestamps, symbols, strings, clobs and blobs
 abbrev pub IsBodyTypeCode : ℕ → Type 0
 IsBodyTypeCode type_code = (type_code ≡ 2) ⊎ ((type_code ≡ 3) ⊎ ((type_code ≡ 5) ⊎ ((type_code ≡ 6) ⊎ ((type_code ≡ 7) ⊎ ((8 ≤ type_code) × (type_code ≤ 10))))))

@@ -30,10 +30,3 @@ IsOfDescriptor sorted = Unit {0}
 IsOfDescriptor marker = Unit {0}
 IsOfDescriptor float = Unit {0}
 IsOfDescriptor illegal = Unit {0}
-
--- where a container ends whose members have n octets from a place on
-abbrev pub end_by : Limits → Around → ℕ → ℕ → Result ℕ Reason
-end_by limits a place n = do
-  fits a place n
-  refuse (nat_le limits.depth a.depth) DepthLimit
-  Ok (place + n)

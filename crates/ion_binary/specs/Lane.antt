@@ -19,10 +19,9 @@ use Rattle.ion_value.specs.Standing.{in_struct}
 use Rattle.ion_value.specs.Value.{PlacedItem, SymbolAt}
 use Rattle.ion_binary.specs.declared.wrapper.Frame as frame
 use Rattle.ion_binary.specs.Positions.{Frame}
-use Rattle.ion_binary.specs.Reading.{field_at, region_of}
+use Rattle.ion_binary.specs.Reading.{TypedValue, field_at, region_of}
 use Rattle.ion_binary.specs.Scanned.{Reaches, window}
-use Rattle.ion_binary.specs.Shown.{ShowsItem, ShowsValue, far_end}
-use Rattle.ion_binary.specs.declared.shown.Shown.{Shown}
+use Rattle.ion_binary.specs.Shown.{ShowsItem, ShowsValue, around_after}
 use Rattle.ion_binary.specs.Descriptor.{Region, Shape, shape_of}
 use Rattle.ion_meter.specs.declared.limits.Limits.{Limits}
 use Rattle.ion_binary.specs.declared.reader.BinReader.{BinReader}
@@ -111,16 +110,6 @@ pub record ShowsField (texts : ℕ → Option (List ℕ)) (octets : List ℕ) (h
   pub there : is_some field ≡ in_struct (map (λ f. f.kind) frames)
   pub gives : (more : List ℕ) → Reaches (region_of frames) (here + after) → field_at frames (window here octets more) ≡ Ok (raw, skip after (window here octets more))
 
--- the region of a value: the wrapper around it, or else its container
-abbrev pub inner_region : Region → Region → Region
-inner_region (Some end) around = Some end
-inner_region None around = around
-
--- what ends at a place fills the wrapper around it
-abbrev pub FillsTo : Region → ℕ → Type 0
-FillsTo (Some end) place = end ≡ place
-FillsTo None place = ⊤
-
 -- a text is that of an annotation's id, which stands at a place, and has no dollar sign in front
 pub record IsNote (texts : ℕ → Option (List ℕ)) (id place : ℕ) (t : TextAt) : Type 0 where
   pub has : texts (raw_id id) ≡ Some t.text.now
@@ -148,8 +137,8 @@ pub record ShowsFront (texts : ℕ → Option (List ℕ)) (limits : Limits) (oct
   pub quoted : IfSome f.annotation IsRightlyQuoted
   pub second : IfSome f.second (StandsAfter f.annotation)
   pub within : f.head ≤ length octets
-  pub gives : (depth after : ℕ) (found : Shown) → ShowsValue limits octets here (inner_region f.wrapper (region_of frames)) depth f.head after found
-      → FillsTo f.wrapper (far_end here after found) → ShowsItem limits octets here (region_of frames) depth f.at f.head after raws found
+  pub gives : (depth after : ℕ) (v : TypedValue) → ShowsValue limits octets here (around_after f.wrapper (region_of frames) depth) f.head after v
+      → ShowsItem limits octets here (region_of frames) depth f.at f.head after raws v
 
 -- the container around a member, by where the member stands
 abbrev pub kind_around : Level → Option Kind

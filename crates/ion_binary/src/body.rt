@@ -1,12 +1,13 @@
 //! Bodies of scalars (binary encoding, "Typed Value Formats").
-ghost use Rattle.std.specs.Prelude.{◌≡◌, ◌*◌, ◌≢◌, ◌+◌, ◌-◌, ◌^◌, ◌<◌, ◌≤◌, ℕ, List, length, take, Ok, Err, true, false, OnOk, MatchResult, IsTrue, ◌↔◌, IsAscii, IsUtf8};
+ghost use Rattle.std.specs.Prelude.{◌≡◌, ◌*◌, ◌≢◌, ◌+◌, ◌-◌, ◌^◌, ◌<◌, ◌≤◌, ℕ, List, length, take, Ok, Err, true, false, IfOk, OnOk, MatchResult, IsTrue, ◌↔◌, IsAscii, IsUtf8};
 ghost use Rattle.ion_meter.specs.Windows.{left, lent};
 ghost use Rattle.ion_value.specs.Number.{uint};
 ghost use Rattle.ion_value.specs.Name.{raw_id};
+ghost use Rattle.ion_value.specs.Int.{IsInt, int_of_bytes};
 ghost use Rattle.ion_value.specs.Scalar.{scalar_of_body};
 ghost use Rattle.ion_value.specs.Standing.{InRange};
 ghost use Rattle.ion_meter.specs.Sources.{skip, cursor, Stands};
-ghost use Rattle.ion_binary.specs.Bodies.{as_scalar, IsNumberCode, IsBodyTypeCode};
+ghost use Rattle.ion_binary.specs.Bodies.{as_scalar, IsBodyTypeCode};
 ghost use Rattle.ion_value.specs.Answers.{Answers};
 ghost use Rattle.ion_binary.specs.Parts.{body_here};
 ghost use Rattle.ion_value.specs.Calls.{AnswersBy, CanRead, Reads, ReadsInto, passed_over};
@@ -47,10 +48,8 @@ pub(crate) enum Body {
     Blob,
 }
 
-// The type codes of strings and lobs, and the least of them.
+// The type code of strings, and the least of those whose octets are kept.
 const STRING: u8 = 8;
-
-const CLOB: u8 = 9;
 
 /// An id as readers give it.
 #[inline]
@@ -60,9 +59,9 @@ pub(crate) fn id_of(n: u64) -> u32
     n.min(1 << 31) as u32
 }
 
-/// The number that these octets spell, which are so few that 64 bits hold it.
+// The number that these octets spell, which are so few that 64 bits hold it.
 #[inline(always)]
-pub(crate) fn few_value(octets: &[u8]) -> u64
+fn few_value(octets: &[u8]) -> u64
     requires { length octets.now ≤ 8 }
     ensures { result ≡ uint octets.now }
 {
@@ -73,9 +72,9 @@ pub(crate) fn few_value(octets: &[u8]) -> u64
     value
 }
 
-/// The id that a UInt spells.
+// The id that a UInt spells.
 #[inline(always)]
-pub(crate) fn uint_id(octets: &[u8]) -> u32
+fn uint_id(octets: &[u8]) -> u32
     ensures { result ≡ raw_id (uint octets.now) }
 {
     if octets.len() <= 8 {
@@ -95,29 +94,53 @@ fn long_id(octets: &[u8]) -> u32
     }
 }
 
-// A number, a timestamp or a symbol of these octets.
-#[tactic(auto, unfolding(ion_value::specs::Scalar::scalar_of_body))]
+// An int of these octets, of which there mostly are few.
 #[inline(always)]
-fn number(type_code: u8, octets: &[u8], body: &mut Body) -> Result<(), Reason>
-    requires type_code { IsNumberCode type_code }
-    ensures gives { MatchResult result
-        (λ _. (text : List ℕ) → scalar_of_body type_code octets.now ≡ Ok (as_scalar text body.new))
-        (λ r. scalar_of_body type_code octets.now ≡ Err r) }
-    ensures range { OnOk result ((text : List ℕ) → InRange (as_scalar text body.new)) }
+fn int_of(negative: bool, octets: &[u8]) -> Result<Int, Reason>
+    ensures gives { result ≡ int_of_bytes negative octets.now }
+    ensures range { IfOk result IsInt }
 {
-    *body = match type_code {
-        2 => Body::Int(int_from_bytes(false, octets)?),
-        3 => Body::Int(int_from_bytes(true, octets)?),
-        5 => Body::Decimal(decimal_from_bytes(octets)?),
-        6 => Body::Timestamp(timestamp_from_bytes(octets)?),
-        _ => Body::Symbol(uint_id(octets)),
-    };
-    Ok(())
+    if octets.len() > 8 {
+        return int_from_bytes(negative, octets);
+    }
+    let magnitude = few_value(octets) as u128;
+    if negative && magnitude == 0 {
+        return Err(Reason::BadNumber);
+    }
+    Ok(Int {
+        negative,
+        magnitude,
+    })
 }
 
-/// Whether octets are UTF-8.
+/// The scalar that octets are, by its type code.
+#[tactic(auto, unfolding(ion_value::specs::Scalar::scalar_of_body))]
+#[inline(always)]
+pub(crate) fn scalar_of(type_code: u8, octets: &[u8]) -> Result<Body, Reason>
+    requires type_code { IsBodyTypeCode type_code }
+    ensures gives { MatchResult result
+        (λ b. scalar_of_body type_code octets.now ≡ Ok (as_scalar octets.now b))
+        (λ r. scalar_of_body type_code octets.now ≡ Err r) }
+    ensures number { type_code < 8 → IfOk result (λ b. (text : List ℕ)
+        → as_scalar text b ≡ as_scalar octets.now b) }
+    ensures range { IfOk result (λ b. InRange (as_scalar octets.now b)) }
+{
+    Ok(match type_code {
+        2 => Body::Int(int_of(false, octets)?),
+        3 => Body::Int(int_of(true, octets)?),
+        5 => Body::Decimal(decimal_from_bytes(octets)?),
+        6 => Body::Timestamp(timestamp_from_bytes(octets)?),
+        7 => Body::Symbol(uint_id(octets)),
+        8 if is_text(octets) => Body::String,
+        8 => return Err(Reason::BadText),
+        9 => Body::Clob,
+        _ => Body::Blob,
+    })
+}
+
+// Whether octets are UTF-8.
 #[inline]
-pub(crate) fn is_text(octets: &[u8]) -> bool
+fn is_text(octets: &[u8]) -> bool
     ensures { IsTrue result ↔ IsUtf8 octets.now }
 {
     is_short_ascii(octets) || simdutf8::basic::from_utf8(octets).is_ok()
@@ -142,40 +165,22 @@ fn is_short_ascii(octets: &[u8]) -> bool
     true
 }
 
-// A string or a lob of these octets.
-#[tactic(auto, unfolding(ion_value::specs::Scalar::scalar_of_body))]
-#[inline]
-fn text_or_lob(type_code: u8, octets: &[u8], body: &mut Body) -> Result<(), Reason>
-    requires type_code { (8 ≤ type_code) × (type_code ≤ 10) }
-    ensures gives { MatchResult result
-        (λ _. scalar_of_body type_code octets.now ≡ Ok (as_scalar octets.now body.new))
-        (λ r. scalar_of_body type_code octets.now ≡ Err r) }
-    ensures range { OnOk result (InRange (as_scalar octets.now body.new)) }
-{
-    if type_code == STRING && !is_text(octets) {
-        return Err(Reason::BadText);
-    }
-    *body = match type_code {
-        STRING => Body::String,
-        CLOB => Body::Clob,
-        _ => Body::Blob,
-    };
-    Ok(())
-}
-
-// A scalar of these octets.
+// Puts the scalar that octets are into a body.
 #[inline(never)]
-fn scalar(type_code: u8, octets: &[u8], body: &mut Body) -> Result<(), Reason>
+fn put_scalar(type_code: u8, octets: &[u8], body: &mut Body) -> Result<(), Reason>
     requires type_code { IsBodyTypeCode type_code }
     ensures gives { MatchResult result
         (λ _. scalar_of_body type_code octets.now ≡ Ok (as_scalar octets.now body.new))
         (λ r. scalar_of_body type_code octets.now ≡ Err r) }
     ensures range { OnOk result (InRange (as_scalar octets.now body.new)) }
 {
-    if type_code < STRING {
-        return number(type_code, octets, body);
+    match scalar_of(type_code, octets) {
+        Err(reason) => Err(reason),
+        Ok(scalar) => {
+            *body = scalar;
+            Ok(())
+        }
     }
-    text_or_lob(type_code, octets, body)
 }
 
 /// Passes over n octets; false where the input ends before.
@@ -256,7 +261,8 @@ fn number_in_window<I: Input, A: Allocator + Copy>(
     place: u64,
 ) -> Result<(), Fault>
     requires stands { Stands source.old }
-    requires type_code { IsNumberCode type_code }
+    requires type_code { IsBodyTypeCode type_code }
+    requires number { type_code < 8 }
     requires there { count ≤ length (lent source.old) }
     requires small { count ≤ limits.scalar }
     ensures gives { (text : List ℕ) → Answers (λ _. as_scalar text body.new) result
@@ -265,8 +271,9 @@ fn number_in_window<I: Input, A: Allocator + Copy>(
     ensures range { OnOk result ((text : List ℕ) → InRange (as_scalar text body.new)) }
     ensures reads { Reads I.Input source.old source.new result }
 {
-    if let Err(reason) = number(type_code, &source.buffer()[..count], body) {
-        return Err(Fault::Refused(reason, place));
+    match scalar_of(type_code, &source.buffer()[..count]) {
+        Err(reason) => return Err(Fault::Refused(reason, place)),
+        Ok(scalar) => *body = scalar,
     }
     source.consume(count);
     Ok(())
@@ -309,7 +316,7 @@ pub(crate) fn next_body<I: Input, A: Allocator + Copy>(
         Ok(false) => return Err(Fault::Refused(Reason::Truncated, place)),
         Ok(true) => {}
     }
-    if let Err(reason) = scalar(type_code, text.as_slice(), body) {
+    if let Err(reason) = put_scalar(type_code, text.as_slice(), body) {
         return Err(Fault::Refused(reason, place));
     }
     Ok(())

@@ -21,7 +21,6 @@ mod put;
 pub mod reader;
 mod scalar;
 mod scan;
-mod shown;
 mod value;
 mod waiting;
 mod window;

@@ -3,13 +3,14 @@
 //!
 //! Every test of a region answers `Overrun`. So one test after a length stands for those of the octets
 //! before it: where it holds they are in the region too, and where not, one of them is the first outside.
-ghost use Rattle.std.specs.Prelude.{◌≡◌, ◌+◌, ◌-◌, ◌^◌, ◌<◌, ◌≤◌, ◌&&◌, IfOk};
+ghost use Rattle.std.specs.Prelude.{◌≡◌, ◌+◌, ◌-◌, ◌^◌, ◌<◌, ◌≤◌, ◌&&◌, get_or, length, None, OnOk, IfOk, IfSome};
 ghost use Rattle.ion_value.specs.Answers.{itself};
-ghost use Rattle.ion_binary.specs.Descriptor.{Region as region, is_unwrappable, length_at, var_uint_at};
+ghost use Rattle.ion_binary.specs.Descriptor.{Region as region, is_unwrappable, length_at, shape_of, var_uint_at};
 ghost use Rattle.ion_binary.specs.Finds.{IsOfDescriptor};
 ghost use Rattle.ion_binary.specs.Reading.{fits};
 ghost use Rattle.ion_binary.specs.Scanned.{EndsAt, IfWhole, IsFound, IsRegion, Shows, as_around, begun, found_by, itself_found, part_at, wrapping};
 ghost use Rattle.ion_binary.specs.Shapes.{as_shape};
+ghost use Rattle.ion_binary.specs.Shown.{ShowsLength, ShowsPart, ShowsVar};
 
 use crate::descriptor::Shape;
 use ion_meter::fault::Reason;
@@ -111,6 +112,45 @@ pub(crate) fn scan_var(octets: &[u8], place: u64, end: u64) -> Scanned<u64>
     Scanned::Fault(Reason::BadVar)
 }
 
+/// The number that a VarUInt of one octet or two spells from an offset on, and the offset after it.
+///
+/// It is the fast path of `scan_var`, and calls nothing, so that a loop in which it stands keeps its
+/// values in registers.
+#[inline(always)]
+pub(crate) fn few_var(octets: &[u8], at: usize) -> Option<(u64, usize)>
+    requires { at ≤ length octets.now }
+    ensures shows { IfSome result (λ r. ShowsVar octets.now at r.1 r.0) }
+    ensures small { IfSome result (λ r. r.0 < 2 ^ 14) }
+{
+    if octets.len() - at < 2 {
+        return None;
+    }
+    let first = octets[at] as u64;
+    if first >= 128 {
+        return Some((first - 128, at + 1));
+    }
+    let second = octets[at + 1] as u64;
+    if second >= 128 {
+        return Some((first * 128 + (second - 128), at + 2));
+    }
+    None
+}
+
+/// The length that a descriptor with these low four bits has, where it has two octets at most, and the
+/// offset after it.
+#[inline(always)]
+pub(crate) fn few_length(octets: &[u8], at: usize, length_code: u8) -> Option<(u64, usize)>
+    requires within { at ≤ length octets.now }
+    requires length_code { length_code < 15 }
+    ensures shows { IfSome result (λ r. ShowsLength octets.now length_code at r.1 r.0) }
+    ensures small { IfSome result (λ r. r.0 < 2 ^ 14) }
+{
+    if length_code < 14 {
+        return Some((length_code as u64, at));
+    }
+    few_var(octets, at)
+}
+
 // The length that a descriptor with these low four bits has: 14 says that a VarUInt follows.
 #[inline(always)]
 fn scan_length(octets: &[u8], place: u64, end: u64, length_code: u8) -> Scanned<u64>
@@ -151,7 +191,8 @@ impl Region {
     fn check_fits(self, here: u64, count: u64) -> Result<(), Reason>
         requires region { IsRegion self }
         requires small { here + count < 2 ^ 64 - 1 }
-        ensures { result ≡ fits (as_around self) here count }
+        ensures gives { result ≡ fits (as_around self) here count }
+        ensures within { OnOk result (here + count ≤ self.end) }
     {
         if self.end < here + count {
             return Err(Reason::Overrun);
@@ -169,6 +210,7 @@ impl Region {
         requires small { here + count < 2 ^ 64 - 1 }
         ensures gives { result ≡ begun limits (as_around self) kind here count }
         ensures found { IfOk result (IsFound limits (as_around self)) }
+        ensures within { OnOk result (here + count ≤ self.end) }
     {
         if let Err(reason) = self.check_fits(here, count) {
             return Err(reason);
@@ -180,12 +222,12 @@ impl Region {
     }
 }
 
-/// What a shape begins whose length is known, after which a place is.
-///
-/// Refuses, in this order, a length above the region, a wrapped value that ends before its wrapper, and
-/// too many open containers or too long a scalar.
+// What a shape begins whose length is known, after which a place is.
+//
+// Refuses, in this order, a length above the region, a wrapped value that ends before its wrapper, and
+// too many open containers or too long a scalar.
 #[inline(always)]
-pub(crate) fn found_of(
+fn found_of(
     shape: Shape,
     here: u64,
     count: u64,
@@ -198,6 +240,7 @@ pub(crate) fn found_of(
     requires shape { IsOfDescriptor (as_shape shape) }
     ensures gives { result ≡ found_by limits (as_around region) (as_shape shape) here count }
     ensures found { IfOk result (IsFound limits (as_around region)) }
+    ensures within { IfOk result (λ f. wrapping f ≡ None → here + count ≤ region.end) }
 {
     match shape {
         Shape::Container(kind, _) => region.begin(kind, here, count, limits),
@@ -228,6 +271,38 @@ pub(crate) fn found_of(
             Ok(()) if limits.scalar < count => Err(Reason::ScalarLimit),
             Ok(()) => Ok(Found::Body(type_code, count)),
         },
+    }
+}
+
+/// What a descriptor at an offset of these octets begins that has this shape, where its length has two
+/// octets at most; and the offset after that.
+///
+/// It is the fast path of `scan_part`.
+#[inline(always)]
+pub(crate) fn few_part(
+    octets: &[u8],
+    here: u64,
+    at: usize,
+    shape: Shape,
+    region: Region,
+    limits: Limits,
+) -> Option<(Found, usize)>
+    requires region { IsRegion region }
+    requires small { here + length octets.now < 2 ^ 63 }
+    requires within { at < length octets.now }
+    requires shape { as_shape shape ≡ shape_of (get_or octets.now at 0) }
+    ensures { IfSome result
+        (λ r. ShowsPart limits octets.now here (as_around region) at r.1 r.0) }
+{
+    if region.refuses(octets[at]) {
+        return None;
+    }
+    let Some((count, after)) = few_length(octets, at + 1, shape.length_code()) else {
+        return None;
+    };
+    match found_of(shape, here + after as u64, count, region, limits) {
+        Ok(found) => Some((found, after)),
+        Err(_) => None,
     }
 }
 

@@ -1,6 +1,6 @@
 //! What stands before a value: a field in a struct, and an annotation wrapper (binary encoding,
 //! "13: struct" and "14: Annotations").
-ghost use Rattle.std.specs.Prelude.{◌≡◌, ◌||◌, nat_lt, nat_eq, nat_le, map, ◌+◌, ◌*◌, ◌-◌, ◌^◌, ◌<◌, [], length, Ok, Err, IfOk, MatchResult, is_some};
+ghost use Rattle.std.specs.Prelude.{◌≡◌, ◌||◌, nat_lt, nat_eq, nat_le, map, ◌+◌, ◌*◌, ◌-◌, ◌^◌, ◌<◌, ◌≤◌, [], length, Ok, Err, IfOk, OnOk, MatchResult, is_some};
 ghost use Rattle.ion_value.specs.Standing.{in_struct};
 ghost use Rattle.ion_binary.specs.Descriptor.{Region as region};
 ghost use Rattle.ion_binary.specs.Reading.{ids_at, field_at};
@@ -106,9 +106,12 @@ pub(crate) fn wrapper_of(
 ) -> Result<Wrapper, Reason>
     requires whole { here + count < 2 ^ 64 - 1 }
     requires ids { after + ids < 2 ^ 64 }
-    ensures { (r : region) → EndsAt r region_end → MatchResult result
+    ensures made { (r : region) → EndsAt r region_end → MatchResult result
         (λ w. wrapper_by r here count after ids ≡ Ok (as_wrapped w))
         (λ reason. wrapper_by r here count after ids ≡ Err reason) }
+    ensures ids { IfOk result (λ w. w.ids ≡ after + ids) }
+    ensures room { OnOk result (after + ids < here + count) }
+    ensures within { OnOk result (here + count ≤ region_end) }
 {
     let end = here + count;
     if region_end < end {

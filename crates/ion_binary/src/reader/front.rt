@@ -1,15 +1,18 @@
 //! What stands in front of the head of an item that lies whole in the window.
-ghost use Rattle.std.specs.Prelude.{◌≡◌, ◌+◌, ◌^◌, ◌<◌, length, false, true, Option, Some, None, IfSome};
-ghost use Rattle.ion_binary.specs.Lane.{EndsHere, GoesOn, IsAround, IsNote, IsSecondNote, FillsTo, ShowsField, ShowsFront, frame_in, inner_region, kind_around};
-ghost use Rattle.ion_binary.specs.Descriptor.{Region};
-ghost use Rattle.ion_binary.specs.Shown.{Bounds};
+ghost use Rattle.std.specs.Prelude.{◌≡◌, ◌+◌, ◌^◌, ◌<◌, ◌≤◌, length, false, true, Option, Some, None, IfSome};
+ghost use Rattle.ion_binary.specs.Lane.{EndsHere, GoesOn, IsAround, IsNote, IsSecondNote, ShowsField, ShowsFront, frame_in, kind_around};
+ghost use Rattle.ion_binary.specs.Descriptor.{Region as region};
+ghost use Rattle.ion_binary.specs.Reading.{region_of};
+ghost use Rattle.ion_binary.specs.Scanned.{EndsAt, IsRegion, as_around};
+ghost use Rattle.ion_binary.specs.Shown.{ShowsNote, ShowsSecond, around_after};
 ghost use Rattle.ion_binary.specs.Wrappers.{as_frames, innermost};
 ghost use Rattle.ion_value.specs.Value.{whole};
 
 use super::texts::{begins_with_dollar, shown_text};
 use crate::body::id_of;
-use crate::shown::{shown_note, shown_var};
-use crate::wrapper::Frame;
+use crate::descriptor::Shape;
+use crate::scan::{Region, TOP, Within, few_length, few_var};
+use crate::wrapper::{Frame, wrapper_of};
 use ion_meter::limits::Limits;
 use ion_value::ion_type::Kind;
 use ion_value::names::Names;
@@ -42,7 +45,7 @@ pub(super) fn around_in(frames: &[Frame]) -> Around
     match frames.last().copied() {
         None => Around {
             level: Level::Top,
-            end: u64::MAX,
+            end: TOP,
         },
         Some(frame) => inside(frame),
     }
@@ -81,7 +84,7 @@ pub(super) fn shown_field<'n, N: Names>(
     match around.level {
         Level::Top | Level::List | Level::Sexp => Some((None, 0)),
         Level::Struct => {
-            let Some((id, after)) = shown_var(octets, 0) else {
+            let Some((id, after)) = few_var(octets, 0) else {
                 return None;
             };
             let Some(name) = shown_text(id_of(id), here, names, any) else {
@@ -136,6 +139,73 @@ pub(super) fn bare_front<'n>(field: Option<TextAt<'n>>, at: usize) -> Front<'n>
     }
 }
 
+// An annotation wrapper that is shown, with one annotation or two.
+#[derive(Clone, Copy)]
+pub(super) struct ShownNote {
+    // The number that its first id spells.
+    pub(super) id: u64,
+    // The offset of that id among the octets.
+    pub(super) from: usize,
+    // The number that the second spells, if there is one, and its offset.
+    pub(super) second: Option<(u64, usize)>,
+    // Where its value stands among them.
+    pub(super) inner: usize,
+    // The place of its end in the stream.
+    pub(super) end: u64,
+}
+
+// The second id of a wrapper, from an offset on, unless its ids end there; and their end.
+#[inline(always)]
+fn shown_second(octets: &[u8], at: usize, end: u64) -> Option<(Option<(u64, usize)>, usize)>
+    requires { at ≤ length octets.now }
+    ensures shows { IfSome result (λ r. ShowsSecond octets.now at r.0 r.1) }
+    ensures ends { IfSome result (λ r. r.1 ≡ end) }
+{
+    if end == at as u64 {
+        return Some((None, at));
+    }
+    match few_var(octets, at) {
+        Some((id, inner)) if inner as u64 == end => Some((Some((id, at)), inner)),
+        _ => None,
+    }
+}
+
+// The annotation wrapper whose descriptor stands at an offset of these octets, of which the first stands
+// at `here` in the stream, where it has one annotation or two.
+#[inline(always)]
+fn shown_note(octets: &[u8], here: u64, at: usize, most: u64, limits: Limits) -> Option<ShownNote>
+    requires small { here + length octets.now < 2 ^ 63 }
+    requires within { at < length octets.now }
+    ensures { IfSome result (λ n. (r : region) → EndsAt r most
+        → ShowsNote limits octets.entry.now here r at n) }
+{
+    let Shape::Wrapper(length_code) = Shape::of(octets[at]) else {
+        return None;
+    };
+    let Some((count, after)) = few_length(octets, at + 1, length_code) else {
+        return None;
+    };
+    let Some((ids, from)) = few_var(octets, after) else {
+        return None;
+    };
+    let Some((id, first)) = few_var(octets, from) else {
+        return None;
+    };
+    let Some((second, inner)) = shown_second(octets, first, from as u64 + ids) else {
+        return None;
+    };
+    match wrapper_of(here + after as u64, count, here + from as u64, ids, most) {
+        Ok(wrapper) if limits.scalar >= 32 => Some(ShownNote {
+            id,
+            from,
+            second,
+            inner,
+            end: wrapper.end,
+        }),
+        _ => None,
+    }
+}
+
 // The front of an item in the annotation wrapper that begins at an offset, after a field. It answers none
 // where the window does not show one with an annotation or two, each a text with no dollar sign in front.
 #[inline(always)]
@@ -149,6 +219,7 @@ pub(super) fn noted_front<'n, N: Names>(
     names: &'n N,
 ) -> Option<Front<'n>>
     requires small { here + length octets.now < 2 ^ 63 }
+    requires ends { EndsAt (region_of (innermost (frame_in around))) around.end }
     requires field { ShowsField (N.text names.now) octets.now here
         (innermost (frame_in around)) field at }
     ensures { IfSome result (λ f. ShowsFront (N.text names.entry.now) limits octets.now here
@@ -218,25 +289,18 @@ pub(super) fn is_bare(name: Option<TextAt<'_>>) -> bool {
     }
 }
 
-// How far a value may go: to the end of the wrapper around it, or else of its container.
+// Where a value stands after a front, so many containers being open.
 #[inline(always)]
-pub(super) fn inner_end(wrapper: Option<u64>, around: u64) -> u64
-    ensures { (region : Region) → Bounds region around
-        → Bounds (inner_region wrapper region) result }
+pub(super) fn region_after(front: Front<'_>, around: Around, depth: u32) -> Region
+    requires { EndsAt (region_of (innermost (frame_in around))) around.end }
+    ensures is { as_around result ≡ around_after front.entry.wrapper
+        (region_of (innermost (frame_in around))) depth }
+    ensures region { IsRegion result }
 {
-    match wrapper {
-        Some(end) => end,
-        None => around,
-    }
-}
-
-// Whether what ends at a place fills the wrapper around it.
-#[inline(always)]
-pub(super) fn fills(wrapper: Option<u64>, place: u64) -> bool
-    ensures { result ≡ true → FillsTo wrapper place }
-{
-    match wrapper {
-        Some(end) => end == place,
-        None => true,
-    }
+    let (within, end) = match (front.wrapper, around.level) {
+        (Some(end), _) => (Within::Wrapper, end),
+        (None, Level::Top) => (Within::Top, around.end),
+        (None, Level::List | Level::Sexp | Level::Struct) => (Within::Container, around.end),
+    };
+    Region { within, end, depth }
 }

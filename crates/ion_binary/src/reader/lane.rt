@@ -3,14 +3,17 @@ ghost use Rattle.std.specs.Prelude.{◌≡◌, ◌+◌, ◌*◌, ◌-◌, ◌^�
 ghost use Rattle.ion_value.specs.Items.{named_at, named_item, raw_head};
 ghost use Rattle.ion_value.specs.PlainItems.{IsPlainHead, IsWrittenAs};
 ghost use Rattle.ion_binary.specs.Reader.{kinds_of};
-ghost use Rattle.ion_binary.specs.Lane.{CanHand, CanHandFront, CanHandMember, CanHandOn, CanHandShape, HandsAt, EndsHere, HandsOn, IsAround, FillsTo, frame_in, inner_region};
+ghost use Rattle.ion_binary.specs.Lane.{CanHand, CanHandFront, CanHandMember, CanHandOn, CanHandShape, HandsAt, EndsHere, HandsOn, IsAround, frame_in};
 ghost use Rattle.ion_value.specs.Outcome.{one_if_closed};
 ghost use Rattle.ion_binary.specs.Steps.{IsSized, opened_in};
 ghost use Rattle.ion_binary.specs.Positions.{placed_scalar};
-ghost use Rattle.ion_binary.specs.Reading.{region_of, top_of};
+ghost use Rattle.ion_binary.specs.Reading.{a_scalar, region_of, top_of};
 ghost use Rattle.ion_binary.specs.Descriptor.{shape_of};
 ghost use Rattle.ion_binary.specs.Shapes.{as_shape};
-ghost use Rattle.ion_binary.specs.Shown.{ShowsValue, far_end, shown_scalar};
+ghost use Rattle.ion_binary.specs.Shown.{ShowsPart, ShowsRest, around_after};
+ghost use Rattle.ion_binary.specs.Bodies.{as_scalar};
+ghost use Rattle.ion_binary.specs.Scanned.{HasBody};
+ghost use Rattle.ion_value.specs.Standing.{InRange};
 ghost use Rattle.ion_meter.specs.Counts.{Shrinks};
 ghost use Rattle.ion_meter.specs.Sources.{Stands};
 ghost use Rattle.ion_meter.specs.Windows.{CanPass, IsPassed, lent};
@@ -18,12 +21,13 @@ ghost use Rattle.ion_binary.specs.Wrappers.{as_frames, innermost};
 ghost use Rattle.ion_value.specs.Value.{Id, Text, map_head, symbol, whole};
 
 use super::front::{
-    Around, Front, Level, around_in, bare_front, ends_here, fills, inner_end, inside, is_bare,
-    noted_front, shown_field,
+    Around, Front, Level, around_in, bare_front, ends_here, inside, is_bare, noted_front,
+    region_after, shown_field,
 };
 use super::{BinReader, ItemKind};
+use crate::body::{Body, scalar_of};
 use crate::descriptor::Shape;
-use crate::shown::{Shown, ShownScalar, shown_value};
+use crate::scan::{Found, few_part};
 use crate::wrapper::Frame;
 use ion_meter::device::{Input, Output};
 use ion_meter::meter::Meter;
@@ -63,28 +67,31 @@ fn unspelled<'h>(head: Head<'h>) -> SpelledHead<'h>
     }
 }
 
-// A scalar as a head, where it is no symbol without a text.
+// A scalar as a head, where it is no symbol without a text and no lob; the octets of a string stand
+// beside it.
 #[inline(always)]
 fn shown_head<'h, N: Names>(
-    scalar: ShownScalar<'h>,
+    scalar: Body,
+    text: &'h [u8],
     place: u64,
     names: &'h N,
 ) -> Option<SpelledHead<'h>>
     ensures head { IfSome result (λ h. raw_head h.head
         ≡ map_head (named_at (N.text names.entry.now))
-        (whole (placed_scalar place (shown_scalar scalar.entry)))) }
+        (whole (placed_scalar place (as_scalar text.entry.now scalar)))) }
     ensures known { IfSome result (λ h. IsPlainHead (raw_head h.head)) }
     ensures spelled { IfSome result
         (λ h. IfSome h.spelled (λ t. IsWrittenAs t.quoting t.text.now (raw_head h.head))) }
 {
     match scalar {
-        ShownScalar::Null(of) => Some(unspelled(Head::Null(of))),
-        ShownScalar::Bool(truth) => Some(unspelled(Head::Bool(truth))),
-        ShownScalar::Int(int) => Some(unspelled(Head::Int(int))),
-        ShownScalar::Decimal(decimal) => Some(unspelled(Head::Decimal(decimal))),
-        ShownScalar::Timestamp(moment) => Some(unspelled(Head::Timestamp(moment))),
-        ShownScalar::String(text) => Some(unspelled(Head::String(text))),
-        ShownScalar::Symbol(id) => shown_symbol(id, place, names),
+        Body::Null(of) => Some(unspelled(Head::Null(of))),
+        Body::Bool(truth) => Some(unspelled(Head::Bool(truth))),
+        Body::Int(int) => Some(unspelled(Head::Int(int))),
+        Body::Decimal(decimal) => Some(unspelled(Head::Decimal(decimal))),
+        Body::Timestamp(moment) => Some(unspelled(Head::Timestamp(moment))),
+        Body::String => Some(unspelled(Head::String(text))),
+        Body::Symbol(id) => shown_symbol(id, place, names),
+        Body::Clob | Body::Blob => None,
     }
 }
 
@@ -93,7 +100,7 @@ fn shown_head<'h, N: Names>(
 fn shown_symbol<'h, N: Names>(id: u32, place: u64, names: &'h N) -> Option<SpelledHead<'h>>
     ensures head { IfSome result (λ h. raw_head h.head
         ≡ map_head (named_at (N.text names.entry.now))
-        (whole (placed_scalar place (shown_scalar (ShownScalar.Symbol id))))) }
+        (whole (placed_scalar place (symbol (Id id))))) }
     ensures known { IfSome result (λ h. IsPlainHead (raw_head h.head)) }
     ensures spelled { IfSome result
         (λ h. IfSome h.spelled (λ t. IsWrittenAs t.quoting t.text.now (raw_head h.head))) }
@@ -151,18 +158,6 @@ fn top_at(around: Around, top: u64, here: u64) -> u64
     match around.level {
         Level::Top => here,
         Level::List | Level::Sexp | Level::Struct => top,
-    }
-}
-
-// The place where what is shown ends, a container with its members.
-#[inline(always)]
-fn far_end(here: u64, after: usize, found: Shown<'_>) -> u64
-    requires { here + after < 2 ^ 64 }
-    ensures { result ≡ far_end here after found.entry }
-{
-    match found {
-        Shown::Scalar(_) => here + after as u64,
-        Shown::Begin(_, end) => end,
     }
 }
 
@@ -403,11 +398,11 @@ impl<I: Input, A: Allocator + Copy> BinReader<I, A> {
         }
         match Shape::of(octets[front.head]) {
             Shape::Null(of) => {
-                self.hand_shape(Shape::Null(of), around, front, meter, names, writer, sink)
+                self.hand_scalar(Shape::Null(of), around, front, meter, names, writer, sink)
             }
             Shape::Bool(truth) => {
                 let shape = Shape::Bool(truth);
-                self.hand_shape(shape, around, front, meter, names, writer, sink)
+                self.hand_scalar(shape, around, front, meter, names, writer, sink)
             }
             Shape::Body {
                 type_code,
@@ -418,13 +413,13 @@ impl<I: Input, A: Allocator + Copy> BinReader<I, A> {
             }
             Shape::Container(kind, length_code) => {
                 let shape = Shape::Container(kind, length_code);
-                self.hand_shape(shape, around, front, meter, names, writer, sink)
+                self.hand_begin(shape, around, front, meter, names, writer, sink)
             }
             _ => false,
         }
     }
 
-    // Hands on a scalar with a body, by its type code. Lobs are not handed on.
+    // Hands on a scalar with a body, by its type code. Lobs are not handed on, nor ints of more than eight octets.
     #[inline(always)]
     fn hand_body<N: Names, W: ValueWriter<O, A>, O: Output, const RUN: u8>(
         &mut self,
@@ -449,66 +444,32 @@ impl<I: Input, A: Allocator + Copy> BinReader<I, A> {
             return false;
         };
         match type_code {
-            2 => {
+            2 if length_code <= 8 => {
                 let shape = Shape::body(2, length_code);
-                self.hand_shape(shape, around, front, meter, names, writer, sink)
+                self.hand_scalar(shape, around, front, meter, names, writer, sink)
             }
-            3 => {
+            3 if length_code <= 8 => {
                 let shape = Shape::body(3, length_code);
-                self.hand_shape(shape, around, front, meter, names, writer, sink)
+                self.hand_scalar(shape, around, front, meter, names, writer, sink)
             }
             5 => {
                 let shape = Shape::body(5, length_code);
-                self.hand_shape(shape, around, front, meter, names, writer, sink)
+                self.hand_scalar(shape, around, front, meter, names, writer, sink)
             }
             6 => {
                 let shape = Shape::body(6, length_code);
-                self.hand_shape(shape, around, front, meter, names, writer, sink)
+                self.hand_scalar(shape, around, front, meter, names, writer, sink)
             }
             7 => {
                 let shape = Shape::body(7, length_code);
-                self.hand_shape(shape, around, front, meter, names, writer, sink)
+                self.hand_scalar(shape, around, front, meter, names, writer, sink)
             }
             8 => {
                 let shape = Shape::body(8, length_code);
-                self.hand_shape(shape, around, front, meter, names, writer, sink)
+                self.hand_scalar(shape, around, front, meter, names, writer, sink)
             }
             _ => false,
         }
-    }
-
-    // What is shown after a front of a head of this shape, and how many octets the item has.
-    #[inline(always)]
-    fn shown_after(
-        &self,
-        shape: Shape,
-        around: Around,
-        front: Front<'_>,
-    ) -> Option<(Shown<'_>, usize)>
-        requires stands { Stands self.now.source }
-        requires sized { IsSized self.now }
-        requires within { front.head < length (lent self.now.source) }
-        requires shape { as_shape shape ≡ shape_of (get_or (lent self.now.source) front.head 0) }
-        ensures shows { IfSome result (λ r. ShowsValue self.entry.now.limits
-            (lent self.entry.now.source) self.entry.now.source.place
-            (inner_region front.entry.wrapper (region_of (innermost (frame_in around))))
-            (length (as_frames self.entry.now.frames)) front.entry.head r.1 r.0) }
-        ensures fills { IfSome result (λ r. FillsTo front.entry.wrapper
-            (far_end self.entry.now.source.place r.1 r.0)) }
-    {
-        let here = self.source.place();
-        let octets = self.source.buffer();
-        let most = inner_end(front.wrapper, around.end);
-        let depth = self.frames.as_slice().len() as u32;
-        let at = front.head;
-        let Some((found, after)) = shown_value(shape, octets, here, at, most, depth, self.limits)
-        else {
-            return None;
-        };
-        if !fills(front.wrapper, far_end(here, after, found)) {
-            return None;
-        }
-        Some((found, after))
     }
 
     // Passes over an item whose octets are so many.
@@ -528,9 +489,53 @@ impl<I: Input, A: Allocator + Copy> BinReader<I, A> {
         self.source.consume(count);
     }
 
-    // Hands on an item whose descriptor has this shape.
+    // What stands after a front, by a descriptor of this shape, and the offset after its length.
     #[inline(always)]
-    pub(super) fn hand_shape<N: Names, W: ValueWriter<O, A>, O: Output>(
+    fn found_after(&self, shape: Shape, around: Around, front: Front<'_>) -> Option<(Found, usize)>
+        requires stands { Stands self.now.source }
+        requires sized { IsSized self.now }
+        requires around { IsAround (as_frames self.now.frames) around }
+        requires within { front.head < length (lent self.now.source) }
+        requires shape { as_shape shape ≡ shape_of (get_or (lent self.now.source) front.head 0) }
+        ensures { IfSome result (λ r. ShowsPart self.entry.now.limits (lent self.entry.now.source)
+            self.entry.now.source.place (around_after front.entry.wrapper
+            (region_of (innermost (frame_in around))) (length (as_frames self.entry.now.frames)))
+            front.entry.head r.1 r.0) }
+    {
+        let octets = self.source.buffer();
+        let here = self.source.place();
+        let region = region_after(front, around, self.frames.as_slice().len() as u32);
+        few_part(octets, here, front.head, shape, region, self.limits)
+    }
+
+    // The scalar that was found, whose body stands from an offset on, and the octets of that.
+    #[inline(always)]
+    fn scalar_after(&self, found: Found, from: usize) -> Option<(Body, &[u8])>
+        requires body { HasBody self.now.limits found }
+        requires within { from ≤ length (lent self.now.source) }
+        ensures shows { IfSome result (λ r. ShowsRest self.entry.now.limits
+            (lent self.entry.now.source) self.entry.now.source.place found from
+            (from + length r.1.now) (a_scalar (as_scalar r.1.now r.0))) }
+        ensures range { IfSome result (λ r. InRange (as_scalar r.1.now r.0)) }
+    {
+        let octets = self.source.buffer();
+        match found {
+            Found::Null(of) => Some((Body::Null(of), &octets[..0])),
+            Found::Bool(truth) => Some((Body::Bool(truth), &octets[..0])),
+            Found::Body(type_code, count) if count <= (octets.len() - from) as u64 => {
+                let text = &octets[from..from + count as usize];
+                match scalar_of(type_code, text) {
+                    Ok(scalar) => Some((scalar, text)),
+                    Err(_) => None,
+                }
+            }
+            _ => None,
+        }
+    }
+
+    // Hands on a scalar whose descriptor has this shape.
+    #[inline(always)]
+    fn hand_scalar<N: Names, W: ValueWriter<O, A>, O: Output>(
         &mut self,
         shape: Shape,
         around: &mut Around,
@@ -545,37 +550,59 @@ impl<I: Input, A: Allocator + Copy> BinReader<I, A> {
         ensures { HandsAt I.Input W.ValueWriter (named_item (N.text names.now)) self.old self.new
             writer.old writer.new sink.old sink.new meter.old meter.new around.new result }
     {
-        let Some((found, after)) = self.shown_after(shape, *around, front) else {
+        let Some((found, from)) = self.found_after(shape, *around, front) else {
+            return false;
+        };
+        let Some((scalar, text)) = self.scalar_after(found, from) else {
+            return false;
+        };
+        let after = from + text.len();
+        let here = self.source.place();
+        let place = here + front.head as u64;
+        let Some(head) = shown_head(scalar, text, place, names) else {
+            return false;
+        };
+        let item = item_after(front, head, place, top_at(*around, self.top, here));
+        if !writer.take_plain(meter, sink, item) {
+            return false;
+        }
+        self.pass(*around, after);
+        true
+    }
+
+    // Hands on the beginning of a container whose descriptor has this shape.
+    #[inline(always)]
+    fn hand_begin<N: Names, W: ValueWriter<O, A>, O: Output>(
+        &mut self,
+        shape: Shape,
+        around: &mut Around,
+        front: Front<'_>,
+        meter: &mut Meter<A>,
+        _names: &N,
+        writer: &mut W,
+        sink: &mut Sink<O, A>,
+    ) -> bool
+        requires { CanHandShape W.ValueWriter (N.text _names.now) self.old around.old front
+            (as_shape shape) writer.old sink.old meter.old }
+        ensures { HandsAt I.Input W.ValueWriter (named_item (N.text _names.now)) self.old self.new
+            writer.old writer.new sink.old sink.new meter.old meter.new around.new result }
+    {
+        let Some((Found::Begin(kind, end), after)) = self.found_after(shape, *around, front) else {
             return false;
         };
         let here = self.source.place();
         let place = here + front.head as u64;
-        let top = top_at(*around, self.top, here);
-        match found {
-            Shown::Scalar(scalar) => {
-                let Some(shown) = shown_head(scalar, place, names) else {
-                    return false;
-                };
-                let item = item_after(front, shown, place, top);
-                if !writer.take_plain(meter, sink, item) {
-                    return false;
-                }
-                self.pass(*around, after);
-                true
-            }
-            Shown::Begin(kind, end) => {
-                let item = item_after(front, unspelled(Head::Begin(kind)), place, top);
-                if !self.frames.push_within(meter, Frame { kind, end }) {
-                    return false;
-                }
-                if !writer.take_plain(meter, sink, item) {
-                    self.frames.pop(meter);
-                    return false;
-                }
-                self.pass(*around, after);
-                *around = inside(Frame { kind, end });
-                true
-            }
+        let head = unspelled(Head::Begin(kind));
+        let item = item_after(front, head, place, top_at(*around, self.top, here));
+        if !self.frames.push_within(meter, Frame { kind, end }) {
+            return false;
         }
+        if !writer.take_plain(meter, sink, item) {
+            self.frames.pop(meter);
+            return false;
+        }
+        self.pass(*around, after);
+        *around = inside(Frame { kind, end });
+        true
     }
 }

@@ -13,11 +13,11 @@ returns-clause-range g c = grind (arith, common_steps) steps 400000
 pub returns-clause-goes : goal.returns-clause-goes
 returns-clause-goes g c = grind (arith, common_steps) steps 400000
 
-pub returns-in-Err-scalar-clause-reads : goal.returns-in-Err-scalar-clause-reads
-returns-in-Err-scalar-clause-reads g c = grind (arith, common_steps) steps 1200000
+pub returns-in-Err-put_scalar-clause-reads : goal.returns-in-Err-put_scalar-clause-reads
+returns-in-Err-put_scalar-clause-reads g c = grind (arith, common_steps) steps 1200000
 
-pub returns-in-Err-scalar-clause-goes : goal.returns-in-Err-scalar-clause-goes
-returns-in-Err-scalar-clause-goes g c = grind (arith, common_steps) steps 400000
+pub returns-in-Err-put_scalar-clause-goes : goal.returns-in-Err-put_scalar-clause-goes
+returns-in-Err-put_scalar-clause-goes g c = grind (arith, common_steps) steps 400000
 
 pub returns-in-Ok-false-clause-reads : goal.returns-in-Ok-false-clause-reads
 returns-in-Ok-false-clause-reads g c = grind (arith, common_steps) steps 1200000

@@ -1,4 +1,4 @@
-use Rattle.std.proofs.Common.{refl, ap, sym, ◌∙◌, ℕ, List, take, arith}
+use Rattle.std.proofs.Common.{◌≡◌, Ok, refl, ap, sym, ◌∙◌, ℕ, List, take, arith}
 use Rattle.std.proofs.lemmas.Grind.{common_steps}
 use Rattle.ion_meter.proofs.Lent.{lent-take}
 use Rattle.ion_value.specs.Scalar.{scalar_of_body}
@@ -22,10 +22,10 @@ pub returns-clause-gives : goal.returns-clause-gives
 returns-clause-gives g c = λ text.
     let s = c.args.source.now in
     let same = ap (λ (l : List ℕ). take c.args.count l) c.buffer.ensures ∙ sym (lent-take g.I.Input.rest s c.args.count c.requires.there) in
-    let read = c.in_default.ensures.gives in
+    let read : scalar_of_body c.args.type_code (take c.args.count c.buffer.result.now) ≡ Ok (as_scalar text c.in-Ok.scalar) = c.in-Ok.ensures.gives ∙ ap (λ v. Ok v) (sym (c.in-Ok.ensures.number c.requires.number text)) in
     let after = IsPassed-cursor g.I.Input s c.consume.new.self c.args.count c.requires.there c.consume.ensures in
-    rw after (body_here-read c.args.limits c.args.type_code c.args.count (cursor g.I.Input s) (as_scalar text c.number.new.body) c.requires.small (lent-there g.I.Input.rest s c.args.count c.requires.there)
-    (ap (scalar_of_body c.args.type_code) (sym same) ∙ read text))
+    rw after (body_here-read c.args.limits c.args.type_code c.args.count (cursor g.I.Input s) (as_scalar text c.in-Ok.scalar) c.requires.small (lent-there g.I.Input.rest s c.args.count c.requires.there)
+    (ap (scalar_of_body c.args.type_code) (sym same) ∙ read))
 
 pub consume-requires : goal.consume-requires
 consume-requires g c = grind (arith, common_steps)
@@ -36,8 +36,8 @@ returns-clause-reads g c = grind (arith, common_steps)
 pub returns-in-Err-clause-reads : goal.returns-in-Err-clause-reads
 returns-in-Err-clause-reads g c = grind (arith, common_steps) steps 400000
 
-pub slice_bounds-number-end : goal.slice_bounds-number-end
-slice_bounds-number-end g c = grind (arith, common_steps) steps 400000
+pub slice_bounds-scalar_of-end : goal.slice_bounds-scalar_of-end
+slice_bounds-scalar_of-end g c = grind (arith, common_steps) steps 400000
 
 pub returns-clause-range : goal.returns-clause-range
 returns-clause-range g c = grind (arith, common_steps) steps 400000

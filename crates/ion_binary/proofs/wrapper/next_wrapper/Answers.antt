@@ -24,7 +24,7 @@ returns-in-Err-wrapper_of-clause-gives g c t =
     let new = cursor g.I.Input c.next_var_uint.new.source in
     let r = region_in c.args.around.within c.args.around.end in
     let ids : var_uint_at (Some (old.place + c.args.count)) old ≡ Ok (c.in-Ok.ids, new) = ap (λ (p : ℕ). var_uint_at (Some (p + c.args.count)) old) (sym c.place-here.ensures) ∙ c.in-Ok.ensures.gives t in
-    let by : wrapper_by r old.place c.args.count new.place c.in-Ok.ids ≡ Err c.in-Err-wrapper_of.reason = rw (c.place-here.ensures, c.place.ensures) at (c.in-Err-wrapper_of.ensures r c.requires.around) in
+    let by : wrapper_by r old.place c.args.count new.place c.in-Ok.ids ≡ Err c.in-Err-wrapper_of.reason = rw (c.place-here.ensures, c.place.ensures) at (c.in-Err-wrapper_of.ensures.made r c.requires.around) in
     (wrapper_after-ids r c.args.count c.in-Ok.ids old new ids ∙ ap (λ w. w >>= λ x. Ok (x, new)) by, refl)
 
 pub returns-in-Ok-wrapper_of-clause-gives : goal.returns-in-Ok-wrapper_of-clause-gives
@@ -33,7 +33,7 @@ returns-in-Ok-wrapper_of-clause-gives g c t =
     let new = cursor g.I.Input c.next_var_uint.new.source in
     let r = region_in c.args.around.within c.args.around.end in
     let ids : var_uint_at (Some (old.place + c.args.count)) old ≡ Ok (c.in-Ok.ids, new) = ap (λ (p : ℕ). var_uint_at (Some (p + c.args.count)) old) (sym c.place-here.ensures) ∙ c.in-Ok.ensures.gives t in
-    let by : wrapper_by r old.place c.args.count new.place c.in-Ok.ids ≡ Ok (as_wrapped c.in-Ok-wrapper_of.wrapper) = rw (c.place-here.ensures, c.place.ensures) at (c.in-Ok-wrapper_of.ensures r c.requires.around) in
+    let by : wrapper_by r old.place c.args.count new.place c.in-Ok.ids ≡ Ok (as_wrapped c.in-Ok-wrapper_of.wrapper) = rw (c.place-here.ensures, c.place.ensures) at (c.in-Ok-wrapper_of.ensures.made r c.requires.around) in
     wrapper_after-ids r c.args.count c.in-Ok.ids old new ids ∙ ap (λ w. w >>= λ x. Ok (x, new)) by
 
 pub returns-in-Err-clause-reads : goal.returns-in-Err-clause-reads

@@ -1,14 +1,17 @@
 use Rattle.std.proofs.Common.{arith}
 use Rattle.std.proofs.lemmas.Grind.{common_steps}
 use Rattle.ion_binary.specs.Lane.{frame_in}
-use Rattle.ion_binary.specs.Wrappers.{innermost}
-use Rattle.ion_binary.proofs.Handing.{front_bare}
+use Rattle.ion_binary.specs.Wrappers.{as_frames, innermost}
+use Rattle.ion_binary.proofs.Handing.{ends_around, front_bare}
 use Rattle.ion_meter.specs.Windows.{lent}
 use Rattle.ion_binary.proofs.HandingKeeps.{hands-none}
 use Rattle.ion_binary.proofs.reader.BinReader.hand_member.Goals as goal
 
 pub noted_front-requires-clause-field : goal.noted_front-requires-clause-field
 noted_front-requires-clause-field g c = c.in-Some.ensures
+
+pub noted_front-requires-clause-ends : goal.noted_front-requires-clause-ends
+noted_front-requires-clause-ends g c = ends_around (as_frames c.args.self.now.frames) c.args.around.now c.requires.around
 
 pub noted_front-requires-clause-small : goal.noted_front-requires-clause-small
 noted_front-requires-clause-small g c = grind (arith, common_steps)

@@ -1,6 +1,6 @@
 use Rattle.std.proofs.Common.{◌+◌, arith}
 use Rattle.ion_binary.proofs.ShownParts.{shows_one, shows_two}
-use Rattle.ion_binary.proofs.shown.shown_var.Goals as goal
+use Rattle.ion_binary.proofs.scan.few_var.Goals as goal
 
 pub returns-then-first-ge128-clause-shows : goal.returns-then-first-ge128-clause-shows
 returns-then-first-ge128-clause-shows c =

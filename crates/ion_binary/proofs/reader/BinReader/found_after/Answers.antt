@@ -1,0 +1,18 @@
+use Rattle.std.proofs.Common.{sym, arith}
+use Rattle.std.proofs.lemmas.Grind.{common_steps}
+use Rattle.ion_binary.specs.Wrappers.{as_frames}
+use Rattle.ion_binary.proofs.Handing.{ends_around}
+use Rattle.ion_binary.proofs.ReaderParts.{as_frames-length}
+use Rattle.ion_binary.proofs.reader.BinReader.found_after.Goals as goal
+
+pub region_after-region-requires : goal.region_after-region-requires
+region_after-region-requires g c = ends_around (as_frames c.args.self.now.frames) c.args.around c.requires.around
+
+pub few_part-requires-clause-small : goal.few_part-requires-clause-small
+few_part-requires-clause-small g c = grind (arith, common_steps)
+
+pub few_part-requires-clause-within : goal.few_part-requires-clause-within
+few_part-requires-clause-within g c = grind (arith, common_steps) steps 400000
+
+pub returns : goal.returns
+returns g c = rw (c.buffer-octets.ensures, c.place-here.ensures, c.region_after-region.ensures.is, c.as_slice.ensures, sym (as_frames-length c.args.self.now.frames)) at c.few_part.ensures

@@ -18,7 +18,7 @@ use Rattle.ion_binary.specs.Descriptor.{Region, Shape, falls_short, first_octet,
 use Rattle.ion_binary.specs.Parts.{body_here}
 use Rattle.ion_binary.specs.Positions.{Frame, State}
 use Rattle.ion_binary.specs.Reading.{Around, TypedValue, a_scalar, annotated_at, bare_at, begin_at, body_at, by_wrapper, container_at, fits, inner_at, is_top, marker_at, nop_pad_at, plain_at, read_by_descriptor, region_of, scalar_at, sorted_at, step_for, typed_value_at, value_at, wrapper_length}
-use Rattle.ion_binary.specs.Scanned.{HasBody, IsFound, begun, found_at, found_by, length_code_of, noted_at, pad_at, part_at, rest_at, wrapper_after, wrapping}
+use Rattle.ion_binary.specs.Scanned.{IsFound, begun, found_at, found_by, length_code_of, noted_at, pad_at, part_at, rest_at, wrapper_after, wrapping}
 use Rattle.ion_binary.proofs.StepPreservesPath.{wrapper_is}
 use Rattle.ion_binary.proofs.WrapperCode.{wrapper_at-after}
 
@@ -262,15 +262,6 @@ unfolding value_at part_at
 value_at-parts limits frames top f c w r depth outside e l = rw (outside, sym e, sym l) (value-octet limits frames top f c.place (octet_at (region_of frames) c) c refl)
 
 -- ---- by what is found
-
-pub found-body : (limits : Limits) (a : Around) (x : Found) → IsFound limits a x → HasBody limits x
-found-body limits a (found.Body type_code n) h = h
-found-body limits a (found.Begin k end) h = tt
-found-body limits a found.Marker h = tt
-found-body limits a (found.Wrapper n) h = tt
-found-body limits a (found.NopPad n) h = tt
-found-body limits a (found.Null t) h = tt
-found-body limits a (found.Bool truth) h = tt
 
 pub found-wraps : (limits : Limits) (a : Around) (x : Found) (n : ℕ) → wrapping x ≡ Some n → IsFound limits a x → n < 2 ^ 63
 found-wraps limits a (found.Wrapper m) n e h = let k : m ≡ n = cc e in omega (arith, k, h)

@@ -158,6 +158,10 @@ IsFound limits a (found.NopPad n) = ⊤
 IsFound limits a (found.Null t) = ⊤
 IsFound limits a (found.Bool truth) = ⊤
 
+-- it was found somewhere
+abbrev pub WasFound : Limits → Found → Type 0
+WasFound limits f = (a : Around) × IsFound limits a f
+
 -- ---- what follows them
 
 -- the octets of a NOP pad
@@ -181,16 +185,6 @@ rest_at limits (found.Bool truth) c = Ok (a_scalar (value.bool truth), c)
 rest_at limits (found.Body type_code n) c = body_here limits type_code n c >>= λ v. Ok (a_scalar v.0, v.1)
 rest_at limits (found.Begin k end) c = Ok (a_container k end, c)
 rest_at limits (found.Wrapper n) c = Err BadAnnotation
-
--- a body that follows is one of its type code, and within the limit
-abbrev pub HasBody : Limits → Found → Type 0
-HasBody limits (found.Body type_code n) = IsBodyTypeCode type_code × (n ≤ limits.scalar)
-HasBody limits (found.Begin k end) = ⊤
-HasBody limits found.Marker = ⊤
-HasBody limits (found.Wrapper n) = ⊤
-HasBody limits (found.NopPad n) = ⊤
-HasBody limits (found.Null t) = ⊤
-HasBody limits (found.Bool truth) = ⊤
 
 -- a wrapper of n octets from a place on, whose annotations have so many from another place on
 abbrev pub wrapper_by : Region → ℕ → ℕ → ℕ → ℕ → Result Wrapped Reason

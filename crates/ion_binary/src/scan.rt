@@ -3,7 +3,7 @@
 //!
 //! Every test of a region answers `Overrun`. So one test after a length stands for those of the octets
 //! before it: where it holds they are in the region too, and where not, one of them is the first outside.
-ghost use Rattle.std.specs.Prelude.{◌≡◌, ◌+◌, ◌-◌, ◌^◌, ◌<◌, ◌≤◌, ◌&&◌, get_or, length, None, OnOk, IfOk, IfSome};
+ghost use Rattle.std.specs.Prelude.{◌≡◌, ℕ, ◌+◌, ◌-◌, ◌^◌, ◌<◌, ◌≤◌, ◌&&◌, get_or, length, None, OnOk, IfOk, IfSome};
 ghost use Rattle.ion_value.specs.Answers.{itself};
 ghost use Rattle.ion_binary.specs.Descriptor.{Region as region, is_unwrappable, length_at, shape_of, var_uint_at};
 ghost use Rattle.ion_binary.specs.Finds.{IsOfDescriptor};
@@ -186,66 +186,70 @@ impl Region {
         self.is_wrapper() && (octet / 16 == 14 || octet < 15)
     }
 
-    // So many octets from a place on do not pass the region, and fill it where it is a wrapper.
+    // Octets that end at a place do not pass the region, and fill it where it is a wrapper.
     #[inline(always)]
-    fn check_fits(self, here: u64, count: u64) -> Result<(), Reason>
+    fn check_fits(self, end: u64) -> Result<(), Reason>
         requires region { IsRegion self }
-        requires small { here + count < 2 ^ 64 - 1 }
-        ensures gives { result ≡ fits (as_around self) here count }
-        ensures within { OnOk result (here + count ≤ self.end) }
+        requires small { end < 2 ^ 64 - 1 }
+        ensures gives { (here count : ℕ) → end ≡ here + count
+            → result ≡ fits (as_around self) here count }
+        ensures within { OnOk result (end ≤ self.end) }
     {
-        if self.end < here + count {
+        if self.end < end {
             return Err(Reason::Overrun);
         }
-        if self.is_wrapper() && here + count < self.end {
+        if self.is_wrapper() && end < self.end {
             return Err(Reason::BadAnnotation);
         }
         Ok(())
     }
 
-    // A container whose members have so many octets, from a place on.
+    // A container whose members end at a place.
     #[inline(always)]
-    fn begin(self, kind: Kind, here: u64, count: u64, limits: Limits) -> Result<Found, Reason>
+    fn begin(self, kind: Kind, end: u64, limits: Limits) -> Result<Found, Reason>
         requires region { IsRegion self }
-        requires small { here + count < 2 ^ 64 - 1 }
-        ensures gives { result ≡ begun limits (as_around self) kind here count }
+        requires small { end < 2 ^ 64 - 1 }
+        ensures gives { (here count : ℕ) → end ≡ here + count
+            → result ≡ begun limits (as_around self) kind here count }
         ensures found { IfOk result (IsFound limits (as_around self)) }
-        ensures within { OnOk result (here + count ≤ self.end) }
+        ensures within { OnOk result (end ≤ self.end) }
     {
-        if let Err(reason) = self.check_fits(here, count) {
+        if let Err(reason) = self.check_fits(end) {
             return Err(reason);
         }
         if limits.depth <= self.depth {
             return Err(Reason::DepthLimit);
         }
-        Ok(Found::Begin(kind, here + count))
+        Ok(Found::Begin(kind, end))
     }
 }
 
-// What a shape begins whose length is known, after which a place is.
+// What a shape begins whose length is known, by the place where so many octets after it end. That is
+// given, so that it is a sum which callers have too.
 //
 // Refuses, in this order, a length above the region, a wrapped value that ends before its wrapper, and
 // too many open containers or too long a scalar.
 #[inline(always)]
 fn found_of(
     shape: Shape,
-    here: u64,
+    end: u64,
     count: u64,
     region: Region,
     limits: Limits,
 ) -> Result<Found, Reason>
     requires region { IsRegion region }
-    requires small { here + count < 2 ^ 64 - 1 }
+    requires small { end < 2 ^ 64 - 1 }
     requires count { count < 2 ^ 63 }
     requires shape { IsOfDescriptor (as_shape shape) }
-    ensures gives { result ≡ found_by limits (as_around region) (as_shape shape) here count }
+    ensures gives { (here : ℕ) → end ≡ here + count
+        → result ≡ found_by limits (as_around region) (as_shape shape) here count }
     ensures found { IfOk result (IsFound limits (as_around region)) }
-    ensures within { IfOk result (λ f. wrapping f ≡ None → here + count ≤ region.end) }
+    ensures within { IfOk result (λ f. wrapping f ≡ None → end ≤ region.end) }
 {
     match shape {
-        Shape::Container(kind, _) => region.begin(kind, here, count, limits),
+        Shape::Container(kind, _) => region.begin(kind, end, limits),
         Shape::Sorted if count == 0 => Err(Reason::BadDescriptor),
-        Shape::Sorted => region.begin(Kind::Struct, here, count, limits),
+        Shape::Sorted => region.begin(Kind::Struct, end, limits),
         Shape::Wrapper(_) => Ok(Found::Wrapper(count)),
         Shape::Float => Err(Reason::Float),
         Shape::Illegal => Err(Reason::BadDescriptor),
@@ -253,20 +257,20 @@ fn found_of(
             Within::Top => Ok(Found::Marker),
             _ => Err(Reason::BadDescriptor),
         },
-        Shape::NopPad(_) if region.end < here + count => Err(Reason::Overrun),
+        Shape::NopPad(_) if region.end < end => Err(Reason::Overrun),
         Shape::NopPad(_) => Ok(Found::NopPad(count)),
-        Shape::Null(of) => match region.check_fits(here, count) {
+        Shape::Null(of) => match region.check_fits(end) {
             Err(reason) => Err(reason),
             Ok(()) => Ok(Found::Null(of)),
         },
-        Shape::Bool(truth) => match region.check_fits(here, count) {
+        Shape::Bool(truth) => match region.check_fits(end) {
             Err(reason) => Err(reason),
             Ok(()) => Ok(Found::Bool(truth)),
         },
         Shape::Body {
             type_code,
             length_code: _,
-        } => match region.check_fits(here, count) {
+        } => match region.check_fits(end) {
             Err(reason) => Err(reason),
             Ok(()) if limits.scalar < count => Err(Reason::ScalarLimit),
             Ok(()) => Ok(Found::Body(type_code, count)),
@@ -300,7 +304,8 @@ pub(crate) fn few_part(
     let Some((count, after)) = few_length(octets, at + 1, shape.length_code()) else {
         return None;
     };
-    match found_of(shape, here + after as u64, count, region, limits) {
+    let end = here + (after + count as usize) as u64;
+    match found_of(shape, end, count, region, limits) {
         Ok(found) => Some((found, after)),
         Err(_) => None,
     }
@@ -334,7 +339,7 @@ pub(crate) fn scan_part(octets: &[u8], place: u64, region: Region, limits: Limit
         Scanned::Cut => Scanned::Cut,
         Scanned::Fault(reason) => Scanned::Fault(reason),
         Scanned::Whole(count, n) => {
-            match found_of(shape, here + n as u64, count, region, limits) {
+            match found_of(shape, here + n as u64 + count, count, region, limits) {
                 Err(reason) => Scanned::Fault(reason),
                 Ok(found) => Scanned::Whole(found, n + 1),
             }

@@ -7,7 +7,7 @@ ghost use Rattle.ion_binary.specs.Positions.{Frame};
 ghost use Rattle.ion_binary.specs.Reading.{a_marker, a_nop_pad, region_of, inner_at, value_at};
 ghost use Rattle.ion_binary.specs.Bodies.{as_scalar};
 ghost use Rattle.ion_binary.specs.Finds.{as_typed_value};
-ghost use Rattle.ion_binary.specs.Scanned.{HasBody, IsRegion, is_wrapper, noted_at, pad_at, region_in, rest_at, version_at};
+ghost use Rattle.ion_binary.specs.Scanned.{IsRegion, WasFound, is_wrapper, noted_at, pad_at, region_in, rest_at, version_at};
 ghost use Rattle.ion_meter.specs.Sources.{cursor, Stands};
 ghost use Rattle.ion_value.specs.Calls.{AnswersBy, CanRead, Reads, ReadsInto, passed_over};
 ghost use Rattle.ion_value.specs.Shares.{GrowsWithin};
@@ -98,7 +98,7 @@ fn next_rest<I: Input, A: Allocator + Copy>(
     meter: &mut Meter<A>,
 ) -> Result<TypedValue, Fault>
     requires can_read { CanRead limits limits.scalar source.old text.old meter.old }
-    requires body { HasBody limits found }
+    requires found { WasFound limits found }
     ensures gives { AnswersBy I.Input (as_typed_value text.new body.new)
         source.old source.new place result (rest_at limits found) }
     ensures range { result ≡ Ok TypedValue.Scalar → InRange (as_scalar text.new body.new) }

@@ -1,5 +1,5 @@
 //! Items that lie whole in the window, handed to a writer.
-ghost use Rattle.std.specs.Prelude.{◌≡◌, ◌+◌, ◌*◌, ◌-◌, ◌^◌, ◌<◌, ◌≤◌, get_or, length, drop, false, true, Option, Some, None, IfSome};
+ghost use Rattle.std.specs.Prelude.{◌≡◌, ◌+◌, ◌*◌, ◌-◌, ◌^◌, ◌<◌, ◌≤◌, get_or, length, drop, false, true, ℕ, Option, Some, None, IfSome};
 ghost use Rattle.ion_value.specs.Items.{named_at, named_item, raw_head};
 ghost use Rattle.ion_value.specs.PlainItems.{IsPlainHead, IsWrittenAs};
 ghost use Rattle.ion_binary.specs.Reader.{kinds_of};
@@ -12,7 +12,7 @@ ghost use Rattle.ion_binary.specs.Descriptor.{shape_of};
 ghost use Rattle.ion_binary.specs.Shapes.{as_shape};
 ghost use Rattle.ion_binary.specs.Shown.{ShowsPart, ShowsRest, around_after};
 ghost use Rattle.ion_binary.specs.Bodies.{as_scalar};
-ghost use Rattle.ion_binary.specs.Scanned.{HasBody};
+ghost use Rattle.ion_binary.specs.Scanned.{WasFound};
 ghost use Rattle.ion_value.specs.Standing.{InRange};
 ghost use Rattle.ion_meter.specs.Counts.{Shrinks};
 ghost use Rattle.ion_meter.specs.Sources.{Stands};
@@ -30,6 +30,7 @@ use crate::descriptor::Shape;
 use crate::scan::{Found, few_part};
 use crate::wrapper::Frame;
 use ion_meter::device::{Input, Output};
+use ion_meter::limits::Limits;
 use ion_meter::meter::Meter;
 use ion_meter::sink::Sink;
 use ion_value::item::{Head, Sym, SymAt};
@@ -92,6 +93,29 @@ fn shown_head<'h, N: Names>(
         Body::String => Some(unspelled(Head::String(text))),
         Body::Symbol(id) => shown_symbol(id, place, names),
         Body::Clob | Body::Blob => None,
+    }
+}
+
+// The scalar that was found, whose body stands from an offset on, and the octets of that.
+#[inline(always)]
+fn scalar_after(octets: &[u8], found: Found, from: usize, _limits: Limits) -> Option<(Body, &[u8])>
+    requires found { WasFound _limits found }
+    requires within { from ≤ length octets.now }
+    ensures shows { IfSome result (λ r. (here : ℕ) → ShowsRest _limits octets.entry.now here found
+        from (from + length r.1.now) (a_scalar (as_scalar r.1.now r.0))) }
+    ensures range { IfSome result (λ r. InRange (as_scalar r.1.now r.0)) }
+{
+    match found {
+        Found::Null(of) => Some((Body::Null(of), &octets[..0])),
+        Found::Bool(truth) => Some((Body::Bool(truth), &octets[..0])),
+        Found::Body(type_code, count) if count <= (octets.len() - from) as u64 => {
+            let text = &octets[from..from + count as usize];
+            match scalar_of(type_code, text) {
+                Ok(scalar) => Some((scalar, text)),
+                Err(_) => None,
+            }
+        }
+        _ => None,
     }
 }
 
@@ -491,46 +515,27 @@ impl<I: Input, A: Allocator + Copy> BinReader<I, A> {
 
     // What stands after a front, by a descriptor of this shape, and the offset after its length.
     #[inline(always)]
-    fn found_after(&self, shape: Shape, around: Around, front: Front<'_>) -> Option<(Found, usize)>
+    fn found_after(
+        &self,
+        octets: &[u8],
+        shape: Shape,
+        around: Around,
+        front: Front<'_>,
+    ) -> Option<(Found, usize)>
         requires stands { Stands self.now.source }
         requires sized { IsSized self.now }
         requires around { IsAround (as_frames self.now.frames) around }
-        requires within { front.head < length (lent self.now.source) }
-        requires shape { as_shape shape ≡ shape_of (get_or (lent self.now.source) front.head 0) }
-        ensures { IfSome result (λ r. ShowsPart self.entry.now.limits (lent self.entry.now.source)
+        requires octets { octets.now ≡ lent self.now.source }
+        requires within { front.head < length octets.now }
+        requires shape { as_shape shape ≡ shape_of (get_or octets.now front.head 0) }
+        ensures { IfSome result (λ r. ShowsPart self.entry.now.limits octets.entry.now
             self.entry.now.source.place (around_after front.entry.wrapper
             (region_of (innermost (frame_in around))) (length (as_frames self.entry.now.frames)))
             front.entry.head r.1 r.0) }
     {
-        let octets = self.source.buffer();
         let here = self.source.place();
         let region = region_after(front, around, self.frames.as_slice().len() as u32);
         few_part(octets, here, front.head, shape, region, self.limits)
-    }
-
-    // The scalar that was found, whose body stands from an offset on, and the octets of that.
-    #[inline(always)]
-    fn scalar_after(&self, found: Found, from: usize) -> Option<(Body, &[u8])>
-        requires body { HasBody self.now.limits found }
-        requires within { from ≤ length (lent self.now.source) }
-        ensures shows { IfSome result (λ r. ShowsRest self.entry.now.limits
-            (lent self.entry.now.source) self.entry.now.source.place found from
-            (from + length r.1.now) (a_scalar (as_scalar r.1.now r.0))) }
-        ensures range { IfSome result (λ r. InRange (as_scalar r.1.now r.0)) }
-    {
-        let octets = self.source.buffer();
-        match found {
-            Found::Null(of) => Some((Body::Null(of), &octets[..0])),
-            Found::Bool(truth) => Some((Body::Bool(truth), &octets[..0])),
-            Found::Body(type_code, count) if count <= (octets.len() - from) as u64 => {
-                let text = &octets[from..from + count as usize];
-                match scalar_of(type_code, text) {
-                    Ok(scalar) => Some((scalar, text)),
-                    Err(_) => None,
-                }
-            }
-            _ => None,
-        }
     }
 
     // Hands on a scalar whose descriptor has this shape.
@@ -550,10 +555,11 @@ impl<I: Input, A: Allocator + Copy> BinReader<I, A> {
         ensures { HandsAt I.Input W.ValueWriter (named_item (N.text names.now)) self.old self.new
             writer.old writer.new sink.old sink.new meter.old meter.new around.new result }
     {
-        let Some((found, from)) = self.found_after(shape, *around, front) else {
+        let octets = self.source.buffer();
+        let Some((found, from)) = self.found_after(octets, shape, *around, front) else {
             return false;
         };
-        let Some((scalar, text)) = self.scalar_after(found, from) else {
+        let Some((scalar, text)) = scalar_after(octets, found, from, self.limits) else {
             return false;
         };
         let after = from + text.len();
@@ -587,7 +593,9 @@ impl<I: Input, A: Allocator + Copy> BinReader<I, A> {
         ensures { HandsAt I.Input W.ValueWriter (named_item (N.text _names.now)) self.old self.new
             writer.old writer.new sink.old sink.new meter.old meter.new around.new result }
     {
-        let Some((Found::Begin(kind, end), after)) = self.found_after(shape, *around, front) else {
+        let octets = self.source.buffer();
+        let Some((Found::Begin(kind, end), after)) = self.found_after(octets, shape, *around, front)
+        else {
             return false;
         };
         let here = self.source.place();

@@ -22,5 +22,5 @@ returns-in-Ok c =
       found = c.in-Ok.ensures.found;
       reaches = λ plain. let within = c.in-Ok.ensures.within plain in ends-reaches (region_in c.args.region.within c.args.region.end) c.args.region.end (c.args.here + c.in-Some.after) c.requires.region (omega (arith, within));
       gives = part_shown c.args.limits c.args.octets.now c.args.here (as_around c.args.region) c.args.at c.in-Some.after c.in-Some.count (as_shape c.args.shape) c.in-Ok.found c.requires.within c.requires.shape
-          (sym c.refuses.ensures ∙ c.if-refuses.false) shows (sym c.in-Ok.ensures.gives);
+          (sym c.refuses.ensures ∙ c.if-refuses.false) shows (sym (c.in-Ok.ensures.gives (c.args.here + c.in-Some.after) (omega arith)));
     }

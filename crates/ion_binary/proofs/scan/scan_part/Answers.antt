@@ -1,4 +1,4 @@
-use Rattle.std.proofs.Common.{arith, refl, sym, ◌∙◌, [], get_or}
+use Rattle.std.proofs.Common.{arith, refl, sym, ◌+◌, ◌∙◌, [], get_or}
 use Rattle.ion_binary.specs.Scanned.{as_around, region_in}
 use Rattle.ion_binary.specs.Shapes.{as_shape}
 use Rattle.ion_binary.proofs.ScannedParts.{part-found, part-no_length, part-none, part-over, part-refused, part-unwrappable, length-sliced, length_code-small, an_octet, no_octet}
@@ -37,7 +37,7 @@ returns-in-Err-clause-shows c more =
     let whole = c.in-Whole.ensures.shows (region_in c.args.region.within c.args.region.end) c.requires.region in
     part-refused c.args.limits (as_around c.args.region) c.args.region.end c.args.place c.args.octets.now c.requires.region c.requires.small (omega (arith, c.if-region-place.false)) (an_octet c.args.octets.now _ c.is_empty.ensures c.if-is_empty.false)
     (get_or c.args.octets.now 0 0) refl (sym c.refuses.ensures ∙ c.if-refuses.false) (as_shape c.of-shape.result) (sym c.of-shape.ensures) c.in-Err.reason c.in-Whole.count c.in-Whole.n more
-    (rw c.length_code.ensures at (whole.1 more)) (sym c.in-Err.ensures.gives)
+    (rw c.length_code.ensures at (whole.1 more)) (sym (c.in-Err.ensures.gives (c.args.place + 1 + c.in-Whole.n) refl))
 
 pub returns-in-Ok-clause-shows : goal.returns-in-Ok-clause-shows
 returns-in-Ok-clause-shows c =
@@ -46,7 +46,7 @@ returns-in-Ok-clause-shows c =
       λ more.
           part-found c.args.limits (as_around c.args.region) c.args.region.end c.args.place c.args.octets.now c.requires.region c.requires.small (omega (arith, c.if-region-place.false)) (an_octet c.args.octets.now _ c.is_empty.ensures c.if-is_empty.false)
           (get_or c.args.octets.now 0 0) refl (sym c.refuses.ensures ∙ c.if-refuses.false) (as_shape c.of-shape.result) (sym c.of-shape.ensures) c.in-Ok.found c.in-Whole.count c.in-Whole.n more
-          (rw c.length_code.ensures at (whole.1 more)) (sym c.in-Ok.ensures.gives),
+          (rw c.length_code.ensures at (whole.1 more)) (sym (c.in-Ok.ensures.gives (c.args.place + 1 + c.in-Whole.n) refl)),
     )
 
 pub scan_length-requires-clause-length_code : goal.scan_length-requires-clause-length_code

@@ -6,7 +6,7 @@ use Rattle.ion_meter.specs.Sources.{cursor}
 use Rattle.ion_value.specs.Answers.{Answers}
 use Rattle.ion_binary.specs.Finds.{as_typed_value}
 use Rattle.ion_binary.specs.Scanned.{itself_found, part_at, rest_at}
-use Rattle.ion_binary.proofs.ReadParts.{found-body, inner_at-found, inner_at-parts}
+use Rattle.ion_binary.proofs.ReadParts.{inner_at-found, inner_at-parts}
 use Rattle.ion_binary.proofs.ValueParts.{step-refused, step-same}
 use Rattle.ion_binary.proofs.value.next_inner.Goals as goal
 
@@ -39,8 +39,8 @@ returns-in-Ok-next_rest-clause-gives g c t frames top f annotations deep =
     ∙ (ap (λ r. part old.place r >>= λ v. Ok (step_for frames top f annotations old.place v.0 v.1)) (c.in-Ok-next_rest.ensures.gives (c.in-Ok.ensures.reads.moves.still_observable.1 t))
     ∙ ap (λ p. Ok (step_for frames top f annotations p (as_typed_value c.next_rest.new.text c.next_rest.new.body c.in-Ok-next_rest.found) (cursor g.I.Input c.next_rest.new.source))) (sym c.place-place.ensures))
 
-pub next_rest-requires-clause-body : goal.next_rest-requires-clause-body
-next_rest-requires-clause-body g c = found-body c.args.limits (record { wrapped = true; region = Some c.args.end; depth = c.args.depth }) c.in-Ok.part c.in-Ok.ensures.found
+pub next_rest-requires-clause-found : goal.next_rest-requires-clause-found
+next_rest-requires-clause-found g c = (record { wrapped = true; region = Some c.args.end; depth = c.args.depth }, c.in-Ok.ensures.found)
 
 pub returns-in-Err-clause-reads : goal.returns-in-Err-clause-reads
 returns-in-Err-clause-reads g c = grind (arith, common_steps) steps 400000

@@ -9,7 +9,7 @@ use Rattle.ion_binary.specs.declared.value.TypedValue.TheVariants as typed
 use Rattle.ion_binary.specs.Finds.{as_typed_value}
 use Rattle.ion_binary.specs.Scanned.{IsFound, as_around, is_wrapper, itself_found, noted_at, part_at, region_in, rest_at, wrapper_after}
 use Rattle.ion_binary.specs.Wrappers.{as_annotations, as_wrapped}
-use Rattle.ion_binary.proofs.ReadParts.{found-body, found-wraps, value_at-found, value_at-parts, value_at-wrapped}
+use Rattle.ion_binary.proofs.ReadParts.{found-wraps, value_at-found, value_at-parts, value_at-wrapped}
 use Rattle.ion_binary.proofs.ValueParts.{found-same, step-refused, step-same}
 use Rattle.ion_binary.proofs.value.next_value.Goals as goal
 
@@ -71,8 +71,8 @@ returns-in-Ok-next_rest-clause-gives g c t frames top f region deep =
     ∙ (ap (λ r. part old.place r >>= λ v. Ok (step_for frames top f [] old.place v.0 v.1)) (c.in-Ok-next_rest.ensures.gives (c.in-Ok.ensures.reads.moves.still_observable.1 t))
     ∙ (ap (λ p. Ok (step_for frames top f [] p found new)) (sym c.place-place.ensures) ∙ ap (λ n. Ok (step_for frames top f (as_annotations n) c.place-place.result found new)) (sym c.requires.none)))
 
-pub next_rest-requires-clause-body : goal.next_rest-requires-clause-body
-next_rest-requires-clause-body g c = found-body c.args.limits (as_around c.args.region) c.in-Ok.part c.in-Ok.ensures.found
+pub next_rest-requires-clause-found : goal.next_rest-requires-clause-found
+next_rest-requires-clause-found g c = (as_around c.args.region, c.in-Ok.ensures.found)
 
 pub next_wrapper-requires-clause-small : goal.next_wrapper-requires-clause-small
 next_wrapper-requires-clause-small g c = found-wraps c.args.limits (as_around c.args.region) c.in-Ok.part c.in-Some.count (sym c.in-Some.ensures) c.in-Ok.ensures.found

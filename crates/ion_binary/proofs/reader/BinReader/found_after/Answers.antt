@@ -15,4 +15,4 @@ pub few_part-requires-clause-within : goal.few_part-requires-clause-within
 few_part-requires-clause-within g c = grind (arith, common_steps) steps 400000
 
 pub returns : goal.returns
-returns g c = rw (c.buffer-octets.ensures, c.place-here.ensures, c.region_after-region.ensures.is, c.as_slice.ensures, sym (as_frames-length c.args.self.now.frames)) at c.few_part.ensures
+returns g c = rw (c.place-here.ensures, c.region_after-region.ensures.is, c.as_slice.ensures, sym (as_frames-length c.args.self.now.frames)) at c.few_part.ensures

@@ -29,7 +29,7 @@ take_plain-requires-clause-path g c =
     let r = c.args.self.now in
     let begin = c.in-Some-Begin-default in
     let member = c.requires.item.member in
-    let part = rw begin.field-0-0-is at begin.ensures in
+    let part = rw (begin.field-0-0-is, c.buffer-octets.ensures) at begin.ensures in
     let plain : PlainItem = record { field = c.args.front.field; annotation = c.args.front.annotation; second = c.args.front.second; head = code.Begin begin.kind; spelled = None; place = c.place-here.result + c.args.front.head; top = c.top_at.result } in
     let few : length r.frames < r.limits.depth = subst (λ n. n < r.limits.depth) (as_frames-length r.frames) part.found in
     let fits = begin_fits r.limits.depth r.frames (frame_in c.args.around.now) begin.kind plain member.around.innermost c.requires.item.front.name.there refl few in
@@ -50,7 +50,7 @@ returns g c = record {
       let inner = member.around.innermost in
       let front = c.requires.item.front in
       let name = front.name in
-      let part = rw begin.field-0-0-is at begin.ensures in
+      let part = rw (begin.field-0-0-is, c.buffer-octets.ensures) at begin.ensures in
       let found = a_container begin.kind begin.end in
       let v = front.gives (length (as_frames r.frames)) after found (shows_begin part) in
       let place = r.source.place + c.args.front.head in
@@ -106,7 +106,7 @@ returns-then-not-take_plain g c = record {
       let pushed : c.push_within.new.self ≡ r.frames ++ frame ∷ [] = c.push_within.ensures.ok c.if-not-push_within.false in
       let grows = c.push_within.ensures.cost c.if-not-push_within.false in
       let declines = c.if-not-take_plain.ensures.declines refl in
-      let part = rw begin.field-0-0-is at begin.ensures in
+      let part = rw (begin.field-0-0-is, c.buffer-octets.ensures) at begin.ensures in
       let few : length r.frames < r.limits.depth = subst (λ n. n < r.limits.depth) (as_frames-length r.frames) part.found in
       let back = popped r.frames c.pop.new.self frame c.pop.result c.push_within.new.meter c.pop.new.meter (rw pushed at c.pop.ensures.items) (rw declines.2 at c.pop.ensures.cost) in
       rw (back.0, declines.0, declines.1) (handed-undone w g.I.Input (named_item (g.N.Names.text c.args._names.now)) r c.args.writer.now c.args.sink.now c.args.meter.now c.push_within.new.meter c.pop.new.meter

@@ -35,6 +35,11 @@ take_plain-requires-clause-path g c =
     rw c.item_after-item.ensures (path_here w r.limits.depth (opened_in r) c.args.writer.now (PlainItems.placed_item plain) write.depth_of fits
     (whole-value texts (r.source.place + c.args.front.head) scalar (PlainItems.placed_item plain).head head) write.after)
 
+pub pass-requires : goal.pass-requires
+pass-requires g c =
+    let rest = rw c.buffer-octets.ensures at (c.in-Some-scalar_after.ensures.shows c.args.self.now.source.place) in
+    lent-CanPass c.args.self.now.source (c.in-Some.from + length c.in-Some-scalar_after.text.now) rest.within
+
 pub returns : goal.returns
 returns g c = record {
   handed =
@@ -49,7 +54,7 @@ returns g c = record {
       let name = front.name in
       let after = c.in-Some.from + length c.in-Some-scalar_after.text.now in
       let scalar = as_scalar c.in-Some-scalar_after.text.now c.in-Some-scalar_after.scalar in
-      let v = front.gives (length (as_frames r.frames)) after (a_scalar scalar) (record { found = c.in-Some.found; from = c.in-Some.from; part = c.in-Some.ensures; rest = c.in-Some-scalar_after.ensures.shows }) in
+      let v = front.gives (length (as_frames r.frames)) after (a_scalar scalar) (record { found = c.in-Some.found; from = c.in-Some.from; part = rw c.buffer-octets.ensures at c.in-Some.ensures; rest = rw c.buffer-octets.ensures at (c.in-Some-scalar_after.ensures.shows r.source.place) }) in
       let place = r.source.place + c.args.front.head in
       let head = rw c.place-here.ensures at c.in-Some-shown_head.ensures.head in
       let plain : PlainItem = record { field = c.args.front.field; annotation = c.args.front.annotation; second = c.args.front.second; head = c.in-Some-shown_head.head.head; spelled = c.in-Some-shown_head.head.spelled; place = c.place-here.result + c.args.front.head; top = c.top_at.result } in

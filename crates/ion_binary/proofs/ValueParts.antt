@@ -1,9 +1,8 @@
 -- A value's parts one after the other, as the step that reading makes of it.
-use Rattle.std.proofs.Common.{refl, ap, ◌∙◌, sym, subst, ◌≡◌, ℕ, List, [], length, Option, Some, None, Result, Ok, Err, true, false}
+use Rattle.std.proofs.Common.{ap, ◌∙◌, sym, subst, ◌≡◌, ℕ, List, Option, Result, Ok, Err}
 use Rattle.ion_meter.specs.declared.fault.Fault.{Fault}
 use Rattle.ion_meter.specs.declared.fault.Fault.TheVariants.{Refused, Memory, ReadFault, WriteFault, InputLimit}
 use Rattle.ion_meter.specs.declared.fault.Reason.{Reason}
-use Rattle.ion_meter.specs.declared.limits.Limits.{Limits}
 use Rattle.ion_value.specs.Value.{SymbolAt}
 use Rattle.ion_value.specs.Reading.{Step}
 use Rattle.ion_binary.specs.declared.body.Body.{Body}
@@ -11,8 +10,6 @@ use Rattle.ion_binary.specs.declared.value.TypedValue as typed
 use Rattle.ion_binary.specs.Positions.{Frame, State}
 use Rattle.ion_meter.specs.Sources.{Cursor}
 use Rattle.ion_value.specs.Parts.{◌>>=◌, Placed, part}
-use Rattle.ion_binary.specs.Descriptor.{Region, octet_at, shape_of}
-use Rattle.ion_binary.specs.Reading.{Wrapped, region_of, step_for, typed_value_at, wrapper_at, ids_at, plain_at, inner_at, annotated_at, value_at, wrapper_length}
 use Rattle.ion_value.specs.Answers.{Answers, AnswersAt}
 use Rattle.ion_binary.specs.Values.{GivesStep}
 

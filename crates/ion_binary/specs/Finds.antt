@@ -1,15 +1,11 @@
 -- What is seen of a part in the code: where it stands, and what it is.
-use Rattle.std.specs.Prelude.{List, ℕ, ◌+◌, ◌<◌, nat_le, Result, Ok}
-use Rattle.ion_meter.specs.declared.fault.Reason.{Reason}
-use Rattle.ion_meter.specs.declared.fault.Reason.TheVariants.{DepthLimit}
-use Rattle.ion_meter.specs.declared.limits.Limits.{Limits}
+use Rattle.std.specs.Prelude.{List, ℕ, ◌<◌}
 use Rattle.ion_binary.specs.declared.body.Body.{Body}
 use Rattle.ion_binary.specs.declared.value.TypedValue as typed
 use Rattle.ion_binary.specs.declared.value.TypedValue.TheVariants as kinds
 use Rattle.ion_binary.specs.Bodies.{as_scalar, IsBodyTypeCode}
-use Rattle.ion_value.specs.Parts.{◌>>◌, refuse}
 use Rattle.ion_binary.specs.Descriptor.{Shape, null, bool, nop_pad, wrapper, body, container, sorted, marker, float, illegal}
-use Rattle.ion_binary.specs.Reading.{Around, TypedValue, a_nop_pad, a_marker, a_scalar, a_container, fits}
+use Rattle.ion_binary.specs.Reading.{TypedValue, a_nop_pad, a_marker, a_scalar, a_container}
 
 -- a scalar stands in a body, and the bytes of a string or lob beside it
 abbrev pub as_typed_value : List ℕ → Body → typed.TypedValue → TypedValue

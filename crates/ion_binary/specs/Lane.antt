@@ -22,7 +22,7 @@ use Rattle.ion_binary.specs.Positions.{Frame}
 use Rattle.ion_binary.specs.Reading.{TypedValue, field_at, region_of}
 use Rattle.ion_binary.specs.Scanned.{Reaches, window}
 use Rattle.ion_binary.specs.Shown.{ShowsItem, ShowsValue, around_after}
-use Rattle.ion_binary.specs.Descriptor.{Region, Shape, shape_of}
+use Rattle.ion_binary.specs.Descriptor.{Shape, shape_of}
 use Rattle.ion_meter.specs.declared.limits.Limits.{Limits}
 use Rattle.ion_binary.specs.declared.reader.BinReader.{BinReader}
 use Rattle.ion_binary.specs.declared.reader.front.Around.{Around}

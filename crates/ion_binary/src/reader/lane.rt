@@ -15,6 +15,7 @@ ghost use Rattle.ion_binary.specs.Bodies.{as_scalar};
 ghost use Rattle.ion_binary.specs.Scanned.{WasFound};
 ghost use Rattle.ion_value.specs.Standing.{InRange};
 ghost use Rattle.ion_meter.specs.Counts.{Shrinks};
+ghost use Rattle.ion_meter.specs.Limits.{AreChecked};
 ghost use Rattle.ion_meter.specs.Sources.{Stands};
 ghost use Rattle.ion_meter.specs.Windows.{CanPass, IsPassed, lent};
 ghost use Rattle.ion_binary.specs.Wrappers.{as_frames, innermost};
@@ -100,6 +101,7 @@ fn shown_head<'h, N: Names>(
 #[inline(always)]
 fn scalar_after(octets: &[u8], found: Found, from: usize, _limits: Limits) -> Option<(Body, &[u8])>
     requires found { WasFound _limits found }
+    requires checked { AreChecked _limits }
     requires within { from ≤ length octets.now }
     ensures shows { IfSome result (λ r. (here : ℕ) → ShowsRest _limits octets.entry.now here found
         from (from + length r.1.now) (a_scalar (as_scalar r.1.now r.0))) }
@@ -108,7 +110,7 @@ fn scalar_after(octets: &[u8], found: Found, from: usize, _limits: Limits) -> Op
     match found {
         Found::Null(of) => Some((Body::Null(of), &octets[..0])),
         Found::Bool(truth) => Some((Body::Bool(truth), &octets[..0])),
-        Found::Body(type_code, count) if count <= (octets.len() - from) as u64 => {
+        Found::Body(type_code, count) if from + count as usize <= octets.len() => {
             let text = &octets[from..from + count as usize];
             match scalar_of(type_code, text) {
                 Ok(scalar) => Some((scalar, text)),

@@ -19,7 +19,7 @@ returns-in-Ok-clause-shows c here =
     let few = rw c.in-Body.is at c.requires.found in
     let all : (from + n) - from ≡ n = omega arith in
     rw c.in-Body.is (rest_body c.args._limits octets (take ((from + n) - from) (drop from octets)) here c.in-Body.type_code n from _
-    (omega (arith, c.requires.within, c.if-count-octets.true)) few.1.1 (ap (λ k. take k (drop from octets)) all) c.in-Ok.ensures.gives)
+    (omega (arith, c.requires.within, c.if-from-count.true)) few.1.1 (ap (λ k. take k (drop from octets)) all) c.in-Ok.ensures.gives)
 
 pub scalar_of-requires : goal.scalar_of-requires
 scalar_of-requires c = let few = rw c.in-Body.is at c.requires.found in record { type_code = few.1.0 }

@@ -282,11 +282,11 @@ $3::{symbols:["a","b c"]} [$11] {$11:1}|4|6|
 // Octets between two other values, and how many of their items are put one at a time as text: one, the
 // first of all, where all items of a row are handed on.
 const OCTETS: &str = "
-# Ints of up to eight octets, of more, and with a length that need not be.
+# Ints of up to eight octets; of more, and with a length that need not be, one is put by itself.
 20 21 01 31 07 22 01 00 28 01 02 03 04 05 06 07 08|1|
 29 01 02 03 04 05 06 07 08 09|2|
 2E 90 FF FF FF FF FF FF FF FF FF FF FF FF FF FF FF FF|2|
-2E 83 01 02 03|1|
+2E 83 01 02 03|2|
 # Decimals.
 50 51 C0 52 C1 0F 52 81 0F 52 80 80 56 C5 01 02 03 04 05|1|
 5D C5 01 02 03 04 05 06 07 08 09 0A 0B 0C|1|

@@ -6,13 +6,15 @@ usage: bench/beside.py ION FOLDER [RUNS [KIND ..]]
 FOLDER is made by `bench/streams.py FOLDER [MB]`. Each command on each file, in text and in binary, one run of each program in
 turn, the best of RUNS (7) in processor time (user and system). A row in Markdown for each work: MB of input a second of both, the
 ratio of times (above 1: ion is slower), and whether the outputs are the same by SHA-256. Work that `ion` refuses is left
-out. `(cd bench/yard && cargo build --release --offline)` builds yard, which needs nothing but Rust's own library; YARD in
-the environment names another place of it.
+out; both are given --floats for the kind floats. `(cd bench/yard && cargo build --release --offline)` builds yard, which needs
+nothing but Rust's own library; YARD in the environment names another place of it.
 """
 import hashlib
 import os
 import subprocess
 import sys
+
+from streams import OPTIONS
 
 HERE = os.path.dirname(os.path.abspath(__file__))
 YARD = os.environ.get('YARD') or os.path.join(HERE, 'yard', 'target', 'release', 'yard')
@@ -39,13 +41,13 @@ def digest(words):
 
 
 def works(folder, kinds):
-    """Each command with its file, and what it is called in a row."""
+    """The words of each command on a file, with the file, and what it is called in a row."""
     for kind in kinds:
         for form, name in (('ion', 'text'), ('10n', 'binary')):
             path = f'{folder}/{kind}.{form}'
             if os.path.exists(path):
                 for command in ('show', 'check', 'convert'):
-                    yield command, path, f'| {kind} | {command} {name}'
+                    yield [command, *OPTIONS.get(kind, []), path], path, f'| {kind} | {command} {name}'
 
 
 def main(words):
@@ -58,8 +60,8 @@ def main(words):
         return 0
     print('| file | work | ion MB/s | yard MB/s | ratio | same output |\n|---|---|---|---|---|---|')
     differ = 0
-    for command, path, row in works(folder, kinds):
-        own, other = [ion, command, path], [YARD, command, path]
+    for asked, path, row in works(folder, kinds):
+        own, other = [ion, *asked], [YARD, *asked]
         if timed(own)[1] != 0:
             continue
         best = [1e9, 1e9]

@@ -6,7 +6,7 @@ usage: bench/instructions.py ION FOLDER [KIND ..]
 FOLDER is made by `bench/streams.py FOLDER 2` (2 MB a file). `valgrind --tool=callgrind` counts, some six minutes for all on
 two cores; JOBS (2) in the environment is how many run at a time. A row in Markdown for each file and work: millions of
 instructions of both, less those of an empty run, and the ratio (above 1: ion takes more); then the ratios' median and greatest,
-without and with strings and blobs. bench/beside.py says how yard is built.
+without and with strings and blobs. Both are given --floats for the kind floats. bench/beside.py says how yard is built.
 """
 import os
 import re
@@ -15,6 +15,8 @@ import statistics
 import subprocess
 import sys
 from concurrent.futures import ThreadPoolExecutor
+
+from streams import OPTIONS
 
 HERE = os.path.dirname(os.path.abspath(__file__))
 YARD = os.environ.get('YARD') or os.path.join(HERE, 'yard', 'target', 'release', 'yard')
@@ -62,8 +64,8 @@ def main(words):
     works = [(kind, form, command) for kind in kinds for form in ('ion', '10n') for command in ('show', 'check', 'convert')]
 
     def both(work):
-        path = f'{folder}/{work[0]}.{work[1]}'
-        return work, counted([ion, work[2], path]), counted([YARD, work[2], path])
+        words = [work[2], *OPTIONS.get(work[0], []), f'{folder}/{work[0]}.{work[1]}']
+        return work, counted([ion, *words]), counted([YARD, *words])
 
     ratios = {}
     print('| file | work | ion | yard | ratio |\n|---|---|---|---|---|')

@@ -9,9 +9,11 @@ none is named; 100 MB of text each where MB is not given. A value at top level i
 limits hold. A further kind has to be named: bucket, structs over 3,000 names that no byte tells apart which `ion` reads for
 the bucket of a text, its first and last sixteen; quoted, structs whose names and symbols stand between quotes in text; noted,
 structs whose values have two annotations; ids, structs whose names and symbols are ids in text (`$10`), of which each has one;
-names, structs of names that come once, some 18 bytes each.
+names, structs of names that come once, some 18 bytes each; floats, records and lists of floats as libraries for Java, Python and
+JavaScript spell them, which the programs take with --floats (OPTIONS).
 """
 import base64
+import decimal
 import json
 import os
 import random
@@ -22,7 +24,9 @@ import sys
 HERE = os.path.dirname(os.path.abspath(__file__))
 YARD = os.environ.get('YARD') or os.path.join(HERE, 'yard', 'target', 'release', 'yard')
 KINDS = ['log', 'json', 'ints', 'strings', 'blobs', 'deep', 'config', 'fields', 'nest']
-MORE = ['bucket', 'quoted', 'noted', 'ids', 'names']
+MORE = ['bucket', 'quoted', 'noted', 'ids', 'names', 'floats']
+# the words that the streams of a kind want after a command
+OPTIONS = {'floats': ['--floats']}
 
 SERV = ['auth-api', 'billing', 'catalog', 'checkout', 'gateway', 'inventory', 'mailer', 'orders', 'search', 'users']
 LEVEL = ['DEBUG', 'INFO', 'INFO', 'INFO', 'INFO', 'WARN', 'ERROR']
@@ -222,6 +226,57 @@ def ids(r):
                                for _ in range(12))
 
 
+def by_python(x):
+    """A float as a library for Python writes it: `21.5e0`, `100.0e0`, `1e-05`."""
+    s = repr(x)
+    return s if 'e' in s else s + 'e0'
+
+
+def by_javascript(x):
+    """The same for JavaScript: `2.15e1`, `1e2`, `1e-5`."""
+    return format(decimal.Decimal(repr(x)).normalize(), 'e').replace('+', '')
+
+
+def by_java(x):
+    """The same for Java: `21.5e0`, `100e0`, `1.0E-5`."""
+    if x == 0 or 1e-3 <= abs(x) < 1e7:
+        return repr(x).removesuffix('.0') + 'e0'
+    digits, exponent = by_javascript(x).split('e')
+    return digits + ('' if '.' in digits else '.0') + 'E' + exponent
+
+
+def price(r):
+    return r.randrange(1, 40000) / r.choice([2, 20, 100, 100])
+
+
+def coordinate(r):
+    """A number with 15 to 17 digits but for chance."""
+    return r.uniform(-180, 180)
+
+
+def small_int(r):
+    return float(r.randrange(-20, 1000))
+
+
+def rate(r):
+    """A number below a thousandth, of few digits."""
+    return float('%de-%d' % (r.randrange(1, 10 ** r.randrange(1, 4)), r.randrange(5, 12)))
+
+
+def floats(r):
+    """A record with floats, a list of them, or a line of points, as one of three libraries writes it."""
+    put, kind = r.choice([by_java, by_python, by_javascript]), r.random()
+    if kind < .5:
+        return '{id:%d,sku:"%x",price:%s,quantity:%s,lat:%s,lon:%s,rate:%s,name:"%s"}\n' % (
+            r.randrange(10 ** 6), r.getrandbits(32), put(price(r)), put(small_int(r)), put(coordinate(r) / 2), put(coordinate(r)),
+            put(rate(r)), r.choice(WORD))
+    if kind < .8:
+        one = r.choice([price, coordinate, small_int, rate])
+        return '[' + r.choice([',', ', ']).join(put(one(r)) for _ in range(r.randrange(5, 200))) + ']\n'
+    points = ('[%s,%s]' % (put(coordinate(r)), put(coordinate(r) / 2)) for _ in range(r.randrange(2, 60)))
+    return '{type:line,coordinates:[' + ','.join(points) + ']}\n'
+
+
 def nest(r):
     """A value of some 20 KB below 40 to 60 containers, each with a few members of its own."""
     inside = '[' + ','.join(str(r.randrange(100000)) for _ in range(3000)) + ']'
@@ -255,7 +310,8 @@ def maker_of(kind, r):
             'json': lambda: json.dumps(log_record(r), separators=(',', ':')) + '\n',
             'ints': lambda: ints(r), 'strings': lambda: strings(r), 'blobs': lambda: blobs(r),
             'deep': lambda: deep(r), 'config': lambda: config(r), 'nest': lambda: nest(r), 'bucket': lambda: bucket(r),
-            'quoted': lambda: quoted(r), 'noted': lambda: noted(r), 'names': lambda: names_once(r)}[kind]
+            'quoted': lambda: quoted(r), 'noted': lambda: noted(r), 'names': lambda: names_once(r),
+            'floats': lambda: floats(r)}[kind]
 
 
 def main(words):
@@ -276,7 +332,7 @@ def main(words):
         fill(path, size, maker_of(kind, r))
         if kind != 'json':
             with open(path[:-3] + '10n', 'wb') as file:
-                subprocess.run([YARD, 'convert', path], stdout=file, check=True)
+                subprocess.run([YARD, 'convert', *OPTIONS.get(kind, []), path], stdout=file, check=True)
     return 0
 
 

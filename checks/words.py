@@ -59,6 +59,8 @@ ALL_FOUR = ["--depth", "1", "--scalar", "3", "--symbols", "17", "--value", "7"]
 # [1,"abc"] in binary; then the declaration of `a` and its symbol
 WITHIN = MARKER + bytes.fromhex("B6 21 01 83 61 62 63 EA 81 83 D7 86 71 03 87 B2 81 61 71 0A")
 TRY = b"\nFor more information, try '--help'.\n"
+FLOATS = b"[1e0, 1.0e0, -0e0, 6.02214076e23, 5e-324, 1.7976931348623157e308, nan, +inf, -inf, 0.1e0, 1e400]"
+SHOWN_FLOATS = b"[1e0,1e0,-0e0,6.02214076e23,5e-324,1.7976931348623157e308,nan,+inf,-inf,1e-1"
 # Seconds that a row may take, which takes some milliseconds.
 PATIENCE = 60
 
@@ -91,6 +93,11 @@ ROWS = [
     ("show with a catalogue", "show --catalog tables.ion imports.ion", b"", 0, b"p\nq\n", b""),
     ("check with a catalogue", "check --catalog tables.ion", IMPORT, 0, b"ok 2 values\n", b""),
     ("convert with a catalogue", "convert --catalog=tables.ion -", IMPORT, 0, MARKER + P_AND_Q, b""),
+    ("floats", "show --floats", FLOATS, 1, SHOWN_FLOATS, b"refused Range at 90\n"),
+    ("floats without the option", "show", b"1 [null.float, 2e0]", 1, b"1\n[null.float", b"refused Float at 15\n"),
+    ("floats, checked", "check --floats -", b"1e0 nan", 0, b"ok 2 values\n", b""),
+    ("floats, to binary", "convert --floats", b"0e0 -1.5e0 0.1", 0, MARKER + bytes.fromhex("40 44bfc00000 52c101"), b""),
+    ("floats, from binary", "convert --floats -", MARKER + bytes.fromhex("48 3fb999999999999a"), 0, b"1e-1\n", b""),
     ("show without a catalogue", "show imports.ion", b"", 1, b"", b"refused UnknownSymbol at 61\n"),
     ("a catalogue that is none", "show --catalog notables.ion six.ion", b"", 1, b"", b"catalog refused CatalogEntry at 0\n"),
     ("a catalogue past its limit", "show --symbols 33 --catalog tables.ion six.ion", b"", 1, b"", b"catalog refused SymbolLimit at 55\n"),
@@ -218,7 +225,7 @@ HELPED = [
     ("--help", b"Shows", b"ion check < data.10n"),
     ("--help", b"Shows", b"ion convert data.ion > data.10n"),
     ("--help", b"Shows", b"has a float is refused"),
-    ("--help", b"Shows", b"JSON is read too, but for numbers with an exponent"),
+    ("--help", b"Shows", b"JSON is read too; its numbers with an exponent"),
     ("-h", b"Shows", b"ion show data.ion"),
     ("help", b"Shows", b"ion show data.ion"),
     ("show --help", b"Writes", b"ion show data.ion"),
@@ -228,6 +235,7 @@ HELPED = [
 ]
 # Words that are refused with status 2, as some of ROWS are; of what these print the first word alone is compared.
 USAGE = [
+    "show --floats=1 six.ion",
     "x",
     "write",
     "--",

@@ -33,7 +33,7 @@ stream then has a name:
 A stream is binary if its first byte is E0, whatever the file is called. A script that may run twice says --to, since convert
 alone would turn everything back. Binary is not written again as binary: that is refused as SameForm at 0.
 
-A float other than null.float is refused, as Float. JSON is read as text, but for a number with an exponent, which is a float.
+Without --floats a float other than null.float is refused, as Float, and so is a number of JSON with an exponent, which is one.
 
 If the reader of a pipe ends before the output does, as head does, the next write fails, and ion ends with "write
 fault" and status 3. Nothing is said of the rest of the stream then, and what head has printed is right:
@@ -45,7 +45,7 @@ stands before it. In a pipe "set -o pipefail" keeps the status."""
 
 DIAGNOSTICS = (
     ("refused REASON at OFFSET",
-     "The stream is not valid, passes a limit or has a float. OFFSET is the number of bytes before the faulty part. Status 1."),
+     "The stream is not valid, passes a limit or, without --floats, has a float. OFFSET is the number of bytes before the faulty part. Status 1."),
     ("catalog refused REASON at OFFSET", "The same of the file of --catalog. Status 1."),
     ("cannot open FILE", "The file is not there, or may not be read. Status 3."),
     ("no memory, read fault, write fault", "The system failed; nothing is said of the stream. Status 3."),

@@ -1,5 +1,6 @@
 /* Amazon Ion 1.0 in the caller's memory, text or binary: as canonical text, as binary, or checked. It is a transcoder: no value can
- * be read from it but out of what it writes. A float other than null.float is refused (Float, 11).
+ * be read from it but out of what it writes. A float other than null.float is refused (Float, 11), unless a call is given
+ * COZGELT_FLOATS.
  *
  * What a call answers (but for want of memory), and every byte that it writes, is proved (crates/cozgelt_c), of callers that keep what no
  * proof sees of C:
@@ -63,8 +64,14 @@ enum {
     COZGELT_NO_MEMORY = 2,        /* malloc gave nothing. Here, and with all statuses below, room is as it was */
     COZGELT_INPUT_LIMIT = 3,      /* stream or catalogue are longer than limits->input */
     COZGELT_NO_OUTPUT_MEMORY = 4, /* malloc gave nothing for the output */
-    COZGELT_INVALID = 5,          /* structs of another size, or limits above their maxima */
+    COZGELT_INVALID = 5,          /* structs of another size, limits above their maxima, or a number of no profile */
     COZGELT_CATALOG_REFUSED = 6   /* the catalogue is refused: reason and place are of it */
+};
+
+/* Which values a stream may have: the profile of the calls with _with in their names. The others are these at COZGELT_STRICT. */
+enum {
+    COZGELT_STRICT = 0, /* no float but null.float: any other is refused (Float, 11) */
+    COZGELT_FLOATS = 1  /* floats too */
 };
 
 /* For catalog and catalog_len, where there is none. */
@@ -85,6 +92,19 @@ uint32_t cozgelt_to_binary(const CozgeltLimits *limits, const uint8_t *catalog, 
 /* Whether the stream is accepted. The output is empty. */
 uint32_t cozgelt_check(const CozgeltLimits *limits, const uint8_t *catalog, size_t catalog_len, const uint8_t *stream,
                        size_t stream_len, uint8_t *room, size_t room_len, CozgeltAnswer *answer);
+
+/* The three with a profile; the catalogue is always read by COZGELT_STRICT. A float's canonical text has the fewest digits that are
+ * read as it (1.5e0, -0e0, 5e-324, nan, +inf, -inf), its canonical binary the fewest octets: none for 0e0, 4 where binary32 has its
+ * value, else 8. */
+uint32_t cozgelt_to_text_with(uint32_t profile, const CozgeltLimits *limits, const uint8_t *catalog, size_t catalog_len,
+                              const uint8_t *stream, size_t stream_len, uint8_t *room, size_t room_len, CozgeltAnswer *answer);
+
+uint32_t cozgelt_to_binary_with(uint32_t profile, const CozgeltLimits *limits, const uint8_t *catalog, size_t catalog_len,
+                                const uint8_t *stream, size_t stream_len, uint8_t *room, size_t room_len,
+                                CozgeltAnswer *answer);
+
+uint32_t cozgelt_check_with(uint32_t profile, const CozgeltLimits *limits, const uint8_t *catalog, size_t catalog_len,
+                            const uint8_t *stream, size_t stream_len, uint8_t *room, size_t room_len, CozgeltAnswer *answer);
 
 /* The name of a reason, as REFUSALS.md has it; "" of any other number. */
 static inline const char *cozgelt_reason(uint32_t number) {

@@ -13,10 +13,13 @@ cozgelt.Refused: refused DepthLimit at 1
 >>> tables = b'$ion_shared_symbol_table::{name: "x", version: 1, symbols: ["p", "q"]}'
 >>> to_text(b'$ion_symbol_table::{imports: [{name: "x", version: 1, max_id: 2}]} $10 $11', catalog=tables)
 b'p\\nq\\n'
+>>> to_text(b"[1.5e0, nan]", floats=True)
+b'[1.5e0,nan]\\n'
 
-It is a transcoder: no value can be read from it but out of what it writes. A float other than null.float is refused (Float).
+It is a transcoder: no value can be read from it but out of what it writes. A float other than null.float is refused (Float),
+unless floats=True is given; one of the catalogue always is.
 
-Catalogue and limits go by keyword, with the defaults of the program. Stream and catalogue are bytes, or a bytearray or
+Catalogue, limits and floats go by keyword, with the defaults of the program. Stream and catalogue are bytes, or a bytearray or
 memoryview, of which a call takes a copy. libcozgelt.so is looked for at the path in COZGELT_LIBRARY, then beside this file, then
 where the system looks. Any number of threads may call at once.
 """
@@ -88,10 +91,10 @@ def _load() -> ctypes.CDLL:
     library.cozgelt_version.restype = ctypes.c_uint32
     if library.cozgelt_version() != _VERSION:
         raise ImportError(f"{path} is another version than this module")
-    for name in ("cozgelt_to_text", "cozgelt_to_binary", "cozgelt_check"):
+    for name in ("cozgelt_to_text_with", "cozgelt_to_binary_with", "cozgelt_check_with"):
         call = getattr(library, name)
-        call.argtypes = [ctypes.POINTER(_Limits), ctypes.c_char_p, ctypes.c_size_t, ctypes.c_char_p, ctypes.c_size_t,
-                         ctypes.c_void_p, ctypes.c_size_t, ctypes.POINTER(_Answer)]
+        call.argtypes = [ctypes.c_uint32, ctypes.POINTER(_Limits), ctypes.c_char_p, ctypes.c_size_t, ctypes.c_char_p,
+                         ctypes.c_size_t, ctypes.c_void_p, ctypes.c_size_t, ctypes.POINTER(_Answer)]
         call.restype = ctypes.c_uint32
     return library
 
@@ -107,18 +110,20 @@ def _fixed(what: str, given: _Bytes) -> bytes:
     return given if type(given) is bytes else memoryview(given).tobytes()
 
 
-def _call(name: str, stream: _Bytes, catalog: _Bytes, limits: Tuple[int, int, int, int, int], times: int) -> Tuple[bytes, int]:
+def _call(name: str, floats: bool, stream: _Bytes, catalog: _Bytes, limits: Tuple[int, int, int, int, int],
+          times: int) -> Tuple[bytes, int]:
     """The output, and how many values there are. times: how many times as long as the stream the output may be at the first try."""
     stream, catalog = _fixed("the stream", stream), _fixed("the catalog", catalog)
     guess = times * len(stream) + 64
     for number, most in zip(limits, (65535, 1 << 30, 1 << 30, 1 << 30, 1 << 48)):
         if not 0 <= number <= most:
             raise Invalid(f"{number} is no limit from 0 to {most}")
+    profile = 1 if floats else 0  # COZGELT_FLOATS, COZGELT_STRICT
     given = _Limits(ctypes.sizeof(_Limits), *limits)
     answer = _Answer(ctypes.sizeof(_Answer))
     while True:
         room = ctypes.create_string_buffer(guess)
-        status = getattr(_library, name)(given, catalog, len(catalog), stream, len(stream), room, guess, answer)
+        status = getattr(_library, name)(profile, given, catalog, len(catalog), stream, len(stream), room, guess, answer)
         if status > 1 or answer.needed <= guess:
             break
         guess = answer.needed
@@ -137,22 +142,22 @@ def _call(name: str, stream: _Bytes, catalog: _Bytes, limits: Tuple[int, int, in
 
 
 def to_text(stream: _Bytes, *, catalog: _Bytes = b"", depth: int = 64, scalar: int = 1 << 20, symbols: int = 1 << 20,
-            value: int = 1 << 24, input: int = 1 << 48) -> bytes:
+            value: int = 1 << 24, input: int = 1 << 48, floats: bool = False) -> bytes:
     """The stream, text or binary, as canonical text: each value at top level is a line. catalog: a stream of shared symbol
-    tables, for the imports of the other."""
-    return _call("cozgelt_to_text", stream, catalog, (depth, scalar, symbols, value, input), 2)[0]
+    tables, for the imports of the other. floats: whether floats other than null.float are read."""
+    return _call("cozgelt_to_text_with", floats, stream, catalog, (depth, scalar, symbols, value, input), 2)[0]
 
 
 def to_binary(stream: _Bytes, *, catalog: _Bytes = b"", depth: int = 64, scalar: int = 1 << 20, symbols: int = 1 << 20,
-              value: int = 1 << 24, input: int = 1 << 48) -> bytes:
+              value: int = 1 << 24, input: int = 1 << 48, floats: bool = False) -> bytes:
     """The stream, a text, as canonical binary. One that is binary is refused as SameForm."""
-    return _call("cozgelt_to_binary", stream, catalog, (depth, scalar, symbols, value, input), 1)[0]
+    return _call("cozgelt_to_binary_with", floats, stream, catalog, (depth, scalar, symbols, value, input), 1)[0]
 
 
 def check(stream: _Bytes, *, catalog: _Bytes = b"", depth: int = 64, scalar: int = 1 << 20, symbols: int = 1 << 20,
-          value: int = 1 << 24, input: int = 1 << 48) -> int:
+          value: int = 1 << 24, input: int = 1 << 48, floats: bool = False) -> int:
     """How many values the stream has at top level."""
-    return _call("cozgelt_check", stream, catalog, (depth, scalar, symbols, value, input), 0)[1]
+    return _call("cozgelt_check_with", floats, stream, catalog, (depth, scalar, symbols, value, input), 0)[1]
 
 
 def version() -> str:

@@ -19,6 +19,13 @@ static void judge(int right, const char *what) {
 #define IMPORT "$ion_symbol_table::{imports:[{name:\"x\",version:1,max_id:2}]} $10 $11"
 #define TABLE "$ion_shared_symbol_table::{name:\"x\",version:1,symbols:[\"p\",\"q\"]}"
 
+#define FLOATS "[1.50e0, -0e0, 0.1e0, nan, +inf, 0e0] 602214076e15 4.94e-324"
+#define FLOATS_SHOWN "[1.5e0,-0e0,1e-1,nan,+inf,0e0]\n6.02214076e23\n5e-324\n"
+#define FLOATS_STORED                                                                                                          \
+    "\xE0\x01\x00\xEA\xBE\x9E\x44\x3F\xC0\x00\x00\x44\x80\x00\x00\x00\x48\x3F\xB9\x99\x99\x99\x99\x99\x9A\x44\x7F\xC0"                    \
+    "\x00\x00\x44\x7F\x80\x00\x00\x40\x48\x44\xDF\xE1\x85\xCA\x57\xC5\x17\x48\x00\x00\x00\x00\x00\x00\x00\x01"
+#define FLOAT_IN_TABLE "$ion_shared_symbol_table::{name:\"x\",version:1,symbols:[\"p\"],more:"
+
 static uint8_t room[100];
 static CozgeltLimits limits;
 static CozgeltAnswer answer;
@@ -129,6 +136,89 @@ static void wrong_calls(void) {
           "binary asked for from binary");
 }
 
+/* Whether the room begins with all of a text, and is as it was behind it, as is told. */
+#define HOLDS(text) (answer.needed == sizeof(text) - 1 && !memcmp(room, text, sizeof(text) - 1) && kept_from(sizeof(text) - 1))
+
+static void calls_of_floats(void) {
+    uint32_t by = COZGELT_FLOATS;
+    begin();
+    judge(cozgelt_to_text_with(by, &limits, COZGELT_NO_CATALOG, STREAM(FLOATS), room, sizeof room, &answer) == COZGELT_ACCEPTED &&
+              answer.values == 3 && HOLDS(FLOATS_SHOWN),
+          "floats to text");
+    begin();
+    judge(cozgelt_to_binary_with(by, &limits, COZGELT_NO_CATALOG, STREAM(FLOATS), room, sizeof room, &answer) == COZGELT_ACCEPTED &&
+              answer.values == 3 && HOLDS(FLOATS_STORED),
+          "floats to binary");
+    begin();
+    judge(cozgelt_to_text_with(by, &limits, COZGELT_NO_CATALOG, STREAM(FLOATS_STORED), room, sizeof room, &answer) ==
+                  COZGELT_ACCEPTED &&
+              answer.values == 3 && HOLDS(FLOATS_SHOWN),
+          "floats from binary");
+    begin();
+    judge(cozgelt_check_with(by, &limits, COZGELT_NO_CATALOG, STREAM(FLOATS), room, sizeof room, &answer) == COZGELT_ACCEPTED &&
+              answer.values == 3 && !answer.needed && kept_from(0),
+          "floats checked");
+    begin();
+    judge(cozgelt_check_with(by, &limits, COZGELT_NO_CATALOG, STREAM("1 1e400"), room, sizeof room, &answer) == COZGELT_REFUSED &&
+              !strcmp(cozgelt_reason(answer.reason), "Range") && answer.place == 2,
+          "a float past the greatest");
+    begin();
+    judge(cozgelt_check_with(by, &limits, STREAM(FLOAT_IN_TABLE "1e0}"), STREAM("1"), room, sizeof room, &answer) ==
+                  COZGELT_CATALOG_REFUSED &&
+              !strcmp(cozgelt_reason(answer.reason), "Float") && answer.place == sizeof FLOAT_IN_TABLE - 1 && kept_from(0),
+          "a float in a catalogue");
+    begin();
+    judge(cozgelt_to_text_with(by, &limits, STREAM(TABLE), STREAM(IMPORT " 1e0"), room, sizeof room, &answer) == COZGELT_ACCEPTED &&
+              HOLDS("p\nq\n1e0\n"),
+          "a float beside imports");
+}
+
+/* What the profile that has no floats reads, and refuses. */
+static void strict_calls(void) {
+    uint32_t by = COZGELT_STRICT;
+    begin();
+    judge(cozgelt_to_text_with(by, &limits, COZGELT_NO_CATALOG, STREAM("1 null.float"), room, sizeof room, &answer) ==
+                  COZGELT_ACCEPTED &&
+              answer.values == 2 && HOLDS("1\nnull.float\n"),
+          "a null by the strict profile");
+    begin();
+    judge(cozgelt_to_text_with(by, &limits, COZGELT_NO_CATALOG, STREAM(FLOATS_STORED), room, sizeof room, &answer) ==
+                  COZGELT_REFUSED &&
+              !strcmp(cozgelt_reason(answer.reason), "Float") && answer.place == 6 && HOLDS("["),
+          "a float from binary by the strict profile");
+    begin();
+    judge(cozgelt_to_binary_with(by, &limits, COZGELT_NO_CATALOG, STREAM("5 1e0"), room, sizeof room, &answer) == COZGELT_REFUSED &&
+              !strcmp(cozgelt_reason(answer.reason), "Float") && answer.place == 2 && HOLDS("\xE0\x01\x00\xEA\x21\x05"),
+          "a float to binary by the strict profile");
+    begin();
+    judge(cozgelt_check_with(by, &limits, COZGELT_NO_CATALOG, STREAM("5 nan"), room, sizeof room, &answer) == COZGELT_REFUSED &&
+              !strcmp(cozgelt_reason(answer.reason), "Float") && answer.place == 2 && HOLDS(""),
+          "a float checked by the strict profile");
+    begin();
+    limits.depth = 65536;
+    judge(cozgelt_check_with(by, &limits, COZGELT_NO_CATALOG, STREAM("1"), room, sizeof room, &answer) == COZGELT_INVALID &&
+              no_answer() && kept_from(0),
+          "depth past its maximum, by a profile");
+}
+
+static void numbers_of_no_profile(void) {
+    uint32_t numbers[] = {2, 3, 256, 65536, UINT32_MAX};
+    for (int i = 0; i < 5; i++) {
+        begin();
+        judge(cozgelt_to_text_with(numbers[i], &limits, COZGELT_NO_CATALOG, STREAM(TEXT), room, sizeof room, &answer) ==
+                      COZGELT_INVALID &&
+                  no_answer() && kept_from(0),
+              "to text by a number of no profile");
+        judge(cozgelt_to_binary_with(numbers[i], &limits, COZGELT_NO_CATALOG, STREAM(TEXT), room, sizeof room, &answer) ==
+                      COZGELT_INVALID &&
+                  no_answer() && kept_from(0),
+              "to binary by a number of no profile");
+        judge(cozgelt_check_with(numbers[i], &limits, STREAM("1"), STREAM(TEXT), room, sizeof room, &answer) == COZGELT_INVALID &&
+                  no_answer() && kept_from(0),
+              "check by a number of no profile");
+    }
+}
+
 /* A thousand calls of each kind, each with the answer of the first. */
 static void *many(void *of) {
     uint8_t mine[100], first[100];
@@ -144,6 +234,9 @@ static void *many(void *of) {
         *(int *)of &= cozgelt_to_text(&l, COZGELT_NO_CATALOG, STREAM(TEXT), mine, sizeof mine, &a) == COZGELT_ACCEPTED &&
                       !memcmp(mine, SHOWN, sizeof SHOWN - 1);
         *(int *)of &= cozgelt_check(&l, COZGELT_NO_CATALOG, STREAM("1 4e0"), mine, 0, &a) == COZGELT_REFUSED && a.place == 2;
+        *(int *)of &= cozgelt_to_text_with(COZGELT_FLOATS, &l, COZGELT_NO_CATALOG, STREAM(FLOATS_STORED), mine, sizeof mine, &a) ==
+                          COZGELT_ACCEPTED &&
+                      !memcmp(mine, FLOATS_SHOWN, sizeof FLOATS_SHOWN - 1);
     }
     return 0;
 }
@@ -151,6 +244,9 @@ static void *many(void *of) {
 int main(void) {
     right_calls();
     wrong_calls();
+    calls_of_floats();
+    strict_calls();
+    numbers_of_no_profile();
     pthread_t thread[4];
     int right[4] = {0};
     for (int i = 0; i < 4; i++) judge(!pthread_create(&thread[i], 0, many, &right[i]), "a thread");

@@ -2,6 +2,7 @@
  * with a page below that nobody may touch. */
 #define _DEFAULT_SOURCE
 #include "cozgelt.h"
+#include <inttypes.h>
 #include <stdio.h>
 #include <stdlib.h>
 #include <string.h>
@@ -17,7 +18,7 @@ static char name[16];
 static unsigned long long catalog_len, stream_len;
 static uint8_t *catalog, *stream, *room;
 static size_t size;
-static uint32_t status;
+static uint32_t profile, status;
 static ucontext_t here, there;
 
 static uint8_t *read_bytes(size_t length) {
@@ -26,10 +27,17 @@ static uint8_t *read_bytes(size_t length) {
     return bytes;
 }
 
+#define GIVEN &limits, catalog, catalog_len, stream, stream_len, room, size, &answer
+
+/* Of the strict profile the calls that are given none, and of others those that are given theirs. */
 static void on_small_stack(void) {
-    status = !strcmp(name, "check")     ? cozgelt_check(&limits, catalog, catalog_len, stream, stream_len, room, size, &answer)
-             : !strcmp(name, "to_text") ? cozgelt_to_text(&limits, catalog, catalog_len, stream, stream_len, room, size, &answer)
-                                        : cozgelt_to_binary(&limits, catalog, catalog_len, stream, stream_len, room, size, &answer);
+    int checks = !strcmp(name, "check"), shows = !strcmp(name, "to_text");
+    if (profile == COZGELT_STRICT)
+        status = checks ? cozgelt_check(GIVEN) : shows ? cozgelt_to_text(GIVEN) : cozgelt_to_binary(GIVEN);
+    else
+        status = checks  ? cozgelt_check_with(profile, GIVEN)
+                 : shows ? cozgelt_to_text_with(profile, GIVEN)
+                         : cozgelt_to_binary_with(profile, GIVEN);
 }
 
 static void make_call(uint8_t *stack) {
@@ -48,8 +56,8 @@ int main(void) {
     unsigned long long n[4];
     uint8_t *low = mmap(0, PAGE + STACK, PROT_READ | PROT_WRITE, MAP_PRIVATE | MAP_ANONYMOUS, -1, 0);
     if (low == MAP_FAILED || mprotect(low, PAGE, PROT_NONE)) return 3;
-    while (scanf("%15s %u %llu %llu %llu %llu %llu %llu", name, &depth, n, n + 1, n + 2, n + 3, &catalog_len, &stream_len) ==
-               8 &&
+    while (scanf("%15s %" SCNu32 " %u %llu %llu %llu %llu %llu %llu", name, &profile, &depth, n, n + 1, n + 2, n + 3, &catalog_len,
+                 &stream_len) == 9 &&
            getchar() == '\n') {
         limits.depth = depth, limits.scalar = n[0], limits.symbols = n[1], limits.value = n[2], limits.input = n[3];
         catalog = read_bytes(catalog_len), stream = read_bytes(stream_len);

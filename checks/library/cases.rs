@@ -1,5 +1,5 @@
 //! Answers calls that it reads from standard input, as common.py says.
-use cozgelt::{check, to_binary, to_text, Error, Limits};
+use cozgelt::{check, check_with, to_binary, to_binary_with, to_text, to_text_with, Error, Limits, Profile};
 use std::io::{self, BufRead, Read, Write};
 
 fn main() -> io::Result<()> {
@@ -9,14 +9,19 @@ fn main() -> io::Result<()> {
         let mut words = line.split_whitespace();
         let name = words.next().unwrap();
         let n: Vec<u64> = words.map(|word| word.parse().unwrap()).collect();
-        let limits = Limits::default().depth(n[0] as u32).scalar(n[1]).symbols(n[2]).value(n[3]).input(n[4]);
-        let (mut catalog, mut stream) = (vec![0; n[5] as usize], vec![0; n[6] as usize]);
+        let floats = n[0] == 1;
+        let limits = Limits::default().depth(n[1] as u32).scalar(n[2]).symbols(n[3]).value(n[4]).input(n[5]);
+        let (mut catalog, mut stream) = (vec![0; n[6] as usize], vec![0; n[7] as usize]);
         input.read_exact(&mut catalog)?;
         input.read_exact(&mut stream)?;
-        let answer = match name {
-            "check" => check(&stream, &catalog, &limits).map(|values| (Vec::new(), values)),
-            "to_text" => to_text(&stream, &catalog, &limits).map(|text| (text, 0)),
-            _ => to_binary(&stream, &catalog, &limits).map(|binary| (binary, 0)),
+        let by = Profile::Floats;
+        let answer = match (name, floats) {
+            ("check", false) => check(&stream, &catalog, &limits).map(|values| (Vec::new(), values)),
+            ("check", true) => check_with(by, &stream, &catalog, &limits).map(|values| (Vec::new(), values)),
+            ("to_text", false) => to_text(&stream, &catalog, &limits).map(|text| (text, 0)),
+            ("to_text", true) => to_text_with(by, &stream, &catalog, &limits).map(|text| (text, 0)),
+            (_, false) => to_binary(&stream, &catalog, &limits).map(|binary| (binary, 0)),
+            (_, true) => to_binary_with(by, &stream, &catalog, &limits).map(|binary| (binary, 0)),
         };
         let (status, reason, place, values, bytes) = match answer {
             Ok((bytes, values)) => (0, "-", 0, values, bytes),

@@ -1,14 +1,19 @@
 """What the parts of `checks/all` on the library share: the library, built in a folder of its own; counts; and the cases of
-`tests/cases` as calls of the library, to be answered by a program or a function.
+`tests/cases`, and cases of floats, as calls of the library, to be answered by a program or a function.
 
 A program that answers cases reads calls from standard input and writes an answer for each. A call is a line of CALL (to_text,
-to_binary or check), the five limits, and the lengths of catalogue and stream, and then these. An answer is a line of STATUS (of
-cozgelt.h), the reason's name or -, PLACE, how many VALUES, and the output's length, and then the output.
+to_binary or check), the number of the profile, the five limits, and the lengths of catalogue and stream, and then these. An
+answer is a line of STATUS (of cozgelt.h), the reason's name or -, PLACE, how many VALUES, and the output's length, and then the
+output.
 """
+import decimal
 import hashlib
+import math
 import os
+import random
 import runpy
 import shutil
+import struct
 import subprocess
 import sys
 
@@ -60,10 +65,64 @@ def build(counts, library, folder):
     return counts.run('make', ['make', '-s', '-C', C, f'OUT={folder}', f'PROVED={library}'])
 
 
+def text_of(number):
+    """The canonical text of a float: the digits of Python's repr, a point after the first where there are more, and the exponent."""
+    if not math.isfinite(number):
+        return {math.inf: '+inf', -math.inf: '-inf'}.get(number, 'nan')
+    sign, digits, power = decimal.Decimal(repr(number)).as_tuple()
+    first, *more = ''.join(map(str, digits)).rstrip('0') or '0'
+    exponent = power + len(digits) - 1 if number else 0
+    return '-' * sign + first + '.' * bool(more) + ''.join(more) + f'e{exponent}'
+
+
+def octets_of(number):
+    """The canonical octets of a float, with its descriptor."""
+    if math.isnan(number):
+        return b'\x44\x7f\xc0\0\0'
+    try:
+        short = struct.pack('>f', number)
+    except OverflowError:
+        short = None
+    if short is None or struct.unpack('>f', short)[0] != number:
+        return b'\x48' + struct.pack('>d', number)
+    return b'\x44' + short if any(short) else b'\x40'
+
+
+def float_cases():
+    """Cases of floats as those of `tests/cases` are, each with its name: drawn ones and some at edges, from text and from octets, read
+    and refused. The digits and the octets are Python's."""
+    draw = random.Random(1)
+    numbers = [0.0, -0.0, 1.0, -1.5, 100.0, 0.1, 6.02214076e23, 5e-324, 2.2250738585072014e-308, 1.7976931348623157e308, 2.0 ** -149,
+               2.0 ** -150, 2.0 ** 127, 2.0 ** 128, math.inf, -math.inf, math.nan]
+    numbers += [struct.unpack('>d', draw.getrandbits(64).to_bytes(8, 'big'))[0] for _ in range(2000)]
+    numbers += [struct.unpack('>f', draw.getrandbits(32).to_bytes(4, 'big'))[0] for _ in range(1000)]
+    marker = b'\xe0\x01\0\xea'
+    words = [repr(number) if math.isfinite(number) else text_of(number) for number in numbers]
+    text = ' '.join(word if set(word) & set('en') else word + 'e0' for word in words).encode()
+    octets = marker + b''.join(b'\x48' + struct.pack('>d', number) for number in numbers)
+    shown = ''.join(text_of(number) + '\n' for number in numbers).encode()
+    stored = marker + b''.join(map(octets_of, numbers))
+    count = f'ok {len(numbers)} values\n'.encode()
+    for stream, place, out in ((text, 0, {'show': shown, 'check': count, 'convert': stored}), (octets, 4, {'show': shown, 'check': count})):
+        for word in out:
+            before = marker if word == 'convert' else b''
+            rows = ((['--floats'], 0, out[word], ''), ([], 1, before, f'refused Float at {place}\n'))
+            for more, status, wanted, errors in rows:
+                case = {'words': [word] + more, 'input': stream.hex(), 'status': status, 'stdout': wanted.hex(), 'stderr': errors}
+                yield f'floats from {place}, {" ".join(case["words"])}', case
+
+
+def all_cases():
+    """Each case with its name."""
+    yield from CASES['cases']()
+    yield from float_cases()
+
+
 def call_of(case):
-    """A case as a call: its name, the limits, catalogue and stream."""
+    """A case as a call: its name, the number of the profile, the limits, catalogue and stream."""
+    floats = '--floats' in case['words']
     given = {'depth': 64, 'scalar': 1 << 20, 'symbols': 1 << 20, 'value': 1 << 24, 'catalog': None}
-    words = case['words'][1:]
+    words = [word for word in case['words'][1:] if word != '--floats']
     while words:
         word = words.pop(0)
         name, _, value = word[2:].partition('=')
@@ -74,12 +133,12 @@ def call_of(case):
     catalog = bytes.fromhex(case['catalog']) if given.pop('catalog') else b''
     text = case['words'][0] == 'show' or case['words'][0] == 'convert' and stream[:1] == b'\xe0'
     call = 'check' if case['words'][0] == 'check' else 'to_text' if text else 'to_binary'
-    return call, [int(number) for number in given.values()] + [1 << 48], catalog, stream
+    return call, int(floats), [int(number) for number in given.values()] + [1 << 48], catalog, stream
 
 
-def frame_of(call, limits, catalog, stream):
+def frame_of(call, profile, limits, catalog, stream):
     """A call as a program reads it."""
-    numbers = ' '.join(map(str, limits + [len(catalog), len(stream)]))
+    numbers = ' '.join(map(str, [profile] + limits + [len(catalog), len(stream)]))
     return f'{call} {numbers}\n'.encode() + catalog + stream
 
 
@@ -96,7 +155,7 @@ def wrong_with(case, status, reason, place, values, output):
 
 def answer_cases(counts, command, **more):
     """Lets a program answer all cases."""
-    cases = list(CASES['cases']())
+    cases = list(all_cases())
     given = b''.join(frame_of(*call_of(case)) for _, case in cases)
     done = subprocess.run(command, input=given, stdout=subprocess.PIPE, timeout=1800, **more)
     counts.judge(done.returncode == 0, command[0], f'status {done.returncode}')

@@ -33,41 +33,46 @@ void __wrap_free(void *block) {
     __real_free(block);
 }
 
-typedef uint32_t Call(const CozgeltLimits *, const uint8_t *, size_t, const uint8_t *, size_t, uint8_t *, size_t,
-                      CozgeltAnswer *);
-
 static const char stream[] = "$ion_symbol_table::{imports:[{name:\"x\",version:1,max_id:2}],symbols:[\"r\"]} $10 "
                              "a::{b:[1,2.50,\"text\",{{aGVs}}]} $12 4e0";
 static const char table[] = "$ion_shared_symbol_table::{name:\"x\",version:1,symbols:[\"p\",\"q\"]}";
 
-/* One call; whether its answer is one that it may have. `whole`: whether no allocation was refused. */
-static int answers(Call *call, int whole) {
+#define GIVEN                                                                                                                  \
+    &limits, (const uint8_t *)table, sizeof table - 1, (const uint8_t *)stream, sizeof stream - 1, room, sizeof room, &answer
+
+/* One call, from 3 on by the profile that has floats; whether its answer is one that it may have. `whole`: whether no allocation was
+ * refused. */
+static int answers(int call, int whole) {
     CozgeltLimits limits = COZGELT_LIMITS;
     CozgeltAnswer answer = COZGELT_ANSWER;
     uint8_t room[200], before[sizeof room];
     memset(room, '#', sizeof room), memcpy(before, room, sizeof room);
     asked = 0, held = 0;
-    uint32_t status = call(&limits, (const uint8_t *)table, sizeof table - 1, (const uint8_t *)stream, sizeof stream - 1, room,
-                           sizeof room, &answer);
+    uint32_t status = call == 0   ? cozgelt_to_text(GIVEN)
+                      : call == 1 ? cozgelt_to_binary(GIVEN)
+                      : call == 2 ? cozgelt_check(GIVEN)
+                      : call == 3 ? cozgelt_to_text_with(COZGELT_FLOATS, GIVEN)
+                      : call == 4 ? cozgelt_to_binary_with(COZGELT_FLOATS, GIVEN)
+                                  : cozgelt_check_with(COZGELT_FLOATS, GIVEN);
     int met = asked >= refused_from; /* else the call asked for less */
     if (held) return 0;
+    if ((whole || !met) && call > 2) return status == COZGELT_ACCEPTED && answer.values == 4;
     if (whole || !met) return status == COZGELT_REFUSED && !strcmp(cozgelt_reason(answer.reason), "Float");
     return (status == COZGELT_NO_MEMORY || status == COZGELT_NO_OUTPUT_MEMORY) && !answer.reason && !answer.needed &&
            !memcmp(room, before, sizeof room);
 }
 
 int main(void) {
-    Call *calls[] = {cozgelt_to_text, cozgelt_to_binary, cozgelt_check};
     int passed = 0, failed = 0;
-    for (int i = 0; i < 3; i++) {
+    for (int i = 0; i < 6; i++) {
         refused_from = refused_to = 0;
-        int right = answers(calls[i], 1);
+        int right = answers(i, 1);
         right ? passed++ : failed++;
         long all = asked;
         for (long n = 1; n <= all; n++)
             for (int alone = 0; alone < 2; alone++) {
                 refused_from = n, refused_to = alone ? n : all + 1000;
-                right = answers(calls[i], 0);
+                right = answers(i, 0);
                 if (!right)
                     printf("FAILED call %d, allocation %ld of %ld%s\n", i, n, all, alone ? " alone" : " and all after it");
                 right ? passed++ : failed++;

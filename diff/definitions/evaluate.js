@@ -3,9 +3,11 @@
 // bytes in hexadecimal, as `yard batch` of bench/yard takes them. It answers a line each: `ok VALUES FORM OUTPUT`,
 // `refused REASON PLACE OUTPUT`, `catalog REASON PLACE`; `BAD ..` where two definitions that must agree do not, and
 // `ERROR ..` where a definition could not be computed. It follows the relation `HasVerdictFrom` of ion_transcode's Verdict
-// from rule to rule; with `--by-item` the functions that compute the same item by item (ByItem) have to agree.
+// from rule to rule; with `--by-item` the functions that compute the same item by item (ByItem) have to agree. With `--floats` the
+// stream may have floats; the catalogue may not.
 const { G, N, F, A, T, NIL, LIST, ARR } = require(process.env.DEFINITIONS);
 const INPUT_LIMIT = 2 ** 48;
+const strict = F(G.ion_meter_Rules$strict), profile = process.argv.includes('--floats') ? F(G.ion_meter_Rules$floats) : strict;
 const unhex = (text) => (text === '-' ? [] : [...Buffer.from(text, 'hex')]);
 const hex = (list) => Buffer.from(ARR(list).map(F)).toString('hex') || '-';
 
@@ -53,7 +55,7 @@ function verdict(encoding, outputs, catalog, limits, bytes) {
 }
 
 function load(limits, bytes) {
-  const encoding = F(G.ion_transcode_Forms$encoding_of(G.ion_transcode_Forms$form_of(bytes)));
+  const encoding = F(G.ion_transcode_Forms$encoding_of(strict, G.ion_transcode_Forms$form_of(bytes)));
   const read = verdict(encoding, F(G.ion_transcode_Catalogues$as_catalog(limits)), NIL, limits, bytes);
   if (!read.ok) return read;
   const tables = G.ion_symbols_CatalogTrees$tables_of(read.users);
@@ -68,12 +70,12 @@ function run(limits, catalog, to, bytes) {
   const target = G.ion_transcode_Outputs$resolved(form, { t: to });
   if (target.t === 'None') return { ok: false, reason: 'SameForm', place: 0, out: NIL };
   const outputs = F(G.ion_transcode_Outputs$outputs_of(F(target.p0), limits));
-  return { ...verdict(F(G.ion_transcode_Forms$encoding_of(form)), outputs, catalog, limits, bytes), form: form.t.toLowerCase() };
+  return { ...verdict(F(G.ion_transcode_Forms$encoding_of(profile, form)), outputs, catalog, limits, bytes), form: form.t.toLowerCase() };
 }
 
 function itemByItem(limits, catalog, to, bytes) {
-  const said = G.ion_transcode_ByItem$verdict_for(catalog, limits, { t: to }, bytes);
-  const out = hex(G.ion_transcode_ByItem$output_for(catalog, limits, { t: to }, bytes));
+  const said = G.ion_transcode_ByItem$verdict_for(profile, catalog, limits, { t: to }, bytes);
+  const out = hex(G.ion_transcode_ByItem$output_for(profile, catalog, limits, { t: to }, bytes));
   return said.t === 'Accepted' ? `ok ${F(said.p0)} ${out}` : `refused ${F(said.p0).t} ${F(said.p1)} ${out}`;
 }
 

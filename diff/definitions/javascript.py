@@ -62,7 +62,7 @@ def ref(m, r):
         return f'N[{r[1]!r}]'
     if r[0] == 'prim':
         return PRIMITIVES[r[1]]
-    if r[1][0].isupper() or r[1][0] in 'ℕℤ⊤⊥':  # a type, of which nothing is computed
+    if r[1][0].isupper() or r[1][0] in 'ℕℤ⊤⊥¬':  # a type, of which nothing is computed
         return 'undefined'
     raise SyntaxError(f'{m.id}: {r[1]} has no meaning here')
 

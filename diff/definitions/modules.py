@@ -143,8 +143,10 @@ def module(path):
 VARIANTS = {'Fraction': 1, 'Refused': 2}
 NATIVE = set('''length drop take map filter reverse nat_le nat_lt nat_eq not max min is_some is_none unwrap_or option_map
  option_and_then fold flat_map sum_by slice_get slice_index_or bytes_eq is_utf8 encode_utf8 decimal encode_of decoded_of
- standard days_in_month days_from_civil int_le neg_ℤ sum'''.split())
-CON = {'Some': 1, 'None': 0, 'Ok': 1, 'Err': 1, '[]': 0, '∷': 2, 'pos': 1, 'negsuc': 1, 'Less': 0, 'Equal': 0, 'Greater': 0}
+ standard days_in_month days_from_civil int_le neg_ℤ sum eqb from_be_bytes to_be_bytes
+ fits from_bits to_bits of_bits round closest num den nearest_to_decimal'''.split())
+CON = {'Some': 1, 'None': 0, 'Ok': 1, 'Err': 1, '[]': 0, '∷': 2, 'pos': 1, 'negsuc': 1, 'Less': 0, 'Equal': 0, 'Greater': 0,
+       'nan': 0, 'inf': 1, 'fin': 3, 'binary32': 0, 'binary64': 0, 'w32': 0, 'w64': 0}
 PRIMITIVE = ('true', 'false', 'zero', 'suc', 'tt')
 
 

@@ -171,6 +171,55 @@ function decoded(b) {
 const isLeap = (y) => y % 4 === 0 && (y % 100 !== 0 || y % 400 === 0);
 const daysIn = (y, m) => [31, isLeap(y) ? 29 : 28, 31, 30, 31, 30, 31, 31, 30, 31, 30, 31][m - 1];
 
+// Floats: `nan`, `inf s`, or `fin s m e`, which is m * 2 ^ e with an odd m or zero. Formats by the digits of a significand, the
+// exponent of the greatest values, and the bits of a fraction.
+const FORMATS = { binary32: [24, 127, 23], binary64: [53, 1023, 52] };
+const FIN = CF('fin', 3), INF = CF('inf', 1), NAN = C0('nan');
+const bitsIn = (n) => (n === 0n ? 0 : n.toString(2).length);
+function fin(s, m, e) {
+  if (m === 0n) return FIN(s, 0, integer(0n));
+  while (m % 2n === 0n) { m /= 2n; e += 1; }
+  return FIN(s, small(m), integer(BigInt(e)));
+}
+// The value nearest to num / den, the even one of two, and an infinity past the greatest.
+function rounded(format, s, num, den) {
+  const [digits, most] = FORMATS[format.t], low = most + digits - 2, n = num << BigInt(low);
+  const k = Math.max(bitsIn(n / den) - digits, 0), u = den << BigInt(k), twice = 2n * (n % u);
+  let q = n / u;
+  if (twice > u || (twice === u && q % 2n === 1n)) q += 1n;
+  return q << BigInt(k) < 1n << BigInt(low + most + 1) ? fin(s, q, k - low) : INF(s);
+}
+function fraction(x) {
+  const m = big(F(x.p1)), e = signed(x.p2);
+  return e < 0n ? [m, 1n << -e] : [m << e, 1n];
+}
+function fromBits(format, bits) {
+  const [digits, most, width] = FORMATS[format.t], w = BigInt(width), n = big(bits), m = n % (1n << w);
+  const e = Number((n >> w) % BigInt(2 * most + 2)), s = n >> w >= BigInt(2 * most + 2);
+  if (e === 2 * most + 1) return m === 0n ? INF(s) : NAN;
+  return e === 0 ? fin(s, m, 2 - most - digits) : fin(s, m + (1n << w), e + 1 - most - digits);
+}
+function toBits(format, x) {
+  const [digits, most, width] = FORMATS[format.t], w = BigInt(width), full = BigInt(2 * most + 1) << w;
+  if (x.t === 'nan') return small(full + (1n << (w - 1n)));
+  const sign = F(x.p0) ? 1n << (BigInt(bitsIn(BigInt(2 * most + 1))) + w) : 0n;
+  if (x.t === 'inf') return small(sign + full);
+  const m = big(F(x.p1));
+  if (m === 0n) return small(sign);
+  const e = Number(signed(x.p2)) + bitsIn(m) - 1, least = Math.max(e, 1 - most) - (digits - 1);
+  const units = m << (signed(x.p2) - BigInt(least));
+  return small(sign + (e < 1 - most ? units : (BigInt(e + most - 1) << w) + units));
+}
+function nearestTo(format, s, digits, exponent) {
+  const n = big(digits), size = exponent + BigInt(String(n).length);
+  if (n === 0n || size < -400n) return fin(s, 0n, 0);
+  if (size > 400n) return INF(s);
+  return exponent < 0n ? rounded(format, s, n, 10n ** -exponent) : rounded(format, s, n * 10n ** exponent, 1n);
+}
+function isAlike(x, y) {
+  return x.t === y.t && (x.t !== 'fin' || (F(x.p0) === F(y.p0) && EQ(F(x.p1), F(y.p1)) && signed(x.p2) === signed(y.p2)));
+}
+
 const N = {
   length: (l) => ARR(l).length, drop: after, take: taken, reverse: (l) => LIST(ARR(l).reverse()),
   map: (f, l) => LIST(ARR(l).map((x) => new T(() => A(f, [x])))),
@@ -192,5 +241,20 @@ const N = {
   decoded_of: (e, l) => { const r = decoded(BYTES(l)); return r === null ? NONE : SOME(LIST(r)); },
   days_in_month: (y, m) => daysIn(Number(signed(y)), F(m)),
   days_from_civil: () => { throw new Error('days_from_civil is not computed'); },
+  eqb: (a, b) => EQ(F(a), F(b)),
+  from_be_bytes: (w, l) => BYTES(l).reduce((n, b) => ADD(MUL(n, 256), b), 0),
+  to_be_bytes: (w, n) => {
+    const count = F(w).t === 'w32' ? 4 : 8, all = big(F(n));
+    return LIST(Array.from({ length: count }, (_, i) => Number((all >> BigInt(8 * (count - 1 - i))) % 256n)));
+  },
+  from_bits: (f, n) => fromBits(F(f), F(n)), of_bits: (f, n) => fromBits(F(f), F(n)), to_bits: (f, x) => toBits(F(f), F(x)),
+  round: (f, s, n, d) => rounded(F(f), F(s), big(F(n)), big(F(d))),
+  fits: (f, x) => { x = F(x); return x.t !== 'fin' || isAlike(x, rounded(F(f), F(x.p0), ...fraction(x))); },
+  closest: (n, d) => {
+    const a = big(F(n)), b = big(F(d)), q = a / b, twice = 2n * (a % b);
+    return small(twice > b || (twice === b && q % 2n === 1n) ? q + 1n : q);
+  },
+  num: (x) => small(fraction(F(x))[0]), den: (x) => small(fraction(F(x))[1]),
+  nearest_to_decimal: (f, s, n, e) => nearestTo(F(f), F(s), F(n), signed(e)),
   int_le: (a, b) => signed(a) <= signed(b), 'neg_ℤ': (a) => integer(-signed(a)),
 };

@@ -10,12 +10,13 @@ YARD is the program of bench/yard, built. It was written apart from the crates o
 with them, so that what must come of a mangled input is taken from outside. `yard batch` reads a line for each run:
 TO DEPTH SCALAR SYMBOLS VALUE FINAL CATALOGUE INPUT, the last two in hexadecimal, `-` where there are no octets.
 
-The source of the table is binary.py, text.py, symbols.py and catalogues.py beside this file: for each sentence of the
-format, in words of our own, an input that is accepted and one that is refused. Each input is run whole, and then
-mangled: cut short at each place, and with one octet replaced by 00, 7F, 80 or FF. It is written as text, as nothing
-and as binary each time. The table has the whole input's verdict and outputs; a checksum over the answers of all
-mangled inputs; and a mark for each place, which is the checksum of its inputs' answers, cut to one character, so that a
-test can name the place where an answer first differs.
+The source of the table is binary.py, text.py, symbols.py, catalogues.py and floats.py beside this file: for each
+sentence of the format, in words of our own, an input that is accepted and one that is refused. For those of floats.py
+YARD and COMMAND are given the word --floats. Each input is run whole, and then mangled: cut short at each place, and
+with one octet replaced by 00, 7F, 80 or FF. It is written as text, as nothing and as binary each time. The table has
+the whole input's verdict and outputs; a checksum over the answers of all mangled inputs; and a mark for each place,
+which is the checksum of its inputs' answers, cut to one character, so that a test can name the place where an answer
+first differs.
 
 A table is one text, which the tests take apart, since the prover takes a text of any length as one term, and each number,
 text and tuple as one more. A line that begins with `~` is a sentence, and each line after it is an input, with `|` after
@@ -29,6 +30,7 @@ import sys
 
 import binary
 import catalogues
+import floats
 import symbols
 import text
 
@@ -72,9 +74,11 @@ class Vector:
 
 
 class Table:
-    """A table of rows: `mangles` says whether its inputs are streams or catalogues, `other` is what stays."""
+    """A table of rows: `mangles` says whether its inputs are streams or catalogues, `other` is what stays, `words` what the
+    programs are given."""
 
-    def __init__(self, name, title, mangles, other, rows):
+    def __init__(self, name, title, mangles, other, rows, words):
+        self.words = words
         self.name = name
         self.title = title
         self.mangles = mangles
@@ -93,10 +97,10 @@ def octets_of(written):
 
 
 def tables():
-    for module in (binary, text, symbols, catalogues):
+    for module in (binary, text, symbols, catalogues, floats):
         for name, title, mangles, other, rows in module.TABLES:
             rows = [(row[0], [octets_of(one) for one in row[1:]]) for row in rows]
-            yield Table(name, title, mangles, octets_of(other), rows)
+            yield Table(name, title, mangles, octets_of(other), rows, ["--floats"] if module is floats else [])
 
 
 def answers_of(command, lines):
@@ -241,11 +245,11 @@ def main(words):
     count = runs = differ = changed = 0
     for table in tables():
         lines = [line for _, vectors in table.rows for vector in vectors for line in vector.lines()]
-        answers = decided(yard, lines)
+        answers = decided(yard + table.words, lines)
         count += sum(len(vectors) for _, vectors in table.rows)
         runs += len(lines)
         if words[1:2] == ["--beside"]:
-            differ += compare(lines, answers, answers_of(words[2:], lines))
+            differ += compare(lines, answers, answers_of(words[2:] + table.words, lines))
         else:
             changed += write_file(table, answers, words[1:2] == ["--check"])
     if changed and words[1:2] != ["--check"]:
@@ -269,7 +273,7 @@ def show_answers(yard, words):
         for sentence, vectors in table.rows:
             for vector in vectors if words in sentence else []:
                 print(f"{sentence}\n{vector.octets!r}")
-                answers = decided(yard, list(vector.lines()))
+                answers = decided(yard + table.words, list(vector.lines()))
                 inputs = [vector.octets, *vector.mangled()]
                 names = ["whole"] + [f"{kind} at {at}" for at in range(len(vector.octets)) for kind in KINDS]
                 for at, (name, octets, checksum) in enumerate(zip(names, inputs, checksums(answers))):

@@ -1,6 +1,7 @@
 //! `yard batch`: one case a line, one result a line.
 //! `TO DEPTH SCALAR SYMBOLS VALUE 1 CATALOGUE|- INPUT|-`: what to write (`text`, `binary`, `nothing`, `other`), limits,
-//! the form of the output (there is one), and the bytes of a catalogue and of the input in hexadecimal.
+//! the form of the output (there is one), and the bytes of a catalogue and of the input in hexadecimal. `--floats` holds for
+//! all lines.
 
 use crate::common::*;
 use crate::run::*;
@@ -39,7 +40,7 @@ fn put_fault(f: Fault, out: &mut Vec<u8>) {
     }
 }
 
-fn case(line: &[u8], window: usize, chunk: usize, out: &mut Vec<u8>) -> Option<()> {
+fn case(line: &[u8], given: Limits, out: &mut Vec<u8>) -> Option<()> {
     let mut f = line.split(|&c| c == b' ');
     let to = match f.next()? {
         b"text" => To::Text,
@@ -54,8 +55,7 @@ fn case(line: &[u8], window: usize, chunk: usize, out: &mut Vec<u8>) -> Option<(
         scalar: num()?,
         symbols: num()?,
         value: num()?,
-        window,
-        chunk,
+        ..given
     };
     if f.next()? != b"1" {
         return None;
@@ -78,7 +78,7 @@ fn case(line: &[u8], window: usize, chunk: usize, out: &mut Vec<u8>) -> Option<(
         }
     };
     // no greater window than the case needs
-    let lim = Limits { window: window.min(input.len() + 1), ..lim };
+    let lim = Limits { window: lim.window.min(input.len() + 1), ..lim };
     let mut o = Vec::new();
     match run(&cat, lim, to, &mut &input[..], &mut o) {
         Ok(s) => {
@@ -94,7 +94,8 @@ fn case(line: &[u8], window: usize, chunk: usize, out: &mut Vec<u8>) -> Option<(
     Some(())
 }
 
-pub fn batch(window: usize, chunk: usize, input: &mut dyn Read, output: &mut dyn Write) -> std::io::Result<()> {
+/// `given` has the windows, and whether floats are read.
+pub fn batch(given: Limits, input: &mut dyn Read, output: &mut dyn Write) -> std::io::Result<()> {
     let mut buf: Vec<u8> = Vec::new();
     let mut tmp = vec![0u8; 65536];
     let mut out = Vec::new();
@@ -112,7 +113,7 @@ pub fn batch(window: usize, chunk: usize, input: &mut dyn Read, output: &mut dyn
             let line = &buf[a..e];
             let line = line.strip_suffix(b"\r").unwrap_or(line);
             if !line.is_empty() {
-                if case(line, window, chunk, &mut out).is_none() {
+                if case(line, given, &mut out).is_none() {
                     out.extend_from_slice(b"error not a case");
                 }
                 out.push(b'\n');

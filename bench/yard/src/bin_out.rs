@@ -1,6 +1,7 @@
 //! The binary writer: the open top-level value is built at the output's end.
 
 use crate::common::*;
+use crate::float;
 use crate::symbols::SYSTEM;
 
 #[derive(Clone, Copy)]
@@ -590,6 +591,13 @@ impl<'w> Handler for BinWriter<'w> {
             std::ptr::copy_nonoverlapping(be.as_ptr().add(16 - n), p.add(h), n);
             self.o.len += h + n;
         }
+        self.tail(at)
+    }
+    #[inline(always)]
+    fn float(&mut self, x: f64, at: At) -> Res {
+        self.head(16);
+        let n = unsafe { float::put_octets(self.o.ptr(), x) };
+        self.o.len += n;
         self.tail(at)
     }
     fn decimal(&mut self, neg: bool, coef: u128, exp: i32, at: At) -> Res {

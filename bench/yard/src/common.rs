@@ -86,6 +86,8 @@ pub struct Limits {
     pub scalar: u64,
     pub symbols: u64,
     pub value: u64,
+    /// all floats are read, not `null.float` alone
+    pub floats: bool,
     /// size of the windows
     pub window: usize,
     /// greatest number of bytes asked for in one read (tests)
@@ -94,7 +96,7 @@ pub struct Limits {
 
 impl Default for Limits {
     fn default() -> Self {
-        Limits { depth: 64, scalar: 1_048_576, symbols: 1_048_576, value: 16_777_216, window: 65536, chunk: usize::MAX }
+        Limits { depth: 64, scalar: 1_048_576, symbols: 1_048_576, value: 16_777_216, floats: false, window: 65536, chunk: usize::MAX }
     }
 }
 
@@ -476,6 +478,7 @@ pub trait Handler {
         self.int(neg, mag, at)
     }
     fn int_big(&mut self, neg: bool, mag: u128, at: At) -> Res;
+    fn float(&mut self, x: f64, at: At) -> Res;
     fn decimal(&mut self, neg: bool, coef: u128, exp: i32, at: At) -> Res;
     fn timestamp(&mut self, t: &Ts, at: At) -> Res;
     /// `raw` is the canonical text of the timestamp
@@ -515,6 +518,10 @@ impl Handler for Nothing {
     }
     #[inline(always)]
     fn int_big(&mut self, _: bool, _: u128, _: At) -> Res {
+        Ok(())
+    }
+    #[inline(always)]
+    fn float(&mut self, _: f64, _: At) -> Res {
         Ok(())
     }
     #[inline(always)]

@@ -4,6 +4,7 @@ mod batch;
 mod bin_in;
 mod bin_out;
 mod common;
+mod float;
 mod num;
 mod run;
 mod simd;
@@ -71,7 +72,7 @@ fn serve() -> u8 {
             let _ = fd(1).write_all(USAGE.as_bytes());
             0
         }
-        Ok(Wants::Batch(lim)) => match batch::batch(lim.window, lim.chunk, &mut *fd(0), &mut *fd(1)) {
+        Ok(Wants::Batch(lim)) => match batch::batch(lim, &mut *fd(0), &mut *fd(1)) {
             Ok(()) => 0,
             Err(_) => 3,
         },

@@ -75,6 +75,8 @@ pub fn run(cat: &Catalog, lim: Limits, to: To, input: &mut dyn Read, output: &mu
 
 pub fn load_catalog(lim: Limits, input: &mut dyn Read) -> Res<Catalog> {
     let empty = Catalog::default();
+    // catalogues have no floats
+    let lim = Limits { floats: false, ..lim };
     let mut w = Win::new(input, lim.window, lim.chunk);
     w.more(0)?;
     let mut b = CatalogBuilder::new(lim.symbols);

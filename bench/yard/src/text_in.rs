@@ -1,6 +1,7 @@
 //! The text reader: blanks, containers, annotations and symbols. `numbers`, `quoted` and `words` have the other tokens.
 
 use crate::common::*;
+use crate::float;
 use crate::num::{self, parse_run, ts_fast, Num};
 use crate::simd;
 use crate::symbols::*;
@@ -735,7 +736,13 @@ impl<'r, 'c> TextReader<'r, 'c> {
         let (mut s, mut p) = (s, p);
         let mut ty = 0u8;
         if k == KW_NAN {
-            return refuse(Reason::Float, self.w.place(s));
+            if !self.lim.floats {
+                return refuse(Reason::Float, self.w.place(s));
+            }
+            self.ready(h)?;
+            h.float(f64::NAN, self.at(s))?;
+            self.w.pos = p;
+            return Ok(());
         }
         if self.w.b(p) == b'.' {
             (s, p) = self.null_token()?;

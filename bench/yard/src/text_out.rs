@@ -1,6 +1,7 @@
 //! The text writer.
 
 use crate::common::*;
+use crate::float;
 use crate::simd;
 
 pub struct TextWriter<'w> {
@@ -377,6 +378,13 @@ impl<'w> Handler for TextWriter<'w> {
         let mut b = [0u8; 112];
         let n = u128_text(mag, &mut b);
         self.o.put(&b[..n]);
+        self.tail(at.k)
+    }
+    #[inline(always)]
+    fn float(&mut self, x: f64, at: At) -> Res {
+        self.head(32);
+        let n = unsafe { float::put_text(self.o.ptr(), x, put_digits) };
+        self.o.len += n;
         self.tail(at.k)
     }
     fn decimal(&mut self, neg: bool, coef: u128, exp: i32, at: At) -> Res {

@@ -4,7 +4,7 @@ use crate::common::Limits;
 use crate::run::To;
 use std::ffi::OsString;
 
-pub const USAGE: &str = "Usage: yard show|check|convert [--catalog FILE] [--depth N] [--scalar N] [--symbols N] [--value N] [FILE]\n       yard batch [--window N] [--chunk N]\n";
+pub const USAGE: &str = "Usage: yard show|check|convert [--catalog FILE] [--depth N] [--scalar N] [--symbols N] [--value N] [--floats] [FILE]\n       yard batch [--window N] [--chunk N] [--floats]\n";
 
 pub struct Asked {
     pub to: To,
@@ -23,7 +23,7 @@ pub enum Wants {
 /// What the words ask for, or what is wrong with them.
 pub fn read(words: impl Iterator<Item = OsString>) -> Result<Wants, String> {
     let words: Result<Vec<_>, _> = words.map(OsString::into_string).collect();
-    let mut words = words.map_err(|_| "a word is not UTF-8")?.into_iter();
+    let mut words = words.map_err(|_| "a word is not UTF-8")?.into_iter().peekable();
     let command = words.next();
     let to = match command.as_deref() {
         None | Some("show") => Some(To::Text),
@@ -54,7 +54,7 @@ pub fn read(words: impl Iterator<Item = OsString>) -> Result<Wants, String> {
             if seen.contains(&name) {
                 return Err(format!("the argument '{name}' cannot be used multiple times"));
             }
-            let value = value.or_else(|| words.next().filter(|v| !v.starts_with("--")));
+            let value = value.or_else(|| words.next_if(|v| name != "--floats" && !v.starts_with("--")));
             option(&mut asked, to.is_none(), &name, value)?;
             seen.push(name);
         }
@@ -64,6 +64,11 @@ pub fn read(words: impl Iterator<Item = OsString>) -> Result<Wants, String> {
 
 fn option(asked: &mut Asked, is_batch: bool, name: &str, value: Option<String>) -> Result<(), String> {
     let max = match name {
+        "--floats" if value.is_some() => return Err("'--floats' takes no value".to_string()),
+        "--floats" => {
+            asked.limits.floats = true;
+            return Ok(());
+        }
         "--window" | "--chunk" if is_batch => 1 << 40,
         "--depth" if !is_batch => 65_535,
         "--catalog" | "--scalar" | "--symbols" | "--value" if !is_batch => 1 << 30,

@@ -2,10 +2,10 @@
 //! Cozgelt. What is accepted, what is refused, why and where, and every byte of the output are what its definitions say.
 //!
 //! It is a transcoder: no value can be read from it but out of what it writes. A float other than `null.float` is refused
-//! ([`Reason::Float`]).
+//! ([`Reason::Float`]), unless a call is given [`Profile::Floats`].
 //!
 //! ```
-//! use cozgelt::{check, to_binary, to_text, Error, Limits, Reason};
+//! use cozgelt::{check, to_binary, to_text, to_text_with, Error, Limits, Profile, Reason};
 //!
 //! let limits = Limits::default();
 //! let binary = to_binary(b"{a: 1.50}", &[], &limits)?;
@@ -13,6 +13,7 @@
 //! assert_eq!(check(b"1 2 3", &[], &limits)?, 3);
 //! let Err(Error::Refused(refusal)) = check(b"[[1]]", &[], &limits.depth(1)) else { panic!() };
 //! assert_eq!((refusal.reason, refusal.place), (Reason::DepthLimit, 1));
+//! assert_eq!(to_text_with(Profile::Floats, b"[1.50e0, nan]", &[], &limits)?, b"[1.5e0,nan]\n");
 //! # Ok::<(), Error>(())
 //! ```
 //!
@@ -79,6 +80,17 @@ macro_rules! changed {
 }
 
 changed! { depth: u32, scalar: u64, symbols: u64, value: u64, input: u64 }
+
+/// Which values a stream may have. The catalogue is always read by `Strict`.
+#[derive(Clone, Copy, Debug, Default, PartialEq, Eq, Hash)]
+#[non_exhaustive]
+pub enum Profile {
+    /// No float but `null.float`: any other is refused. So read the calls without a profile.
+    #[default]
+    Strict = 0,
+    /// Floats too.
+    Floats = 1,
+}
 
 /// A refusal of a stream.
 #[derive(Clone, Debug, PartialEq, Eq)]
@@ -151,6 +163,7 @@ struct CAnswer {
 }
 
 type Call = unsafe extern "C" fn(
+    u32,
     *const CLimits,
     *const u8,
     usize,
@@ -163,7 +176,8 @@ type Call = unsafe extern "C" fn(
 
 extern "C" {
     fn cozgelt_version() -> u32;
-    fn cozgelt_to_text(
+    fn cozgelt_to_text_with(
+        profile: u32,
         limits: *const CLimits,
         catalog: *const u8,
         catalog_len: usize,
@@ -173,7 +187,8 @@ extern "C" {
         room_len: usize,
         answer: *mut CAnswer,
     ) -> u32;
-    fn cozgelt_to_binary(
+    fn cozgelt_to_binary_with(
+        profile: u32,
         limits: *const CLimits,
         catalog: *const u8,
         catalog_len: usize,
@@ -183,7 +198,8 @@ extern "C" {
         room_len: usize,
         answer: *mut CAnswer,
     ) -> u32;
-    fn cozgelt_check(
+    fn cozgelt_check_with(
+        profile: u32,
         limits: *const CLimits,
         catalog: *const u8,
         catalog_len: usize,
@@ -200,6 +216,7 @@ extern "C" {
 /// The status of one call with so much room, with the room and the answer.
 fn once(
     call: Call,
+    profile: Profile,
     stream: &[u8],
     catalog: &[u8],
     limits: &Limits,
@@ -234,6 +251,7 @@ fn once(
     // borrowed mutably, so that they overlap nothing and nobody else uses them.
     let status = unsafe {
         call(
+            profile as u32,
             &limits,
             catalog.as_ptr(),
             catalog.len(),
@@ -250,6 +268,7 @@ fn once(
 /// The output, and how many values there are. guess: how long the output may be at the first try.
 fn convert(
     call: Call,
+    profile: Profile,
     stream: &[u8],
     catalog: &[u8],
     limits: &Limits,
@@ -259,10 +278,10 @@ fn convert(
     if unsafe { cozgelt_version() } != VERSION {
         return Err(Error::OtherVersion);
     }
-    let (mut status, mut room, mut answer) = once(call, stream, catalog, limits, guess)?;
+    let (mut status, mut room, mut answer) = once(call, profile, stream, catalog, limits, guess)?;
     if status <= 1 && answer.needed > guess as u64 {
         let needed = usize::try_from(answer.needed).map_err(|_| Error::NoMemory)?;
-        (status, room, answer) = once(call, stream, catalog, limits, needed)?;
+        (status, room, answer) = once(call, profile, stream, catalog, limits, needed)?;
     }
     let reason = Reason::of(answer.reason).ok_or(Error::OtherVersion);
     room.truncate(answer.needed as usize);
@@ -283,8 +302,29 @@ fn convert(
 
 /// The stream, text or binary, as canonical text: each value at top level is a line.
 pub fn to_text(stream: &[u8], catalog: &[u8], limits: &Limits) -> Result<Vec<u8>, Error> {
+    to_text_with(Profile::Strict, stream, catalog, limits)
+}
+
+/// The stream, a text, as canonical binary. One that is binary is refused as `SameForm`.
+pub fn to_binary(stream: &[u8], catalog: &[u8], limits: &Limits) -> Result<Vec<u8>, Error> {
+    to_binary_with(Profile::Strict, stream, catalog, limits)
+}
+
+/// How many values the stream has at top level.
+pub fn check(stream: &[u8], catalog: &[u8], limits: &Limits) -> Result<u64, Error> {
+    check_with(Profile::Strict, stream, catalog, limits)
+}
+
+/// As [`to_text`], with a profile.
+pub fn to_text_with(
+    profile: Profile,
+    stream: &[u8],
+    catalog: &[u8],
+    limits: &Limits,
+) -> Result<Vec<u8>, Error> {
     Ok(convert(
-        cozgelt_to_text,
+        cozgelt_to_text_with,
+        profile,
         stream,
         catalog,
         limits,
@@ -293,10 +333,16 @@ pub fn to_text(stream: &[u8], catalog: &[u8], limits: &Limits) -> Result<Vec<u8>
     .0)
 }
 
-/// The stream, a text, as canonical binary. One that is binary is refused as `SameForm`.
-pub fn to_binary(stream: &[u8], catalog: &[u8], limits: &Limits) -> Result<Vec<u8>, Error> {
+/// As [`to_binary`], with a profile.
+pub fn to_binary_with(
+    profile: Profile,
+    stream: &[u8],
+    catalog: &[u8],
+    limits: &Limits,
+) -> Result<Vec<u8>, Error> {
     Ok(convert(
-        cozgelt_to_binary,
+        cozgelt_to_binary_with,
+        profile,
         stream,
         catalog,
         limits,
@@ -305,9 +351,14 @@ pub fn to_binary(stream: &[u8], catalog: &[u8], limits: &Limits) -> Result<Vec<u
     .0)
 }
 
-/// How many values the stream has at top level.
-pub fn check(stream: &[u8], catalog: &[u8], limits: &Limits) -> Result<u64, Error> {
-    Ok(convert(cozgelt_check, stream, catalog, limits, 0)?.1)
+/// As [`check`], with a profile.
+pub fn check_with(
+    profile: Profile,
+    stream: &[u8],
+    catalog: &[u8],
+    limits: &Limits,
+) -> Result<u64, Error> {
+    Ok(convert(cozgelt_check_with, profile, stream, catalog, limits, 0)?.1)
 }
 
 /// The version of the library, as three numbers.

@@ -1,5 +1,6 @@
 //! One call of each kind, refusals, wrong calls, and four threads at once.
-use cozgelt::{check, to_binary, to_text, version, Error, Limits, Reason};
+use cozgelt::{check, check_with, to_binary, to_binary_with, to_text, to_text_with, version};
+use cozgelt::{Error, Limits, Profile, Reason};
 
 const TABLES: &[u8] = b"$ion_shared_symbol_table::{name:\"x\",version:1,symbols:[\"p\",\"q\"]}";
 
@@ -49,6 +50,46 @@ fn imports_are_found_in_the_catalogue() {
     assert_eq!(
         check(stream, b"1", &Limits::default()),
         Err(Error::CatalogRefused(Reason::CatalogEntry, 0))
+    );
+}
+
+#[test]
+fn floats_are_read_by_their_profile() {
+    let (by, limits) = (Profile::Floats, Limits::default());
+    let stream = b"[1.50e0, -0e0, nan] 602214076e15";
+    let shown = b"[1.5e0,-0e0,nan]\n6.02214076e23\n";
+    let binary = to_binary_with(by, stream, &[], &limits).unwrap();
+    assert_eq!(
+        binary,
+        b"\xE0\x01\0\xEA\xBE\x8F\x44\x3F\xC0\0\0\x44\x80\0\0\0\x44\x7F\xC0\0\0\x48\x44\xDF\xE1\x85\xCA\x57\xC5\x17"
+    );
+    assert_eq!(to_text_with(by, stream, &[], &limits).unwrap(), shown);
+    assert_eq!(to_text_with(by, &binary, &[], &limits).unwrap(), shown);
+    assert_eq!(check_with(by, &binary, &[], &limits), Ok(2));
+    assert_eq!(
+        refused(to_text_with(by, b"1e400", &[], &limits)),
+        (Reason::Range, 0, Vec::new())
+    );
+}
+
+#[test]
+fn floats_are_refused_by_the_strict_profile() {
+    let (by, limits) = (Profile::Strict, Limits::default());
+    assert_eq!(by, Profile::default());
+    assert_eq!(
+        refused(to_text_with(by, b"1 4e0", &[], &limits)),
+        (Reason::Float, 2, b"1\n".to_vec())
+    );
+    assert_eq!(
+        refused(to_binary_with(by, b"4e0", &[], &limits)),
+        (Reason::Float, 0, b"\xE0\x01\0\xEA".to_vec())
+    );
+    let why = check_with(by, b"null.float nan", &[], &limits).unwrap_err();
+    assert_eq!(why.to_string(), "refused Float at 11");
+    let table = b"$ion_shared_symbol_table::{name:\"x\",version:1,symbols:[\"p\"],more:1e0}";
+    assert_eq!(
+        check_with(Profile::Floats, b"1", table, &limits),
+        Err(Error::CatalogRefused(Reason::Float, 65))
     );
 }
 

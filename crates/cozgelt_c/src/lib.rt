@@ -7,15 +7,17 @@ ghost use Rattle.std.specs.Prelude.{◌≡◌, ◌≢◌, ◌≤◌, ◌<◌, �
 ghost use Rattle.ion_meter.specs.Limits.{AreChecked};
 ghost use Rattle.ion_meter.specs.Reasons.{number_of};
 ghost use Rattle.ion_transcode.specs.declared.to.To.TheVariants as to;
-ghost use Rattle.cozgelt_c.specs.Calls.{Answers, AnswersWith, AreValid, limits_of};
+ghost use Rattle.cozgelt_c.specs.Calls.{Answers, AnswersAt, AnswersBy, AnswersWith};
+ghost use Rattle.cozgelt_c.specs.Calls.{AreValid, limits_of, profile_of};
 
 use ion_meter::fault::{Fault, Reason};
 use ion_meter::limits::Limits;
 use ion_meter::meter::Meter;
+use ion_meter::profile::Profile;
 use ion_meter::stream::{FromRead, ToWrite};
 use ion_symbols::catalog::Catalog;
 use ion_transcode::load::load_catalog;
-use ion_transcode::run::run;
+use ion_transcode::run::run_with;
 use ion_transcode::to::To;
 use std::alloc::Global;
 
@@ -67,6 +69,29 @@ const INVALID: u32 = 5;
 
 const CATALOG_REFUSED: u32 = 6;
 
+// The numbers of the profiles.
+const STRICT: u32 = 0;
+
+const FLOATS: u32 = 1;
+
+/// What is done with a stream: by which profile it is read, and as what it is written.
+#[derive(Clone, Copy)]
+struct Task {
+    profile: Profile,
+    to: To,
+}
+
+/// The profile that a caller's number names, if it names one.
+fn profile_of(number: u32) -> Option<Profile>
+    ensures { result ≡ profile_of number }
+{
+    match number {
+        STRICT => Some(Profile::strict()),
+        FLOATS => Some(Profile::floats()),
+        _ => None,
+    }
+}
+
 /// The limits that a caller gives, if they are valid and the answer is.
 fn checked(limits: &CozgeltLimits, answer: &CozgeltAnswer) -> Option<Limits>
     ensures some { IfSome result (λ l. (l ≡ limits_of limits.now)
@@ -115,7 +140,7 @@ fn convert_with(
     meter: &mut Meter<Global>,
     tables: &Catalog<Global>,
     limits: Limits,
-    to: To,
+    task: Task,
     stream: &[u8],
     room: &mut [u8],
     answer: &mut CozgeltAnswer,
@@ -123,14 +148,15 @@ fn convert_with(
     requires checked { AreChecked limits }
     requires held { meter.old.held ≤ 2 ^ 48 }
     requires countable { meter.old.refused < 2 ^ 64 - 1 }
-    ensures answers { AnswersWith tables.now limits to stream.now result
-        answer.old answer.new room.old room.new }
+    ensures answers { AnswersWith task.profile tables.now limits task.to stream.now
+        result answer.old answer.new room.old room.new }
     ensures held { meter.new.held ≡ meter.old.held }
     ensures counted { result ≢ 2 → meter.new.refused ≡ meter.old.refused }
 {
     let reader = FromRead::new(stream);
     let writer = ToWrite::new(Vec::new(alloc));
-    let (outcome, _, writer) = run(meter, tables, limits, to, reader, writer);
+    let Task { profile, to } = task;
+    let (outcome, _, writer) = run_with(meter, tables, limits, profile, to, reader, writer);
     let output = writer.into_inner();
     match outcome {
         Ok(summary) => {
@@ -150,16 +176,16 @@ fn convert_with(
 }
 
 /// Converts a stream, its imports from a catalogue.
-fn convert(
+fn convert_by(
     alloc: Global,
     limits: &CozgeltLimits,
-    to: To,
+    task: Task,
     catalog: &[u8],
     stream: &[u8],
     room: &mut [u8],
     answer: &mut CozgeltAnswer,
 ) -> u32
-    ensures { Answers limits.now to catalog.now stream.now result
+    ensures { AnswersBy task.profile limits.now task.to catalog.now stream.now result
         answer.old answer.new room.old room.new }
 {
     let Some(limits) = checked(limits, answer) else {
@@ -169,7 +195,9 @@ fn convert(
     let (loaded, _) = load_catalog(&mut meter, limits, FromRead::new(catalog));
     match loaded {
         Ok(tables) => {
-            let status = convert_with(alloc, &mut meter, &tables, limits, to, stream, room, answer);
+            let status = convert_with(
+                alloc, &mut meter, &tables, limits, task, stream, room, answer,
+            );
             tables.release(&mut meter);
             status
         }
@@ -179,6 +207,29 @@ fn convert(
         }
         Err(Fault::InputLimit) => INPUT_LIMIT,
         Err(Fault::Memory | Fault::ReadFault | Fault::WriteFault) => NO_MEMORY,
+    }
+}
+
+/// Converts a stream by the profile that a number names.
+fn convert(
+    alloc: Global,
+    profile: u32,
+    limits: &CozgeltLimits,
+    to: To,
+    catalog: &[u8],
+    stream: &[u8],
+    room: &mut [u8],
+    answer: &mut CozgeltAnswer,
+) -> u32
+    ensures { AnswersAt profile limits.now to catalog.now stream.now result
+        answer.old answer.new room.old room.new }
+{
+    match profile_of(profile) {
+        Some(profile) => {
+            let task = Task { profile, to };
+            convert_by(alloc, limits, task, catalog, stream, room, answer)
+        }
+        None => INVALID,
     }
 }
 
@@ -203,7 +254,7 @@ pub extern "C" fn cozgelt_to_text(
     ensures { Answers limits.now to.Text catalog.now stream.now result
         answer.old answer.new room.old room.new }
 {
-    convert(alloc, limits, To::Text, catalog, stream, room, answer)
+    cozgelt_to_text_with(alloc, STRICT, limits, catalog, stream, room, answer)
 }
 
 /// The stream, a text, as canonical binary; one that is binary is refused as `SameForm` at 0.
@@ -219,7 +270,7 @@ pub extern "C" fn cozgelt_to_binary(
     ensures { Answers limits.now to.Binary catalog.now stream.now result
         answer.old answer.new room.old room.new }
 {
-    convert(alloc, limits, To::Binary, catalog, stream, room, answer)
+    cozgelt_to_binary_with(alloc, STRICT, limits, catalog, stream, room, answer)
 }
 
 /// The stream's verdict alone: its output is empty, and the room stays as it is.
@@ -235,5 +286,59 @@ pub extern "C" fn cozgelt_check(
     ensures { Answers limits.now to.Nothing catalog.now stream.now result
         answer.old answer.new room.old room.new }
 {
-    convert(alloc, limits, To::Nothing, catalog, stream, room, answer)
+    cozgelt_check_with(alloc, STRICT, limits, catalog, stream, room, answer)
+}
+
+/// The stream as canonical text, where it is read by the profile that a number names.
+#[unsafe(no_mangle)]
+pub extern "C" fn cozgelt_to_text_with(
+    alloc: Global,
+    profile: u32,
+    limits: &CozgeltLimits,
+    catalog: &[u8],
+    stream: &[u8],
+    room: &mut [u8],
+    answer: &mut CozgeltAnswer,
+) -> u32
+    ensures { AnswersAt profile limits.now to.Text catalog.now stream.now result
+        answer.old answer.new room.old room.new }
+{
+    let to = To::Text;
+    convert(alloc, profile, limits, to, catalog, stream, room, answer)
+}
+
+/// The stream, a text, as canonical binary, where it is read by the profile that a number names.
+#[unsafe(no_mangle)]
+pub extern "C" fn cozgelt_to_binary_with(
+    alloc: Global,
+    profile: u32,
+    limits: &CozgeltLimits,
+    catalog: &[u8],
+    stream: &[u8],
+    room: &mut [u8],
+    answer: &mut CozgeltAnswer,
+) -> u32
+    ensures { AnswersAt profile limits.now to.Binary catalog.now stream.now result
+        answer.old answer.new room.old room.new }
+{
+    let to = To::Binary;
+    convert(alloc, profile, limits, to, catalog, stream, room, answer)
+}
+
+/// The stream's verdict alone, where it is read by the profile that a number names.
+#[unsafe(no_mangle)]
+pub extern "C" fn cozgelt_check_with(
+    alloc: Global,
+    profile: u32,
+    limits: &CozgeltLimits,
+    catalog: &[u8],
+    stream: &[u8],
+    room: &mut [u8],
+    answer: &mut CozgeltAnswer,
+) -> u32
+    ensures { AnswersAt profile limits.now to.Nothing catalog.now stream.now result
+        answer.old answer.new room.old room.new }
+{
+    let to = To::Nothing;
+    convert(alloc, profile, limits, to, catalog, stream, room, answer)
 }

@@ -7,7 +7,7 @@ use Rattle.ion_meter.specs.declared.fault.Fault.{Fault}
 use Rattle.ion_meter.specs.declared.fault.Fault.TheVariants.{Refused, Memory, ReadFault, WriteFault, InputLimit}
 use Rattle.ion_meter.specs.declared.fault.Reason.{Reason}
 use Rattle.ion_meter.specs.declared.fault.Reason.TheVariants.{AnnotationLimit}
-use Rattle.ion_meter.specs.declared.limits.Limits.{Limits}
+use Rattle.ion_meter.specs.declared.profile.Rules.{Rules}
 use Rattle.ion_value.specs.declared.item.Annotation.{Annotation}
 use Rattle.ion_value.specs.declared.item.Annotation.TheVariants as annotation
 use Rattle.ion_value.specs.Items.{raw_annotation}
@@ -33,20 +33,20 @@ after-pushed prefix s (Ok x) = ap (λ l. Ok (l, x.1)) (sym (append_assoc prefix 
 after-pushed prefix s (Err e) = refl
 
 -- after the last id, however many more there may be
-pub ids_at-ended : (limits : Limits) (end most count : ℕ) (prefix : List SymbolAt) (c : Cursor) → end ≤ c.place → after prefix (ids_at most limits end count c) ≡ Ok (prefix, c)
+pub ids_at-ended : (limits : Rules) (end most count : ℕ) (prefix : List SymbolAt) (c : Cursor) → end ≤ c.place → after prefix (ids_at most limits end count c) ≡ Ok (prefix, c)
 unfolding ids_at
 ids_at-ended limits end zero count prefix c h = ap (λ l. Ok (l, c)) (append-nil prefix)
 ids_at-ended limits end (suc most) count prefix c h = let t : nat_le end c.place ≡ true = le-leb end c.place h in rw t (ap (λ l. Ok (l, c)) (append-nil prefix))
 
 -- where the next id is refused
-pub ids_at-refused : (limits : Limits) (end most count : ℕ) (prefix : List SymbolAt) (c : Cursor) (e : Reason) → 0 < most → c.place < end → var_uint_at (Some end) c ≡ Err e
+pub ids_at-refused : (limits : Rules) (end most count : ℕ) (prefix : List SymbolAt) (c : Cursor) (e : Reason) → 0 < most → c.place < end → var_uint_at (Some end) c ≡ Err e
     → after prefix (ids_at most limits end count c) ≡ Err (e, c.place)
 unfolding ids_at
 ids_at-refused limits end most count prefix c e h before k =
     let p = positive most h in let f : nat_le end c.place ≡ false = lt-leb end c.place before in rw (p.1, f, k) refl
 
 -- where the next id passes the limit
-pub ids_at-limited : (limits : Limits) (end most count n : ℕ) (prefix : List SymbolAt) (c d : Cursor) → 0 < most → c.place < end → var_uint_at (Some end) c ≡ Ok (n, d)
+pub ids_at-limited : (limits : Rules) (end most count n : ℕ) (prefix : List SymbolAt) (c d : Cursor) → 0 < most → c.place < end → var_uint_at (Some end) c ≡ Ok (n, d)
     → limits.scalar < 16 * (count + 1) → after prefix (ids_at most limits end count c) ≡ Err (AnnotationLimit, c.place)
 unfolding ids_at
 ids_at-limited limits end most count n prefix c d h before k past =
@@ -56,7 +56,7 @@ ids_at-limited limits end most count n prefix c d h before k past =
     rw (p.1, f, k, l) refl
 
 -- where it does not
-ids_at-goes_on : (limits : Limits) (end most fewer count n : ℕ) (prefix : List SymbolAt) (c d : Cursor) → most ≡ suc fewer → c.place < end → var_uint_at (Some end) c ≡ Ok (n, d)
+ids_at-goes_on : (limits : Rules) (end most fewer count n : ℕ) (prefix : List SymbolAt) (c d : Cursor) → most ≡ suc fewer → c.place < end → var_uint_at (Some end) c ≡ Ok (n, d)
     → 16 * (count + 1) ≤ limits.scalar
     → after prefix (ids_at most limits end count c) ≡ after (prefix ++ symbol_id n c.place ∷ []) (ids_at fewer limits end (count + 1) d)
 unfolding ids_at
@@ -70,7 +70,7 @@ as_annotations-pushed : (annotations : List Annotation) (id place : ℕ) → as_
 as_annotations-pushed annotations id place = map-append (raw_annotation []) annotations (annotation.Id id place ∷ [])
 
 -- one id more, which fits the limit
-pub ids_at-one_more : (limits : Limits) (end n id place : ℕ) (annotations more : List Annotation) (c d : Cursor) → length annotations ≤ c.place → c.place < end → var_uint_at (Some end) c ≡ Ok (n, d)
+pub ids_at-one_more : (limits : Rules) (end n id place : ℕ) (annotations more : List Annotation) (c d : Cursor) → length annotations ≤ c.place → c.place < end → var_uint_at (Some end) c ≡ Ok (n, d)
     → 16 * (length annotations + 1) ≤ limits.scalar → id ≡ raw_id n → place ≡ c.place → more ≡ annotations ++ annotation.Id id place ∷ []
     → after (as_annotations annotations) (ids_at (end - length annotations) limits end (length annotations) c) ≡ after (as_annotations more) (ids_at (end - length more) limits end (length more) d)
 ids_at-one_more limits end n id place annotations more c d taken before k within named placed pushed =

@@ -1,6 +1,7 @@
 -- The bodies that are read are those of the grammar, each with its value.
-use Rattle.std.proofs.Common.{◌≡◌, ℕ, ◌^◌, ◌<◌, ◌⊎◌, inl, inr, Bool, true, false, if◌then◌else◌, nat_le, ◌==◌, nat_eq, List, refl, ap, arith, Result, Ok, Err}
+use Rattle.std.proofs.Common.{◌≡◌, ℕ, Option, Some, None, ◌^◌, ◌<◌, ◌⊎◌, inl, inr, Bool, true, false, if◌then◌else◌, nat_le, ◌==◌, nat_eq, List, refl, ap, arith, Result, Ok, Err}
 use Rattle.std.specs.Str.{is_utf8}
+use lib.Ieee.{Float}
 use Rattle.std.proofs.lemmas.Bool.{eqb-true, eqb-false, ne_eqb, leb-false, lt-leb}
 use Rattle.std.proofs.lemmas.Str.{IsUtf8-from_is_utf8, is_utf8-from_IsUtf8}
 use Rattle.ion_meter.specs.declared.fault.Reason.{Reason}
@@ -10,12 +11,13 @@ use Rattle.ion_value.specs.Number.{uint}
 use Rattle.ion_value.specs.Int.{IsInt, int_of_bytes}
 use Rattle.ion_value.specs.Decimal.{decimal_of_bytes}
 use Rattle.ion_value.specs.Timestamp.{timestamp_of_bytes}
-use Rattle.ion_value.specs.Scalar.{with_value, string_of, scalar_of_body}
+use Rattle.ion_value.specs.FloatOctets.{float_of_octets}
+use Rattle.ion_value.specs.Scalar.{with_value, string_of, float_of_body, scalar_of_body}
 use Rattle.ion_value.specs.Name.{raw_id}
 use Rattle.ion_value.specs.Value as value
 use Rattle.ion_value.specs.Value.{Symbol, Id, Scalar}
 use Rattle.ion_value.proofs.DecimalOctets.{decimal_of_bytes-Ok, Read-decimal_of_bytes}
-use Rattle.ion_binary.specs.Grammar.{Body, positive, negative, decimal, timestamp, symbol, string, clob, blob}
+use Rattle.ion_binary.specs.Grammar.{Body, positive, negative, float, decimal, timestamp, symbol, string, clob, blob}
 use Rattle.ion_binary.specs.Laws.{Bodies}
 use Rattle.ion_binary.proofs.TimestampsSpelled.{TimestampBody-read}
 use Rattle.ion_binary.proofs.TimestampsRead.{kept, let_through, timestamp_of_bytes-body}
@@ -45,6 +47,7 @@ pub Body-read : (t : ℕ) (v : Scalar Symbol) (b : List ℕ) → Body t v b → 
 unfolding scalar_of_body
 Body-read _ _ _ (positive i b is of range) = ap (with_value value.int) (int_of_bytes-read i false b is of range)
 Body-read _ _ _ (negative i b is of range) = ap (with_value value.int) (int_of_bytes-read i true b is of range)
+Body-read _ _ _ (float x b h) = ap float_of_body h
 Body-read _ _ _ (decimal d b h range) = ap (with_value value.decimal) (decimal_of_bytes-Ok d b h range)
 Body-read _ _ _ (timestamp t b h) = ap (with_value value.timestamp) (TimestampBody-read t b h)
 Body-read _ _ _ (symbol b) = refl
@@ -90,6 +93,12 @@ ints i b e = let is = int_of_bytes-IsRead i false b e in positive i b is.sign_is
 minus_ints : (i : Int) (b : List ℕ) → int_of_bytes true b ≡ Ok i → Body 3 (value.int i) b
 minus_ints i b e = let is = int_of_bytes-IsRead i true b e in negative i b is.sign_is is.magnitude_is is.range
 
+floats : (o : Option Float) (v : Scalar Symbol) (b : List ℕ) → float_of_octets b ≡ o → float_of_body o ≡ Ok v → Body 4 v b
+floats (Some x) v b is e =
+    let same : value.float x ≡ v = cc e in
+    rw (← same) (float x b is)
+floats None v b is e = absurd (cc e)
+
 strings : (v : Scalar Symbol) (b : List ℕ) → string_of b ≡ Ok v → Body 8 v b
 strings v b e =
     let read = let_through (is_utf8 b) BadText (Ok (value.string b)) v e in
@@ -104,24 +113,27 @@ read-Body t v b e =
       | inl k ↦ let m = made_of value.int (int_of_bytes false b) v k.1 in rw (eqb-true t 2 k.0, ← m.2) (ints m.0 b m.1)
       | inr k ↦ elim (chosen (nat_eq t 3) _ _ _ k.1) [
         | inl k ↦ let m = made_of value.int (int_of_bytes true b) v k.1 in rw (eqb-true t 3 k.0, ← m.2) (minus_ints m.0 b m.1)
-        | inr k ↦ elim (chosen (nat_eq t 5) _ _ _ k.1) [
-          | inl k ↦
-              let m = made_of value.decimal (decimal_of_bytes b) v k.1 in
-              let read = Read-decimal_of_bytes m.0 b m.1 in
-              rw (eqb-true t 5 k.0, ← m.2) (decimal m.0 b read.body read.range)
-          | inr k ↦ elim (chosen (nat_eq t 6) _ _ _ k.1) [
+        | inr k ↦ elim (chosen (nat_eq t 4) _ _ _ k.1) [
+          | inl k ↦ rw (eqb-true t 4 k.0) (floats (float_of_octets b) v b refl k.1)
+          | inr k ↦ elim (chosen (nat_eq t 5) _ _ _ k.1) [
             | inl k ↦
-                let m = made_of value.timestamp (timestamp_of_bytes b) v k.1 in
-                rw (eqb-true t 6 k.0, ← m.2) (timestamp m.0 b (timestamp_of_bytes-body m.0 b m.1))
-            | inr k ↦ elim (chosen (nat_eq t 7) _ _ _ k.1) [
-              | inl k ↦ let same : value.symbol (Id (raw_id (uint b))) ≡ v = cc (k.1) in rw (eqb-true t 7 k.0, ← same) (symbol b)
-              | inr k ↦ elim (chosen (nat_eq t 8) _ _ _ k.1) [
-                | inl k ↦ rw (eqb-true t 8 k.0) (strings v b k.1)
-                | inr k ↦ elim (chosen (nat_eq t 9) _ _ _ k.1) [
-                  | inl k ↦ let same : value.clob b ≡ v = cc (k.1) in rw (eqb-true t 9 k.0, ← same) (clob b)
-                  | inr k ↦ elim (chosen (nat_eq t 10) _ _ _ k.1) [
-                    | inl k ↦ let same : value.blob b ≡ v = cc (k.1) in rw (eqb-true t 10 k.0, ← same) (blob b)
-                    | inr k ↦ absurd (cc (k.1))
+                let m = made_of value.decimal (decimal_of_bytes b) v k.1 in
+                let read = Read-decimal_of_bytes m.0 b m.1 in
+                rw (eqb-true t 5 k.0, ← m.2) (decimal m.0 b read.body read.range)
+            | inr k ↦ elim (chosen (nat_eq t 6) _ _ _ k.1) [
+              | inl k ↦
+                  let m = made_of value.timestamp (timestamp_of_bytes b) v k.1 in
+                  rw (eqb-true t 6 k.0, ← m.2) (timestamp m.0 b (timestamp_of_bytes-body m.0 b m.1))
+              | inr k ↦ elim (chosen (nat_eq t 7) _ _ _ k.1) [
+                | inl k ↦ let same : value.symbol (Id (raw_id (uint b))) ≡ v = cc (k.1) in rw (eqb-true t 7 k.0, ← same) (symbol b)
+                | inr k ↦ elim (chosen (nat_eq t 8) _ _ _ k.1) [
+                  | inl k ↦ rw (eqb-true t 8 k.0) (strings v b k.1)
+                  | inr k ↦ elim (chosen (nat_eq t 9) _ _ _ k.1) [
+                    | inl k ↦ let same : value.clob b ≡ v = cc (k.1) in rw (eqb-true t 9 k.0, ← same) (clob b)
+                    | inr k ↦ elim (chosen (nat_eq t 10) _ _ _ k.1) [
+                      | inl k ↦ let same : value.blob b ≡ v = cc (k.1) in rw (eqb-true t 10 k.0, ← same) (blob b)
+                      | inr k ↦ absurd (cc (k.1))
+                    ]
                   ]
                 ]
               ]

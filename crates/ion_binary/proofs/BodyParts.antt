@@ -6,7 +6,7 @@ use Rattle.std.proofs.lemmas.Bool.{false_from_ne_true, le-ltb}
 use Rattle.std.proofs.lemmas.Str.{IsUtf8-from_is_utf8, is_utf8-from_IsUtf8}
 use Rattle.ion_meter.specs.declared.fault.Reason.TheVariants.{BadText}
 use Rattle.ion_meter.specs.declared.fault.Reason.{Reason}
-use Rattle.ion_meter.specs.declared.limits.Limits.{Limits}
+use Rattle.ion_meter.specs.declared.profile.Rules.{Rules}
 use Rattle.ion_value.specs.Scalar.{scalar_of_body}
 use Rattle.ion_value.specs.Value.{Symbol, Scalar, string}
 use Rattle.ion_meter.specs.Sources.{Cursor, skip}
@@ -27,12 +27,12 @@ string-refused b test law e = rw (is_utf8-test b test law, e) refl
 
 -- ---- a body by what holds of it
 
-pub body_here-refused : (limits : Limits) (type_code n : ℕ) (c : Cursor) (e : Reason) → n ≤ limits.scalar → n ≤ length c.rest → scalar_of_body type_code (take n c.rest) ≡ Err e
+pub body_here-refused : (limits : Rules) (type_code n : ℕ) (c : Cursor) (e : Reason) → n ≤ limits.scalar → n ≤ length c.rest → scalar_of_body type_code (take n c.rest) ≡ Err e
     → body_here limits type_code n c ≡ Err e
 unfolding body_here
 body_here-refused limits type_code n c e fits there read = rw (le-ltb limits.scalar n fits, le-ltb (length c.rest) n there, read) refl
 
-pub body_here-read : (limits : Limits) (type_code n : ℕ) (c : Cursor) (v : Scalar Symbol) → n ≤ limits.scalar → n ≤ length c.rest → scalar_of_body type_code (take n c.rest) ≡ Ok v
+pub body_here-read : (limits : Rules) (type_code n : ℕ) (c : Cursor) (v : Scalar Symbol) → n ≤ limits.scalar → n ≤ length c.rest → scalar_of_body type_code (take n c.rest) ≡ Ok v
     → body_here limits type_code n c ≡ Ok (v, skip n c)
 unfolding body_here
 body_here-read limits type_code n c v fits there read = rw (le-ltb limits.scalar n fits, le-ltb (length c.rest) n there, read) refl

@@ -1,13 +1,13 @@
 -- Whatever the grammar spells is read, where the limits allow it.
-use Rattle.std.proofs.Common.{◌≡◌, ℕ, suc, ◌+◌, ◌*◌, ◌<◌, ◌≤◌, List, [], ◌∷◌, ◌++◌, length, Option, None, Ok, refl, sym, ap, subst, ◌∙◌, append_assoc, append-nil, arith}
+use Rattle.std.proofs.Common.{◌≡◌, ℕ, suc, ◌+◌, ◌*◌, ◌<◌, ◌≤◌, true, List, [], ◌∷◌, ◌++◌, length, Option, None, Ok, refl, sym, ap, subst, ◌∙◌, append_assoc, append-nil, arith}
 use Rattle.std.proofs.lemmas.List.{length-append}
-use Rattle.ion_meter.specs.declared.limits.Limits.{Limits}
+use Rattle.ion_meter.specs.declared.profile.Rules.{Rules}
 use Rattle.ion_value.specs.declared.ion_type.Kind.{Kind}
 use Rattle.ion_value.specs.Value as value
 use Rattle.ion_value.specs.Value.{SymbolAt, Value, Members, Top, PlacedItem, value_items, member_items, one_top, top_items}
 use Rattle.ion_value.specs.Path.{Path, closed, opened, nest_items, path_items, open_in}
 use Rattle.ion_value.specs.Reading.{Reading, Finished, items_of, items_then, Ends, Gives, GoesOn, reading_by, Shrinks}
-use Rattle.ion_value.specs.ReadingLaws.{Allows}
+use Rattle.ion_value.specs.ReadingLaws.{Allows, ArePermitted}
 use Rattle.ion_value.proofs.ReadingLaws.{prefixes}
 use Rattle.ion_value.proofs.Readings.{reading_by-ends, reading_by-gives, reading_by-goes_on, items_of-items_then}
 use Rattle.ion_value.proofs.Paths.{same_path}
@@ -17,52 +17,53 @@ use Rattle.ion_binary.specs.Paths.{FieldIn, Within, frame_of, Spells}
 use Rattle.ion_binary.specs.Positions.{placed_scalar, Frame, State}
 use Rattle.ion_binary.specs.Reading.{Around, TypedValue, a_nop_pad, a_marker, a_scalar, a_container, placed_item, step_for, region_of, top_of, step, size, start, reading}
 use Rattle.ion_binary.proofs.Fitting.{BinFits, InsideFits, TopsFit, SpellsFit, Tops-allowed, Spells-allowed}
+use Rattle.ion_value.proofs.Permitted.{all-permitted}
 use Rattle.ion_binary.proofs.Spelled.{cursor_at, Holds, Holds-before, Holds-within}
 use Rattle.ion_binary.proofs.SpelledParts.{Suits, Finds, Plain-found, IsNopPad-found, marker-found, Header-found}
 use Rattle.ion_binary.proofs.SpelledMembers.{unwrapped, wrapped_to, value_at-bare, value_at-spelled, member_at-spelled, state, step-member, step-end, step-ends}
 
 abbrev pub Shrinking : Type 0
-Shrinking = (limits : Limits) → Shrinks (step limits) size
+Shrinking = (limits : Rules) → Shrinks (step limits) size
 
 -- ---- from one state to another
 
-unfoldable pub read_from : Limits → State → Reading
+unfoldable pub read_from : Rules → State → Reading
 read_from limits s = reading_by (step limits) size s
 
 -- from a state on steps give these items, and lead to the other
-pub data Reads (limits : Limits) : State → List PlacedItem → State → Type 0 where
+pub data Reads (limits : Rules) : State → List PlacedItem → State → Type 0 where
   nothing : (s : State) → Reads limits s [] s
   gives : (s t u : State) (item : PlacedItem) (items : List PlacedItem) → step limits s ≡ Gives item t → Reads limits t items u → Reads limits s (item ∷ items) u
   goes_on : (s t u : State) (items : List PlacedItem) → step limits s ≡ GoesOn t → Reads limits t items u → Reads limits s items u
 
-Reads-then : (limits : Limits) (s t u : State) (xs ys : List PlacedItem) → Reads limits s xs t → Reads limits t ys u → Reads limits s (xs ++ ys) u
+Reads-then : (limits : Rules) (s t u : State) (xs ys : List PlacedItem) → Reads limits s xs t → Reads limits t ys u → Reads limits s (xs ++ ys) u
 Reads-then limits _ _ u _ ys (Reads.nothing s) q = q
 Reads-then limits _ _ u _ ys (Reads.gives s t v item items e p) q = Reads.gives s t u item (items ++ ys) e (Reads-then limits t v u items ys p q)
 Reads-then limits _ _ u _ ys (Reads.goes_on s t v items e p) q = Reads.goes_on s t u (items ++ ys) e (Reads-then limits t v u items ys p q)
 
 -- where nothing is read between the last two of three
-Reads-silent : (limits : Limits) (s t u : State) (xs : List PlacedItem) → Reads limits s xs t → Reads limits t [] u → Reads limits s xs u
+Reads-silent : (limits : Rules) (s t u : State) (xs : List PlacedItem) → Reads limits s xs t → Reads limits t [] u → Reads limits s xs u
 Reads-silent limits s t u xs p q = subst (λ (l : List PlacedItem). Reads limits s l u) (append-nil xs) (Reads-then limits s t u xs [] p q)
 
-Reads-gives : (limits : Limits) (s t : State) (item : PlacedItem) → step limits s ≡ Gives item t → Reads limits s (item ∷ []) t
+Reads-gives : (limits : Rules) (s t : State) (item : PlacedItem) → step limits s ≡ Gives item t → Reads limits s (item ∷ []) t
 Reads-gives limits s t item e = Reads.gives s t t item [] e (Reads.nothing t)
 
-Reads-goes_on : (limits : Limits) (s t : State) → step limits s ≡ GoesOn t → Reads limits s [] t
+Reads-goes_on : (limits : Rules) (s t : State) → step limits s ≡ GoesOn t → Reads limits s [] t
 Reads-goes_on limits s t e = Reads.goes_on s t t [] e (Reads.nothing t)
 
 -- these items are read first, and what is read after them is read from the other
-Reads-first : (limits : Limits) → Shrinks (step limits) size → (s t : State) (items : List PlacedItem) → Reads limits s items t → read_from limits s ≡ items_then items (read_from limits t)
+Reads-first : (limits : Rules) → Shrinks (step limits) size → (s t : State) (items : List PlacedItem) → Reads limits s items t → read_from limits s ≡ items_then items (read_from limits t)
 unfolding read_from
 Reads-first limits shrinks _ t _ (Reads.nothing s) = refl
 Reads-first limits shrinks _ t _ (Reads.gives s u v item items e more) =
     reading_by-gives (step limits) size shrinks s u item e ∙ ap (λ (r : Reading). Reading.More item r) (Reads-first limits shrinks u t items more)
 Reads-first limits shrinks _ t _ (Reads.goes_on s u v items e more) = reading_by-goes_on (step limits) size shrinks s u e ∙ Reads-first limits shrinks u t items more
 
-read_from-ends : (limits : Limits) → Shrinks (step limits) size → (s : State) → step limits s ≡ Ends → read_from limits s ≡ Finished
+read_from-ends : (limits : Rules) → Shrinks (step limits) size → (s : State) → step limits s ≡ Ends → read_from limits s ≡ Finished
 unfolding read_from
 read_from-ends limits shrinks s e = reading_by-ends (step limits) size shrinks s e
 
-pub reading-read_from : (limits : Limits) (bytes : List ℕ) → reading limits bytes ≡ read_from limits (start bytes)
+pub reading-read_from : (limits : Rules) (bytes : List ℕ) → reading limits bytes ≡ read_from limits (start bytes)
 unfolding read_from reading
 reading-read_from limits bytes = refl
 
@@ -73,7 +74,7 @@ Within-before [] p q h le = tt
 Within-before (frame ∷ frames) p q h le = omega arith
 
 -- a value of n octets, of which what is found is the header, is read in one step
-value_step : (limits : Limits) (frames : List Frame) (top p : ℕ) (f : Option SymbolAt) (b : List ℕ) (q : ℕ) (annotations : List SymbolAt) (n : ℕ) (v : TypedValue) (w x rest : List ℕ)
+value_step : (limits : Rules) (frames : List Frame) (top p : ℕ) (f : Option SymbolAt) (b : List ℕ) (q : ℕ) (annotations : List SymbolAt) (n : ℕ) (v : TypedValue) (w x rest : List ℕ)
     → FieldIn frames p f b → q ≡ p + length b → Annotated q annotations n w → 16 * length annotations ≤ limits.scalar → Within frames (q + length w + n) → length x ≤ n
     → ((a : Around) → a.depth ≡ length frames → Suits a (q + length w + n) → Finds limits a (q + length w) v x)
     → step limits (state frames top (cursor_at p (b ++ (w ++ (x ++ rest))))) ≡ step_for frames (top_of frames top p) f annotations (q + length w) v (cursor_at (q + length w + length x) rest)
@@ -92,7 +93,7 @@ value_step limits frames top p f b q annotations n v w x rest field place annota
     (Holds-before (region_of frames) (p + length b) (q + length w + n) holds (omega arith)) (rw (← place) read))))
 
 -- a NOP pad, or a version marker, is read in one step
-bare_step : (limits : Limits) (frames : List Frame) (top p : ℕ) (f : Option SymbolAt) (b : List ℕ) (v : TypedValue) (x rest : List ℕ)
+bare_step : (limits : Rules) (frames : List Frame) (top p : ℕ) (f : Option SymbolAt) (b : List ℕ) (v : TypedValue) (x rest : List ℕ)
     → FieldIn frames p f b → Within frames (p + length (b ++ x)) → Finds limits (unwrapped frames) (p + length b) v x
     → step limits (state frames top (cursor_at p ((b ++ x) ++ rest))) ≡ step_for frames (top_of frames top p) f [] (p + length b) v (cursor_at (p + length (b ++ x)) rest)
 bare_step limits frames top p f b v x rest field within found =
@@ -140,7 +141,7 @@ open_in-items (opened ts first nest) frames top q f b annotations h k ms stands 
     let same : top_of frames top q ≡ first = top_of-open frames top q stands.1 ∙ stands.0 in
     rw same (sym (append_assoc (top_items ts) (nest_items first nest) (placed_item first f annotations h (value.begin k) ∷ member_items first ms)))
 
-module _ (bodies : Bodies) (limits : Limits) where
+module _ (bodies : Bodies) (limits : Rules) where
   -- a NOP pad gives nothing
   nop_pad-reads : (frames : List Frame) (top p : ℕ) (f : Option SymbolAt) (b x rest : List ℕ) → FieldIn frames p f b → Within frames (p + length (b ++ x)) → IsNopPad x
       → Reads limits (state frames top (cursor_at p ((b ++ x) ++ rest))) [] (state frames (top_of frames top p) (cursor_at (p + length (b ++ x)) rest))
@@ -293,17 +294,17 @@ module _ (bodies : Bodies) (limits : Limits) where
 
 -- whatever path the bytes have, its items are read first where the limits allow them
 pub complete : Bodies → Shrinking → Complete
-complete bodies shrinks limits bytes q path allows is =
+complete bodies shrinks limits bytes q path allows is permitted =
     let short : length bytes ≡ length is.before + length is.rest = ap length is.split ∙ length-append is.before is.rest in
     let there = Spells-reads bodies limits path is.frames is.before is.spells
-    (Spells-allowed limits path is.frames is.before is.spells (omega (arith, allows.0)) (omega (arith, allows.1))) is.rest in (
+    (Spells-allowed limits path is.frames is.before is.spells (omega (arith, allows.0)) (omega (arith, allows.1)) permitted) is.rest in (
       read_from limits (state is.frames there.0 (cursor_at (length is.before) is.rest)),
       reading-read_from limits bytes ∙ ap (λ l. read_from limits (start l)) is.split
           ∙ Reads-first limits (shrinks limits) (start (is.before ++ is.rest)) (state is.frames there.0 (cursor_at (length is.before) is.rest)) (path_items path) there.2,
     )
 
 -- and a stream is read to its end, where each of its parts is within the limits
-pub fitting_streams : Bodies → Shrinking → (limits : Limits) (bytes : List ℕ) (ts : List (Top SymbolAt ℕ)) (tops : Tops ts bytes) → TopsFit limits tops
+pub fitting_streams : Bodies → Shrinking → (limits : Rules) (bytes : List ℕ) (ts : List (Top SymbolAt ℕ)) (tops : Tops ts bytes) → TopsFit limits tops
     → reading limits bytes ≡ items_then (path_items (closed ts)) Finished
 fitting_streams bodies shrinks limits bytes ts tops fits =
     let there = Tops-reads bodies limits ts bytes tops fits [] in
@@ -313,29 +314,34 @@ fitting_streams bodies shrinks limits bytes ts tops fits =
 
 -- so it is of all where the limits allow the bytes
 pub streams : Bodies → Shrinking → StreamsAreRead
-streams bodies shrinks limits bytes ts allows tops = fitting_streams bodies shrinks limits bytes ts tops (Tops-allowed limits ts bytes tops allows.0 allows.1)
+streams bodies shrinks limits bytes ts allows tops permitted =
+    fitting_streams bodies shrinks limits bytes ts tops (Tops-allowed limits ts bytes tops allows.0 allows.1 permitted)
 
--- limits that allow whatever stands in these bytes
-wide : List ℕ → Limits
-wide bytes = record { depth = length bytes; scalar = 16 * length bytes; symbols = 0; value = 0; input = 0 }
+-- rules that allow whatever stands in these bytes
+wide : List ℕ → Rules
+wide bytes = record { depth = length bytes; scalar = 16 * length bytes; floats = true }
 
 wide-Allows : (bytes : List ℕ) → Allows (wide bytes) bytes
 unfolding wide
 wide-Allows bytes = (omega arith, omega arith)
 
+wide-permits : (bytes : List ℕ) (items : List PlacedItem) → ArePermitted (wide bytes) items
+unfolding wide
+wide-permits bytes items = all-permitted (wide bytes) refl items
+
 -- of two paths of the same bytes the items of one begin the other's
 pub one_path : Bodies → Shrinking → OnePath
 one_path bodies shrinks bytes q r a b is_a is_b =
-    let first = complete bodies shrinks (wide bytes) bytes q a (wide-Allows bytes) is_a in
-    let second = complete bodies shrinks (wide bytes) bytes r b (wide-Allows bytes) is_b in
+    let first = complete bodies shrinks (wide bytes) bytes q a (wide-Allows bytes) is_a (wide-permits bytes (path_items a)) in
+    let second = complete bodies shrinks (wide bytes) bytes r b (wide-Allows bytes) is_b (wide-permits bytes (path_items b)) in
     prefixes (path_items a) (path_items b) (items_of first.0) (items_of second.0)
     (sym (items_of-items_then (path_items a) first.0) ∙ ap items_of (sym first.1 ∙ second.1) ∙ items_of-items_then (path_items b) second.0)
 
 -- the same bytes are one list of markers and values
 pub one_stream : Bodies → Shrinking → OneStream
 one_stream bodies shrinks bytes a b is_a is_b =
-    let first = streams bodies shrinks (wide bytes) bytes a (wide-Allows bytes) is_a.spells in
-    let second = streams bodies shrinks (wide bytes) bytes b (wide-Allows bytes) is_b.spells in
+    let first = streams bodies shrinks (wide bytes) bytes a (wide-Allows bytes) is_a.spells (wide-permits bytes (top_items a)) in
+    let second = streams bodies shrinks (wide bytes) bytes b (wide-Allows bytes) is_b.spells (wide-permits bytes (top_items b)) in
     let items : top_items a ++ [] ≡ top_items b ++ [] =
     sym (items_of-items_then (top_items a) Finished) ∙ ap items_of (sym first ∙ second) ∙ items_of-items_then (top_items b) Finished in
     let path : closed a ≡ closed b = same_path (closed a) (closed b) (sym (append-nil (top_items a)) ∙ items ∙ append-nil (top_items b)) in

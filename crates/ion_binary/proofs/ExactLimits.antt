@@ -4,7 +4,7 @@ use Rattle.std.proofs.lemmas.Bool.{ltb-true, ltb-false, leb-true, leb-false, eqb
 use Rattle.std.proofs.lemmas.List.{length-append}
 use Rattle.ion_meter.specs.declared.fault.Reason.{Reason}
 use Rattle.ion_meter.specs.declared.fault.Reason.TheVariants.{Truncated, BadDescriptor, BadVersion, BadAnnotation, Overrun, Float, DepthLimit, ScalarLimit, AnnotationLimit}
-use Rattle.ion_meter.specs.declared.limits.Limits.{Limits}
+use Rattle.ion_meter.specs.declared.profile.Rules.{Rules}
 use Rattle.ion_value.specs.declared.ion_type.Kind.{Kind}
 use Rattle.ion_value.specs.declared.ion_type.Kind.TheVariants as kind
 use Rattle.ion_value.specs.Number.{VarUInt}
@@ -51,7 +51,7 @@ part_free P place r c = part_limited P place r (from_free (P place) r c)
 -- ---- the part that is a descriptor, a length and, for a scalar, a body
 
 -- after a descriptor octet a longer body is announced, or a container begins where no more may be open
-data TypedPass (limits : Limits) (a : Around) (b : ℕ) (c : Cursor) : Reason → Type 0 where
+data TypedPass (limits : Rules) (a : Around) (b : ℕ) (c : Cursor) : Reason → Type 0 where
   body : (t n : ℕ) (octets : List ℕ) (d : Cursor) → Took a.region c octets d → Descriptor t n (b ∷ octets) → IsBodyTypeCode t → limits.scalar < n → TypedPass limits a b c ScalarLimit
   container : (k : Kind) (n : ℕ) (octets : List ℕ) (d : Cursor) → Took a.region c octets d → Header k n (b ∷ octets) → limits.depth ≤ a.depth
       → TypedPass limits a b c DepthLimit
@@ -83,7 +83,7 @@ marker_at-free r c =
     then_blames Free (refuse (not (is_top r)) BadDescriptor) _ (refuse_free _ BadDescriptor refl)
     (then_blames Free (marker_rest c.rest) _ (marker_rest-free c.rest) (record { so = tt }))
 
-module _ (limits : Limits) where
+module _ (limits : Rules) where
   scalar_at-limited : (a : Around) (b t length_code : ℕ) (c : Cursor) → b ≡ 16 * t + length_code → length_code < 15 → IsBodyTypeCode t
       → Blames (Limited (TypedPass limits a b c)) (scalar_at limits a t length_code c)
   unfolding scalar_at body_at
@@ -138,7 +138,9 @@ module _ (limits : Limits) where
   read_by_descriptor-limited a b (Shape.container k length_code) c is = container_at-limited a b length_code k c is.0 is.1 is.2
   read_by_descriptor-limited a b Shape.sorted c is = sorted_at-limited a b c is
   read_by_descriptor-limited a b Shape.marker c is = from_free _ _ (marker_at-free a.region c)
-  read_by_descriptor-limited a b Shape.float c is = record { so = λ k. absurd (free Float refl k) }
+  read_by_descriptor-limited a b (Shape.float length_code) c is =
+      then_blames (Limited (TypedPass limits a b c)) (refuse (not limits.floats) Float) _ (from_free _ _ (refuse_free _ Float refl))
+      (scalar_at-limited a b 4 length_code c is.0 is.1 (omega arith, omega arith))
   read_by_descriptor-limited a b Shape.illegal c is = record { so = λ k. absurd (free BadDescriptor refl k) }
 
   typed_value_at-limited : (a : Around) (b : ℕ) (c : Cursor) → Blames (Limited (TypedPass limits a b c)) (typed_value_at limits a b c)
@@ -197,7 +199,7 @@ wrapper_at-free r length_code c =
     (then_blames Free (refuse (nat_lt n.0 3 || nat_eq ids.0 0 || nat_le (n.1.place + n.0) (ids.1.place + ids.0)) BadAnnotation) _ (refuse_free _ BadAnnotation refl) (record { so = tt }))))
 
 -- so many ids are within the limit, and one more is not
-record IdsPass (limits : Limits) (end count : ℕ) (c : Cursor) (place : ℕ) : Type 0 where
+record IdsPass (limits : Rules) (end count : ℕ) (c : Cursor) (place : ℕ) : Type 0 where
   ids : List ℕ
   annotations : List SymbolAt
   id : ℕ
@@ -211,10 +213,10 @@ record IdsPass (limits : Limits) (end count : ℕ) (c : Cursor) (place : ℕ) : 
   above : limits.scalar < 16 * (count + length annotations + 1)
 
 -- only the limit on annotations may be passed there
-data OfIds (limits : Limits) (end count : ℕ) (c : Cursor) (place : ℕ) : Reason → Type 0 where
+data OfIds (limits : Rules) (end count : ℕ) (c : Cursor) (place : ℕ) : Reason → Type 0 where
   annotation : IdsPass limits end count c place → OfIds limits end count c place AnnotationLimit
 
-module _ (limits : Limits) where
+module _ (limits : Rules) where
   OfIds-more : (end count : ℕ) (c : Cursor) (id : ℕ) (octets : List ℕ) (d : Cursor) (place : ℕ) (why : Reason) → Took (Some end) c octets d → VarUInt id octets
       → OfIds limits end (count + 1) d place why → OfIds limits end count c place why
   OfIds-more end count c id octets d place _ took spells (annotation p) =
@@ -278,7 +280,7 @@ field_at-free (f ∷ frames) c = by_kind f.kind
     by_kind kind.Sexp = record { so = tt }
     by_kind kind.Struct = bind_blames Free (var_uint_at (Some f.end) c) _ (var_uint_at-free (Some f.end) c) (λ i _. record { so = tt })
 
-module _ (limits : Limits) (now : State) where
+module _ (limits : Rules) (now : State) where
   abbrev frames : List Frame
   frames = now.frames
 
@@ -462,7 +464,7 @@ module _ (limits : Limits) (now : State) where
   step_of-right (Ok s) c h = h.so s refl
   step_of-right (Err why) c h = c.so
 
-top_step-right : (limits : Limits) (s : State) (rest : List ℕ) → s.frames ≡ [] → Right limits s (top_step limits s.top s.cursor rest)
+top_step-right : (limits : Rules) (s : State) (rest : List ℕ) → s.frames ≡ [] → Right limits s (top_step limits s.top s.cursor rest)
 top_step-right limits s [] none = tt
 top_step-right limits s (b ∷ rest) none =
     subst (λ (frames : List Frame). Right limits s (step_of (member_at limits frames s.top s.cursor))) none
@@ -473,7 +475,7 @@ one_less : (kinds : List Kind) (n : ℕ) → length kinds ≡ suc n → length (
 one_less [] n e = absurd (omega (arith, e))
 one_less (k ∷ kinds) n e = omega (arith, e)
 
-step_in-right : (limits : Limits) (s : State) (frames : List Frame) → s.frames ≡ frames → Right limits s (step_in limits frames s.top s.cursor)
+step_in-right : (limits : Rules) (s : State) (frames : List Frame) → s.frames ≡ frames → Right limits s (step_in limits frames s.top s.cursor)
 step_in-right limits s [] e = top_step-right limits s s.cursor.rest e
 step_in-right limits s (f ∷ frames) e = by_end (nat_le f.end s.cursor.place) refl
   where
@@ -487,7 +489,7 @@ step_in-right limits s (f ∷ frames) e = by_end (nat_le f.end s.cursor.place) r
         subst (λ (open_ones : List Frame). Right limits s (step_of (member_at limits open_ones s.top s.cursor))) e
         (step_of-right limits s (member_at limits s.frames s.top s.cursor) (member_at-limited limits s s.top inside) (member_at-leads limits s s.top s.cursor))
 
-step-right : (limits : Limits) (s : State) → Right limits s (step limits s)
+step-right : (limits : Rules) (s : State) → Right limits s (step limits s)
 unfolding step
 step-right limits s = step_in-right limits s s.frames refl
 
@@ -497,7 +499,7 @@ open_after_all-append : (kinds : List Kind) (items more : List PlacedItem) → o
 open_after_all-append kinds [] more = refl
 open_after_all-append kinds (i ∷ items) more = open_after_all-append (open_after kinds i.head) items more
 
-module _ (bodies : Bodies) (limits : Limits) (bytes : List ℕ) (reason : Reason) (place : ℕ) (is : IsLimit reason) where
+module _ (bodies : Bodies) (limits : Rules) (bytes : List ℕ) (reason : Reason) (place : ℕ) (is : IsLimit reason) where
   -- what is read before a path, and what is read after it
   abbrev ReadTo : Path SymbolAt ℕ → Reading → Type 0
   ReadTo path r = reading limits bytes ≡ items_then (path_items path) r

@@ -9,7 +9,7 @@ use Rattle.ion_value.specs.Outcome.{one_if_closed}
 use Rattle.ion_value.specs.Shares.{Charges}
 use Rattle.ion_meter.specs.Sources.{BytesAreLeft}
 use Rattle.ion_meter.specs.Windows.{Outgoing}
-use Rattle.ion_meter.specs.declared.limits.Limits.{Limits}
+use Rattle.ion_meter.specs.declared.profile.Rules.{Rules}
 use Rattle.ion_value.specs.declared.writer.ValueWriter.{Ghosts as WriterOf}
 use Rattle.ion_value.specs.Feeding.{CanTake, Feeds, Hands, nothing, more}
 use Rattle.ion_value.specs.Standing.{WritesWithin}
@@ -111,7 +111,7 @@ module _ {I A W O : Type 0} (device : InputOf I) (w : WriterOf W O A) (see : Pla
   -- what two calls keep, one after the other
   keeps_on-then : (a b c : BinReader I A) (p q t : W) (x y z : Outgoing O) (m n k : Counts) → held_by a + w.own p ≤ m.held → KeepsOn w a b p q x y m n → KeepsOn w b c q t y z n k → KeepsOn w a c p t x z m k
   keeps_on-then a b c p q t x y z m n k held f g =
-      let most : share_of b + w.most q ≡ share_of a + w.most p = ap (λ (l : Limits). most_of l + w.most q) f.limits ∙ ap (λ s. share_of a + s) f.writer.most in
+      let most : share_of b + w.most q ≡ share_of a + w.most p = ap (λ (l : Rules). most_of l + w.most q) f.limits ∙ ap (λ s. share_of a + s) f.writer.most in
       record {
         sized = g.sized;
         stands = g.stands;
@@ -153,7 +153,7 @@ module _ {I A W O : Type 0} (device : InputOf I) (w : WriterOf W O A) (see : Pla
         total = h.total;
         bytes_left = h.bytes;
         feeds = more old new nothing one;
-        takes = takes-more w see (device.observable b.source.device) old new b.limits.depth c.limits.depth y z n k takes one s.writer (ap (λ (l : Limits). l.depth) s.limits);
+        takes = takes-more w see (device.observable b.source.device) old new b.limits.depth c.limits.depth y z n k takes one s.writer (ap (λ (l : Rules). l.depth) s.limits);
         goes = goes;
         grows = omega (arith, e);
         falls = falls-more (opened_in c) some many (left_to b) (left_to c) (some + left_to b) (omega arith) e h.falls;

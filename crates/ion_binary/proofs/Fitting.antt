@@ -2,43 +2,46 @@
 use Rattle.std.proofs.Common.{◌≡◌, ℕ, suc, ◌+◌, ◌*◌, ◌<◌, ◌≤◌, List, [], ◌∷◌, ◌++◌, length, ap, arith}
 use Rattle.std.specs.Bool.{⊤}
 use Rattle.std.proofs.lemmas.List.{length-append}
-use Rattle.ion_meter.specs.declared.limits.Limits.{Limits}
+use Rattle.ion_meter.specs.declared.profile.Rules.{Rules}
 use Rattle.ion_value.specs.declared.ion_type.Kind.{Kind}
-use Rattle.ion_value.specs.Value.{Symbol, SymbolAt, Scalar, Value, Members, Top}
-use Rattle.ion_value.specs.Path.{Path}
+use Rattle.ion_value.specs.Value.{Symbol, SymbolAt, Scalar, Value, Members, Top, version, top_items}
+use Rattle.ion_value.specs.Path.{Path, path_items}
+use Rattle.ion_value.specs.ReadingLaws.{ArePermitted, IsPermitted}
 use Rattle.ion_binary.specs.Grammar.{type_code, Ids, Wrapper, Annotated, Header, Plain, Bin, Inside, Tops}
 use Rattle.ion_binary.specs.Paths.{Spells}
 use Rattle.ion_binary.specs.Positions.{Frame}
+use Rattle.ion_value.proofs.Permitted.{ValueIsPermitted, MembersArePermitted}
+use Rattle.ion_binary.proofs.Permitted.{open-permitted, tops-last, tree-permitted, unplaced-permitted}
 use Rattle.ion_binary.proofs.Spelled.{VarUInt-pos, Descriptor-headed}
 
--- what a scalar has after its header is no longer than the limit
-abbrev pub PlainFits : Limits → {v : Scalar Symbol} {x : List ℕ} → Plain v x → Type 0
+-- what a scalar has after its header is no longer than the limit, and it is permitted
+abbrev pub PlainFits : Rules → {v : Scalar Symbol} {x : List ℕ} → Plain v x → Type 0
 PlainFits limits (Plain.null t n is) = ⊤
 PlainFits limits Plain.no = ⊤
 PlainFits limits Plain.yes = ⊤
-PlainFits limits (Plain.body t v head b descriptor is) = length b ≤ limits.scalar
+PlainFits limits (Plain.body t v head b descriptor is) = (length b ≤ limits.scalar) × IsPermitted limits v
 
 -- so it is with each scalar of a value, no more containers are open than the limit says, and no annotations cost more
 abbrev mutual
-  pub BinFits : Limits → ℕ → {q : ℕ} {annotations : List SymbolAt} {h : ℕ} {v : Value SymbolAt ℕ} {x : List ℕ} → Bin q annotations h v x → Type 0
+  pub BinFits : Rules → ℕ → {q : ℕ} {annotations : List SymbolAt} {h : ℕ} {v : Value SymbolAt ℕ} {x : List ℕ} → Bin q annotations h v x → Type 0
   BinFits limits depth (Bin.scalar q annotations v w x annotated plain) = (16 * length annotations ≤ limits.scalar) × PlainFits limits plain
   BinFits limits depth (Bin.container q annotations k ms w header x annotated is_header inside) =
       (16 * length annotations ≤ limits.scalar) × (depth < limits.depth) × InsideFits limits (suc depth) inside
 
-  pub InsideFits : Limits → ℕ → {k : Kind} {q : ℕ} {ms : Members SymbolAt ℕ} {x : List ℕ} → Inside k q ms x → Type 0
+  pub InsideFits : Rules → ℕ → {k : Kind} {q : ℕ} {ms : Members SymbolAt ℕ} {x : List ℕ} → Inside k q ms x → Type 0
   InsideFits limits depth (Inside.nothing k q) = ⊤
   InsideFits limits depth (Inside.nop_pad k q f ms c b p more field is) = InsideFits limits depth more
   InsideFits limits depth (Inside.with_value k q h f annotations v ms c b x more field bin) = InsideFits limits depth more × BinFits limits depth bin
 
 -- and with all that stands at top level
-abbrev pub TopsFit : Limits → {ts : List (Top SymbolAt ℕ)} {b : List ℕ} → Tops ts b → Type 0
+abbrev pub TopsFit : Rules → {ts : List (Top SymbolAt ℕ)} {b : List ℕ} → Tops ts b → Type 0
 TopsFit limits Tops.nothing = ⊤
 TopsFit limits (Tops.marker ts b more) = TopsFit limits more
 TopsFit limits (Tops.nop_pad ts b p more is) = TopsFit limits more
 TopsFit limits (Tops.with_value ts h annotations v b x more bin) = TopsFit limits more × BinFits limits 0 bin
 
 -- and with all that a path has, open or not
-abbrev pub SpellsFit : Limits → {path : Path SymbolAt ℕ} {frames : List Frame} {b : List ℕ} → Spells path frames b → Type 0
+abbrev pub SpellsFit : Rules → {path : Path SymbolAt ℕ} {frames : List Frame} {b : List ℕ} → Spells path frames b → Type 0
 SpellsFit limits (Spells.top ts b tops) = TopsFit limits tops
 SpellsFit limits (Spells.inside path frames f annotations k ms n b x w header c spells field annotated is_header inside short within) =
     SpellsFit limits spells × (16 * length annotations ≤ limits.scalar) × (length frames < limits.depth) × InsideFits limits (suc (length frames)) inside
@@ -56,11 +59,11 @@ Annotated-few _ _ _ _ (Annotated.bare q n) = omega arith
 Annotated-few _ _ _ _ (Annotated.wrapped q annotations n w (Wrapper.wrapper _ _ _ head len ids descriptor long some_ids some_value spells are)) =
     omega (arith, length-append (head ++ len) ids, Ids-few (q + length (head ++ len)) annotations ids are)
 
-Plain-allowed : (limits : Limits) (v : Scalar Symbol) (x : List ℕ) (plain : Plain v x) → length x ≤ limits.scalar → PlainFits limits plain
-Plain-allowed limits _ _ (Plain.null t n is) limit = tt
-Plain-allowed limits _ _ Plain.no limit = tt
-Plain-allowed limits _ _ Plain.yes limit = tt
-Plain-allowed limits _ _ (Plain.body t v head b descriptor is) limit = omega (arith, length-append head b)
+Plain-allowed : (limits : Rules) (v : Scalar Symbol) (x : List ℕ) (plain : Plain v x) → length x ≤ limits.scalar → IsPermitted limits v → PlainFits limits plain
+Plain-allowed limits _ _ (Plain.null t n is) limit permitted = tt
+Plain-allowed limits _ _ Plain.no limit permitted = tt
+Plain-allowed limits _ _ Plain.yes limit permitted = tt
+Plain-allowed limits _ _ (Plain.body t v head b descriptor is) limit permitted = (omega (arith, length-append head b), permitted)
 
 -- a container's header has an octet
 Header-pos : (k : Kind) (n : ℕ) (header : List ℕ) → Header k n header → 0 < length header
@@ -68,42 +71,43 @@ Header-pos _ _ _ (Header.plain k n head descriptor other) = let headed = Descrip
 Header-pos _ _ _ (Header.sorted n len spells some) = omega arith
 
 mutual
-  Bin-allowed : (limits : Limits) (depth q : ℕ) (annotations : List SymbolAt) (h : ℕ) (v : Value SymbolAt ℕ) (x : List ℕ) (bin : Bin q annotations h v x)
-      → depth + length x ≤ limits.depth → 16 * length x ≤ limits.scalar → BinFits limits depth bin
-  Bin-allowed limits depth _ _ _ _ _ (Bin.scalar q annotations v w x annotated plain) deep limit =
+  Bin-allowed : (limits : Rules) (depth q : ℕ) (annotations : List SymbolAt) (h : ℕ) (v : Value SymbolAt ℕ) (x : List ℕ) (bin : Bin q annotations h v x)
+      → depth + length x ≤ limits.depth → 16 * length x ≤ limits.scalar → ValueIsPermitted limits v → BinFits limits depth bin
+  Bin-allowed limits depth _ _ _ _ _ (Bin.scalar q annotations v w x annotated plain) deep limit permitted =
       let long : length (w ++ x) ≡ length w + length x = length-append w x in
       let few = Annotated-few q annotations (length x) w annotated in
-      (omega arith, Plain-allowed limits v x plain (omega arith))
-  Bin-allowed limits depth _ _ _ _ _ (Bin.container q annotations k ms w header x annotated is_header inside) deep limit =
+      (omega arith, Plain-allowed limits v x plain (omega arith) (unplaced-permitted limits (q + length w) v permitted))
+  Bin-allowed limits depth _ _ _ _ _ (Bin.container q annotations k ms w header x annotated is_header inside) deep limit permitted =
       let some = Header-pos k (length x) header is_header in
       let few = Annotated-few q annotations (length header + length x) w annotated in
       let long : length (w ++ header) ≡ length w + length header = length-append w header in
       let whole : length ((w ++ header) ++ x) ≡ length (w ++ header) + length x = length-append (w ++ header) x in
-      (omega arith, omega arith, Inside-allowed limits (suc depth) k (q + length (w ++ header)) ms x inside (omega arith) (omega arith))
+      (omega arith, omega arith, Inside-allowed limits (suc depth) k (q + length (w ++ header)) ms x inside (omega arith) (omega arith) permitted)
 
-  Inside-allowed : (limits : Limits) (depth : ℕ) (k : Kind) (q : ℕ) (ms : Members SymbolAt ℕ) (x : List ℕ) (inside : Inside k q ms x)
-      → depth + length x ≤ limits.depth → 16 * length x ≤ limits.scalar → InsideFits limits depth inside
-  Inside-allowed limits depth _ _ _ _ (Inside.nothing k q) deep limit = tt
-  Inside-allowed limits depth _ _ _ _ (Inside.nop_pad k q f ms c b p more field is) deep limit =
+  Inside-allowed : (limits : Rules) (depth : ℕ) (k : Kind) (q : ℕ) (ms : Members SymbolAt ℕ) (x : List ℕ) (inside : Inside k q ms x)
+      → depth + length x ≤ limits.depth → 16 * length x ≤ limits.scalar → MembersArePermitted limits ms → InsideFits limits depth inside
+  Inside-allowed limits depth _ _ _ _ (Inside.nothing k q) deep limit permitted = tt
+  Inside-allowed limits depth _ _ _ _ (Inside.nop_pad k q f ms c b p more field is) deep limit permitted =
       let long : length (c ++ (b ++ p)) ≡ length c + length (b ++ p) = length-append c (b ++ p) in
-      Inside-allowed limits depth k q ms c more (omega arith) (omega arith)
-  Inside-allowed limits depth _ _ _ _ (Inside.with_value k q h f annotations v ms c b x more field bin) deep limit =
+      Inside-allowed limits depth k q ms c more (omega arith) (omega arith) permitted
+  Inside-allowed limits depth _ _ _ _ (Inside.with_value k q h f annotations v ms c b x more field bin) deep limit permitted =
       let long : length (c ++ (b ++ x)) ≡ length c + length (b ++ x) = length-append c (b ++ x) in
       let longer : length (b ++ x) ≡ length b + length x = length-append b x in
-      (Inside-allowed limits depth k q ms c more (omega arith) (omega arith), Bin-allowed limits depth (q + length (c ++ b)) annotations h v x bin (omega arith) (omega arith))
+      (Inside-allowed limits depth k q ms c more (omega arith) (omega arith) permitted.0, Bin-allowed limits depth (q + length (c ++ b)) annotations h v x bin (omega arith) (omega arith) permitted.1)
 
 -- whatever stands in bytes that the limits allow is within them
-pub Tops-allowed : (limits : Limits) (ts : List (Top SymbolAt ℕ)) (b : List ℕ) (tops : Tops ts b) → length b ≤ limits.depth → 16 * length b ≤ limits.scalar → TopsFit limits tops
-Tops-allowed limits _ _ Tops.nothing deep limit = tt
-Tops-allowed limits _ _ (Tops.marker ts b more) deep limit =
+pub Tops-allowed : (limits : Rules) (ts : List (Top SymbolAt ℕ)) (b : List ℕ) (tops : Tops ts b) → length b ≤ limits.depth → 16 * length b ≤ limits.scalar → ArePermitted limits (top_items ts) → TopsFit limits tops
+Tops-allowed limits _ _ Tops.nothing deep limit permitted = tt
+Tops-allowed limits _ _ (Tops.marker ts b more) deep limit permitted =
     let long : length (b ++ 224 ∷ 1 ∷ 0 ∷ 234 ∷ []) ≡ length b + 4 = length-append b (224 ∷ 1 ∷ 0 ∷ 234 ∷ []) in
-    Tops-allowed limits ts b more (omega arith) (omega arith)
-Tops-allowed limits _ _ (Tops.nop_pad ts b p more is) deep limit =
+    Tops-allowed limits ts b more (omega arith) (omega arith) (tops-last limits ts (version (length b)) permitted).0
+Tops-allowed limits _ _ (Tops.nop_pad ts b p more is) deep limit permitted =
     let long : length (b ++ p) ≡ length b + length p = length-append b p in
-    Tops-allowed limits ts b more (omega arith) (omega arith)
-Tops-allowed limits _ _ (Tops.with_value ts h annotations v b x more bin) deep limit =
+    Tops-allowed limits ts b more (omega arith) (omega arith) permitted
+Tops-allowed limits _ _ (Tops.with_value ts h annotations v b x more bin) deep limit permitted =
+    let both = tree-permitted limits ts (length b) h annotations v permitted in
     let long : length (b ++ x) ≡ length b + length x = length-append b x in
-    (Tops-allowed limits ts b more (omega arith) (omega arith), Bin-allowed limits 0 (length b) annotations h v x bin (omega arith) (omega arith))
+    (Tops-allowed limits ts b more (omega arith) (omega arith) both.0, Bin-allowed limits 0 (length b) annotations h v x bin (omega arith) (omega arith) both.1)
 
 -- each open container has an octet
 Spells-deep : (path : Path SymbolAt ℕ) (frames : List Frame) (b : List ℕ) → Spells path frames b → length frames ≤ length b
@@ -117,10 +121,11 @@ Spells-deep _ _ _ (Spells.inside path frames f annotations k ms n b x w header c
     let deep = Spells-deep path frames b spells in
     omega arith
 
-pub Spells-allowed : (limits : Limits) (path : Path SymbolAt ℕ) (frames : List Frame) (b : List ℕ) (spells : Spells path frames b) → length b ≤ limits.depth → 16 * length b ≤ limits.scalar
-    → SpellsFit limits spells
-Spells-allowed limits _ _ _ (Spells.top ts b tops) deep limit = Tops-allowed limits ts b tops deep limit
-Spells-allowed limits _ _ _ (Spells.inside path frames f annotations k ms n b x w header c spells field annotated is_header inside short within) deep limit =
+pub Spells-allowed : (limits : Rules) (path : Path SymbolAt ℕ) (frames : List Frame) (b : List ℕ) (spells : Spells path frames b) → length b ≤ limits.depth → 16 * length b ≤ limits.scalar
+    → ArePermitted limits (path_items path) → SpellsFit limits spells
+Spells-allowed limits _ _ _ (Spells.top ts b tops) deep limit permitted = Tops-allowed limits ts b tops deep limit permitted
+Spells-allowed limits _ _ _ (Spells.inside path frames f annotations k ms n b x w header c spells field annotated is_header inside short within) deep limit permitted =
+    let both = open-permitted limits path (length b) f annotations (length ((b ++ x) ++ w)) k ms permitted in
     let some = Header-pos k n header is_header in
     let few = Annotated-few (length (b ++ x)) annotations (length header + n) w annotated in
     let open_ones = Spells-deep path frames b spells in
@@ -128,8 +133,8 @@ Spells-allowed limits _ _ _ (Spells.inside path frames f annotations k ms n b x 
     let l2 : length (w ++ header) ≡ length w + length header = length-append w header in
     let l3 : length ((b ++ x) ++ (w ++ header)) ≡ length (b ++ x) + length (w ++ header) = length-append (b ++ x) (w ++ header) in
     let l4 : length (((b ++ x) ++ (w ++ header)) ++ c) ≡ length ((b ++ x) ++ (w ++ header)) + length c = length-append ((b ++ x) ++ (w ++ header)) c in (
-      Spells-allowed limits path frames b spells (omega arith) (omega arith),
+      Spells-allowed limits path frames b spells (omega arith) (omega arith) both.0,
       omega arith,
       omega arith,
-      Inside-allowed limits (suc (length frames)) k (length ((b ++ x) ++ (w ++ header))) ms c inside (omega arith) (omega arith),
+      Inside-allowed limits (suc (length frames)) k (length ((b ++ x) ++ (w ++ header))) ms c inside (omega arith) (omega arith) both.1,
     )

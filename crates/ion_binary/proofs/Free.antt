@@ -7,7 +7,9 @@ use Rattle.ion_value.specs.Number.{uint, var_cut, int_negative, int_magnitude, v
 use Rattle.ion_value.specs.Int.{int_of_bytes}
 use Rattle.ion_value.specs.Decimal.{decimal_of_cut, decimal_of_bytes}
 use Rattle.ion_value.specs.Timestamp.{is_fraction, exponent_in, utc_fields, is_date, local_of, moved, offset_minutes, in_local_time, timestamp_in_utc, timestamp_of_fields, timestamp_of_cut, timestamp_of_bytes, fields_cut}
-use Rattle.ion_value.specs.Scalar.{scalar_of_body}
+use lib.Ieee.{Float}
+use Rattle.ion_value.specs.FloatOctets.{float_of_octets}
+use Rattle.ion_value.specs.Scalar.{float_of_body, scalar_of_body}
 use Rattle.ion_meter.specs.Sources.{Cursor}
 use Rattle.ion_binary.specs.Descriptor.{Region, is_at_end, first_octet, octet_at, var_at, var_uint_at, length_at}
 use Rattle.ion_value.proofs.Faults.{Blames, bind_blames, if_blames, Free, fault_free, value-free, in_range-free, years-free}
@@ -78,14 +80,19 @@ timestamp-free : (body : List ℕ) → Blames Free (timestamp_of_bytes body)
 unfolding timestamp_of_bytes
 timestamp-free body = timestamp_cut-free (fields_cut 8 body)
 
+float-free : (o : Option Float) → Blames Free (float_of_body o)
+float-free (Some x) = record { so = tt }
+float-free None = fault_free reason.BadDescriptor refl
+
 pub scalar_of_body-free : (t : ℕ) (body : List ℕ) → Blames Free (scalar_of_body t body)
 unfolding scalar_of_body
 scalar_of_body-free t body =
     if_blames Free (nat_eq t 2) _ _ (value-free _ _ (int-free false body))
     (if_blames Free (nat_eq t 3) _ _ (value-free _ _ (int-free true body))
+    (if_blames Free (nat_eq t 4) _ _ (float-free (float_of_octets body))
     (if_blames Free (nat_eq t 5) _ _ (value-free _ _ (decimal-free body))
     (if_blames Free (nat_eq t 6) _ _ (value-free _ _ (timestamp-free body))
     (if_blames Free (nat_eq t 7) _ _ (record { so = tt })
     (if_blames Free (nat_eq t 8) _ _ (if_blames Free (is_utf8 body) _ _ (record { so = tt }) (fault_free reason.BadText refl))
     (if_blames Free (nat_eq t 9) _ _ (record { so = tt })
-    (if_blames Free (nat_eq t 10) _ _ (record { so = tt }) (fault_free reason.BadDescriptor refl))))))))
+    (if_blames Free (nat_eq t 10) _ _ (record { so = tt }) (fault_free reason.BadDescriptor refl)))))))))

@@ -76,6 +76,7 @@ scalar-stays texts t (value.symbol s) h =
 scalar-stays texts t (value.null type) h = refl
 scalar-stays texts t (value.bool truth) h = refl
 scalar-stays texts t (value.int number) h = refl
+scalar-stays texts t (value.float number) h = refl
 scalar-stays texts t (value.decimal number) h = refl
 scalar-stays texts t (value.timestamp moment) h = refl
 scalar-stays texts t (value.string bytes) h = refl

@@ -6,7 +6,7 @@ use Rattle.std.proofs.lemmas.Grind.{common_steps}
 use Rattle.ion_meter.specs.Sources.{Cursor, cursor, skip}
 use Rattle.ion_meter.specs.Windows.{Incoming, left, lent}
 use Rattle.ion_meter.specs.declared.device.Input.{Ghosts as InputOf}
-use Rattle.ion_meter.specs.declared.limits.Limits.{Limits}
+use Rattle.ion_meter.specs.declared.profile.Rules.{Rules}
 use Rattle.ion_value.specs.declared.ion_type.Kind.{Kind}
 use Rattle.ion_value.specs.declared.ion_type.Kind.TheVariants as kind
 use Rattle.ion_value.specs.Digits.{first_is}
@@ -50,7 +50,7 @@ use Rattle.ion_binary.specs.declared.reader.front.Around.{Around}
 use Rattle.ion_binary.specs.Wrappers.{as_frame, as_frames, innermost}
 use Rattle.ion_binary.proofs.ReaderParts.{innermost-field, innermost-region, inside-member, member_at-field, top-member}
 
-step-top : (limits : Limits) (frames : List Frame) (top here : ℕ) (octets more : List ℕ) → frames ≡ [] → 0 < length octets
+step-top : (limits : Rules) (frames : List Frame) (top here : ℕ) (octets more : List ℕ) → frames ≡ [] → 0 < length octets
     → step limits (record { frames = frames; top = top; cursor = window here octets more }) ≡ step_of (member_at limits frames top (window here octets more))
 step-top limits frames top here [] more e some = absurd (omega (arith, some))
 step-top limits frames top here (b ∷ octets) more e some = top-member limits frames top (window here (b ∷ octets) more) b e refl
@@ -58,13 +58,13 @@ step-top limits frames top here (b ∷ octets) more e some = top-member limits f
 top-frames : (frames : List Frame) → IsInnermost frames None → frames ≡ []
 top-frames _ at_top = refl
 
-step-member : (limits : Limits) (frames : List Frame) (f : Option frame.Frame) (top here : ℕ) (octets more : List ℕ) → IsInnermost frames f → GoesOn f here → 0 < length octets
+step-member : (limits : Rules) (frames : List Frame) (f : Option frame.Frame) (top here : ℕ) (octets more : List ℕ) → IsInnermost frames f → GoesOn f here → 0 < length octets
     → step limits (record { frames = frames; top = top; cursor = window here octets more }) ≡ step_of (member_at limits frames top (window here octets more))
 step-member limits frames None top here octets more inner goes_on some = step-top limits frames top here octets more (top-frames frames inner) some
 step-member limits frames (Some f) top here octets more inner goes_on some = inside-member limits frames f top (window here octets more) inner goes_on
 
 -- a member that is shown is the next step
-pub member_shown : (limits : Limits) (frames : List Frame) (f : Option frame.Frame) (top here at head after : ℕ) (raws : List SymbolAt) (texts : ℕ → Option (List ℕ)) (octets more : List ℕ) (field : Option TextAt) (found : TypedValue)
+pub member_shown : (limits : Rules) (frames : List Frame) (f : Option frame.Frame) (top here at head after : ℕ) (raws : List SymbolAt) (texts : ℕ → Option (List ℕ)) (octets more : List ℕ) (field : Option TextAt) (found : TypedValue)
     → IsInnermost frames f → GoesOn f here → (name : ShowsField texts octets here (innermost f) field at) → ShowsItem limits octets here (region_of (innermost f)) (length frames) at head after raws found
     → step limits (record { frames = frames; top = top; cursor = window here octets more })
     ≡ step_for frames (top_of frames top here) name.raw raws (here + head) found (skip after (window here octets more))
@@ -112,7 +112,7 @@ shows_named texts octets here f id after t struct v has quoted at = record {
 }
 
 -- a field with no wrapper after it
-pub front_bare : (texts : ℕ → Option (List ℕ)) (limits : Limits) (octets : List ℕ) (here : ℕ) (frames : List Frame) (field : Option TextAt) (at : ℕ) → ShowsField texts octets here frames field at
+pub front_bare : (texts : ℕ → Option (List ℕ)) (limits : Rules) (octets : List ℕ) (here : ℕ) (frames : List Frame) (field : Option TextAt) (at : ℕ) → ShowsField texts octets here frames field at
     → ShowsFront texts limits octets here frames (record { field = field; annotation = None; second = None; at = at; head = at; wrapper = None })
 front_bare texts limits octets here frames field at name = record {
   name = name;
@@ -146,7 +146,7 @@ second-quoted texts here t (Some s) None m = absurd m
 second-quoted texts here t (Some s) (Some u) m = m.quoted
 
 -- a wrapper whose one id or two have texts without a dollar sign in front
-pub front_noted : (texts : ℕ → Option (List ℕ)) (limits : Limits) (octets : List ℕ) (here : ℕ) (frames : List Frame) (field : Option TextAt) (at : ℕ) (note : ShownNote) (t : TextAt) (u : Option TextAt)
+pub front_noted : (texts : ℕ → Option (List ℕ)) (limits : Rules) (octets : List ℕ) (here : ℕ) (frames : List Frame) (field : Option TextAt) (at : ℕ) (note : ShownNote) (t : TextAt) (u : Option TextAt)
     → ShowsField texts octets here frames field at → ShowsNote limits octets here (region_of frames) at note → IsNote texts note.id (here + note.from) t → IsSecondNote texts here note.second u
     → ShowsFront texts limits octets here frames (record { field = field; annotation = Some t; second = u; at = at; head = note.inner; wrapper = Some note.end })
 front_noted texts limits octets here frames field at note t u name n first second = record {
@@ -167,7 +167,7 @@ top-innermost _ _ top place at_top = refl
 top-innermost _ _ top place (inside f outer) = refl
 
 -- the step that a member gives that is shown, its octets being passed over
-pub step_shown : {I : Type 0} (device : InputOf I) (limits : Limits) (frames : List Frame) (f : Option frame.Frame) (top after at head : ℕ) (raws : List SymbolAt) (s t : Incoming I) (texts : ℕ → Option (List ℕ)) (field : Option TextAt)
+pub step_shown : {I : Type 0} (device : InputOf I) (limits : Rules) (frames : List Frame) (f : Option frame.Frame) (top after at head : ℕ) (raws : List SymbolAt) (s t : Incoming I) (texts : ℕ → Option (List ℕ)) (field : Option TextAt)
     (found : TypedValue) → IsInnermost frames f → GoesOn f s.place → (name : ShowsField texts (lent s) s.place (innermost f) field at)
     → ShowsItem limits (lent s) s.place (region_of (innermost f)) (length frames) at head after raws found → IsPassed s t after
     → step limits (record { frames = frames; top = top; cursor = cursor device s })
@@ -192,7 +192,7 @@ pub kinds_of-push : (frames : List frame.Frame) (f : frame.Frame) → kinds_of (
 kinds_of-push frames f = ap (map (λ x. x.kind)) (reverse-push frames f)
 
 -- the reading after a step
-pub to_come-gives : {I : Type 0} (device : InputOf I) (limits : Limits) (frames then : List frame.Frame) (top top_then : ℕ) (s t : Incoming I) (item : PlacedItem)
+pub to_come-gives : {I : Type 0} (device : InputOf I) (limits : Rules) (frames then : List frame.Frame) (top top_then : ℕ) (s t : Incoming I) (item : PlacedItem)
     → step limits (state_of device frames top s) ≡ Gives item (state_of device then top_then t) → to_come device limits frames top s ≡ More item (to_come device limits then top_then t)
 to_come-gives device limits frames then top top_then s t item e =
     reading_by-gives (step limits) size (step-shrinks limits) (state_of device frames top s) (state_of device then top_then t) item e
@@ -203,6 +203,7 @@ named-range : (f : SymbolAt → SymbolAt) (place : ℕ) (v : Scalar Symbol) → 
 named-range f place (value.null t) h = tt
 named-range f place (value.bool t) h = tt
 named-range f place (value.int n) h = h
+named-range f place (value.float n) h = h
 named-range f place (value.decimal n) h = h
 named-range f place (value.timestamp n) h = h
 named-range f place (value.symbol n) h = tt

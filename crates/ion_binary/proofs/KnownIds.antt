@@ -145,6 +145,7 @@ scalar_octets-same t u (value.symbol s) e h = ap (λ n. scalar_octets (λ x. n) 
 scalar_octets-same t u (value.null type) e h = refl
 scalar_octets-same t u (value.bool truth) e h = refl
 scalar_octets-same t u (value.int number) e h = refl
+scalar_octets-same t u (value.float number) e h = refl
 scalar_octets-same t u (value.decimal number) e h = refl
 scalar_octets-same t u (value.timestamp moment) e h = refl
 scalar_octets-same t u (value.string bytes) e h = refl

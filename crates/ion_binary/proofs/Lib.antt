@@ -22,6 +22,7 @@ pub mod Sound
 mod Spelled
 mod SpelledParts
 mod SpelledMembers
+mod Permitted
 mod Fitting
 mod Complete
 mod WritingRows

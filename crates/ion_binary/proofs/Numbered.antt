@@ -360,6 +360,7 @@ users-scalar : (v : Scalar SymbolAt) → users (scalar_symbols v) ≡ scalar_sym
 users-scalar (value.null type) = refl
 users-scalar (value.bool truth) = refl
 users-scalar (value.int number) = refl
+users-scalar (value.float number) = refl
 users-scalar (value.decimal number) = refl
 users-scalar (value.timestamp moment) = refl
 users-scalar (value.symbol name) = refl

@@ -1,10 +1,10 @@
 -- Where a stream passes a limit, its reading stops at one.
-use Rattle.std.proofs.Common.{◌≡◌, ℕ, zero, suc, ◌+◌, ◌*◌, ◌<◌, ◌≤◌, ◌⊎◌, inl, inr, true, false, ◌&&◌, leb, ltb, eqb, List, [], ◌∷◌, ◌++◌, length, drop, Option, Some, None, Ok, Err, refl, sym, ap, subst, ◌∙◌, append_assoc, arith}
+use Rattle.std.proofs.Common.{◌≡◌, ℕ, zero, suc, ◌+◌, ◌*◌, ◌<◌, ◌≤◌, ◌⊎◌, inl, inr, true, false, not, ◌&&◌, leb, ltb, eqb, List, [], ◌∷◌, ◌++◌, length, drop, Option, Some, None, Ok, Err, refl, sym, ap, subst, ◌∙◌, append_assoc, arith}
 use Rattle.std.proofs.lemmas.Bool.{leb-true, leb-false, ltb-false, lt-leb}
 use Rattle.std.proofs.lemmas.List.{length-append, drop_at}
 use Rattle.ion_meter.specs.declared.fault.Reason.{Reason}
-use Rattle.ion_meter.specs.declared.fault.Reason.TheVariants.{BadDescriptor, BadAnnotation, DepthLimit, ScalarLimit, AnnotationLimit}
-use Rattle.ion_meter.specs.declared.limits.Limits.{Limits}
+use Rattle.ion_meter.specs.declared.fault.Reason.TheVariants.{BadDescriptor, BadAnnotation, Float, DepthLimit, ScalarLimit, AnnotationLimit}
+use Rattle.ion_meter.specs.declared.profile.Rules.{Rules}
 use Rattle.ion_meter.specs.Sources.{Cursor}
 use Rattle.ion_value.specs.declared.ion_type.Kind.{Kind}
 use Rattle.ion_value.specs.declared.ion_type.Kind.TheVariants as kind
@@ -26,7 +26,8 @@ use Rattle.ion_binary.specs.Reading.{Around, TypedValue, fits, body_at, scalar_a
 use Rattle.ion_binary.proofs.Complete.{Shrinking, Reads, read_from, reading-read_from, Spells-reads, streams}
 use Rattle.ion_binary.proofs.Fitting.{Spells-allowed}
 use Rattle.ion_binary.proofs.Narrow.{StepCut, narrow, step-Cut}
-use Rattle.ion_binary.proofs.Refused.{wider, cut-ends}
+use Rattle.ion_value.proofs.Permitted.{all-permitted, permitted-alike}
+use Rattle.ion_binary.proofs.Refused.{wider, wider-within, cut-ends}
 use Rattle.ion_binary.proofs.Spelled.{cursor_at, VarUInt-pos, Descriptor-headed}
 use Rattle.ion_binary.proofs.SpelledMembers.{state, wrapper_shape-long, kept-long}
 use Rattle.ion_binary.proofs.SpelledParts.{shape_of-parts}
@@ -88,20 +89,12 @@ same-length a b x y same e = sym (drop_at a x (length a) refl) ∙ ap (drop (len
 
 -- ---- after a descriptor octet
 
-body_code : (t : ℕ) → IsBodyTypeCode t → (2 ≤ t) × (t ≤ 10)
-body_code t (inl e) = (omega (arith, e), omega (arith, e))
-body_code t (inr (inl e)) = (omega (arith, e), omega (arith, e))
-body_code t (inr (inr (inl e))) = (omega (arith, e), omega (arith, e))
-body_code t (inr (inr (inr (inl e)))) = (omega (arith, e), omega (arith, e))
-body_code t (inr (inr (inr (inr (inl e))))) = (omega (arith, e), omega (arith, e))
-body_code t (inr (inr (inr (inr (inr h))))) = (omega (arith, h.0), omega (arith, h.1))
-
 container_code : (k : Kind) → (11 ≤ type_code k) × (type_code k < 14)
 container_code kind.List = (omega arith, omega arith)
 container_code kind.Sexp = (omega arith, omega arith)
 container_code kind.Struct = (omega arith, omega arith)
 
-module _ (limits : Limits) where
+module _ (limits : Rules) where
   begin_at-deep : (a : Around) (k : Kind) (n : ℕ) (c : Cursor) (y : TypedValue × Cursor) → limits.depth ≤ a.depth → begin_at limits a k n c ≡ Ok y → ⊥
   unfolding begin_at
   begin_at-deep a k n c y full h =
@@ -125,7 +118,7 @@ module _ (limits : Limits) where
   container-refused a b t code c y (Shape.bool true) is e small low high full h = omega (arith, is, e, low)
   container-refused a b t code c y (Shape.nop_pad other) is e small low high full h = omega (arith, is.0, is.1, e, low)
   container-refused a b t code c y (Shape.wrapper other) is e small low high full h = not_ok _ _ h
-  container-refused a b t code c y (Shape.body u other) is e small low high full h = omega (arith, is.0, is.1, e, low, body_code u is.2)
+  container-refused a b t code c y (Shape.body u other) is e small low high full h = omega (arith, is.0, is.1, e, low, is.2.0, is.2.1)
   container-refused a b t code c y (Shape.container k other) is e small low high full h =
       let n = bind_ok (length_at other a.region c) _ y h in
       begin_at-deep a k n.0.0 n.0.1 y full n.2
@@ -134,37 +127,43 @@ module _ (limits : Limits) where
       let m = passed (eqb n.0.0 0) BadDescriptor _ y n.2 in
       begin_at-deep a kind.Struct n.0.0 n.0.1 y full m.1
   container-refused a b t code c y Shape.marker is e small low high full h = omega (arith, is, e, small, high)
-  container-refused a b t code c y Shape.float is e small low high full h = not_ok _ _ h
+  container-refused a b t code c y (Shape.float other) is e small low high full h = omega (arith, is.0, is.1, e, low)
   container-refused a b t code c y Shape.illegal is e small low high full h = not_ok _ _ h
+
+  long-refused : (a : Around) (b t n code : ℕ) (octets rest : List ℕ) (c : Cursor) (y : TypedValue × Cursor) (u other : ℕ) → b ≡ 16 * u + other → other < 15 → b ≡ 16 * t + code → code < 15
+      → Descriptor t n (b ∷ octets) → c.rest ≡ octets ++ rest → limits.scalar < n → scalar_at limits a u other c ≡ Ok y → ⊥
+  unfolding scalar_at
+  long-refused a b t n code octets rest c y u other is lt e small d here long h =
+      let m = bind_ok (length_at other a.region c) _ y h in
+      let len = length_at-taken u other a.region c m.0 lt m.1 in
+      let same : t ≡ u = omega (arith, e, small, is, lt) in
+      let tail : len.octets ++ m.0.1.rest ≡ octets ++ rest = sym len.took.parts ∙ here in
+      let all : ((16 * u + other) ∷ len.octets) ++ m.0.1.rest ≡ (b ∷ octets) ++ rest =
+      ap (λ (l : List ℕ). (16 * u + other) ∷ l) tail ∙ ap (λ (i : ℕ). i ∷ (octets ++ rest)) (sym is)
+      in
+      let number = same-descriptor u m.0.0 n ((16 * u + other) ∷ len.octets) (b ∷ octets) m.0.1.rest rest len.spells (subst (λ (t : ℕ). Descriptor t n (b ∷ octets)) same d) all in
+      body_at-long a u m.0.0 m.0.1 y (omega (arith, long, number.0)) m.2
 
   -- and no scalar that announces a longer body
   body-refused : (a : Around) (b t n code : ℕ) (octets rest : List ℕ) (c : Cursor) (y : TypedValue × Cursor) (s : Shape) → IsShape b s → b ≡ 16 * t + code → code < 15 → IsBodyTypeCode t
       → Descriptor t n (b ∷ octets) → c.rest ≡ octets ++ rest → limits.scalar < n → read_by_descriptor limits a s c ≡ Ok y → ⊥
   unfolding read_by_descriptor scalar_at
   body-refused a b t n code octets rest c y (Shape.null u) is e small code_is d here long h = omega (arith, is.2, e, small)
-  body-refused a b t n code octets rest c y (Shape.bool false) is e small code_is d here long h = omega (arith, is, e, body_code t code_is)
-  body-refused a b t n code octets rest c y (Shape.bool true) is e small code_is d here long h = omega (arith, is, e, body_code t code_is)
-  body-refused a b t n code octets rest c y (Shape.nop_pad other) is e small code_is d here long h = omega (arith, is.0, is.1, e, body_code t code_is)
+  body-refused a b t n code octets rest c y (Shape.bool false) is e small code_is d here long h = omega (arith, is, e, code_is.0, code_is.1)
+  body-refused a b t n code octets rest c y (Shape.bool true) is e small code_is d here long h = omega (arith, is, e, code_is.0, code_is.1)
+  body-refused a b t n code octets rest c y (Shape.nop_pad other) is e small code_is d here long h = omega (arith, is.0, is.1, e, code_is.0, code_is.1)
   body-refused a b t n code octets rest c y (Shape.wrapper other) is e small code_is d here long h = not_ok _ _ h
-  body-refused a b t n code octets rest c y (Shape.body u other) is e small code_is d here long h =
-      let m = bind_ok (length_at other a.region c) _ y h in
-      let len = length_at-taken u other a.region c m.0 is.1 m.1 in
-      let same : t ≡ u = omega (arith, e, small, is.0, is.1) in
-      let tail : len.octets ++ m.0.1.rest ≡ octets ++ rest = sym len.took.parts ∙ here in
-      let all : ((16 * u + other) ∷ len.octets) ++ m.0.1.rest ≡ (b ∷ octets) ++ rest =
-      ap (λ (l : List ℕ). (16 * u + other) ∷ l) tail ∙ ap (λ (i : ℕ). i ∷ (octets ++ rest)) (sym is.0)
-      in
-      let number = same-descriptor u m.0.0 n ((16 * u + other) ∷ len.octets) (b ∷ octets) m.0.1.rest rest len.spells (subst (λ (t : ℕ). Descriptor t n (b ∷ octets)) same d) all in
-      body_at-long a u m.0.0 m.0.1 y (omega (arith, long, number.0)) m.2
+  body-refused a b t n code octets rest c y (Shape.body u other) is e small code_is d here long h = long-refused a b t n code octets rest c y u other is.0 is.1 e small d here long h
   body-refused a b t n code octets rest c y (Shape.container k other) is e small code_is d here long h =
-      omega (arith, is.0, e, small, body_code t code_is, container_code k)
-  body-refused a b t n code octets rest c y Shape.sorted is e small code_is d here long h = omega (arith, is, e, small, body_code t code_is)
-  body-refused a b t n code octets rest c y Shape.marker is e small code_is d here long h = omega (arith, is, e, small, body_code t code_is)
-  body-refused a b t n code octets rest c y Shape.float is e small code_is d here long h = not_ok _ _ h
+      omega (arith, is.0, e, small, code_is.0, code_is.1, container_code k)
+  body-refused a b t n code octets rest c y Shape.sorted is e small code_is d here long h = omega (arith, is, e, small, code_is.0, code_is.1)
+  body-refused a b t n code octets rest c y Shape.marker is e small code_is d here long h = omega (arith, is, e, small, code_is.0, code_is.1)
+  body-refused a b t n code octets rest c y (Shape.float other) is e small code_is d here long h =
+      long-refused a b t n code octets rest c y 4 other is.0 is.1 e small d here long (passed (not limits.floats) Float _ y h).1
   body-refused a b t n code octets rest c y Shape.illegal is e small code_is d here long h = not_ok _ _ h
 
 -- octets after whose descriptor octet nothing is found, where so many containers are open
-record Refused (limits : Limits) (depth : ℕ) (x : List ℕ) : Type 0 where
+record Refused (limits : Rules) (depth : ℕ) (x : List ℕ) : Type 0 where
   first : ℕ
   more : List ℕ
   is : x ≡ first ∷ more
@@ -172,7 +171,7 @@ record Refused (limits : Limits) (depth : ℕ) (x : List ℕ) : Type 0 where
   none : (a : Around) (c : Cursor) (rest : List ℕ) (y : TypedValue × Cursor) → a.depth ≡ depth → c.rest ≡ more ++ rest → typed_value_at limits a first c ≡ Ok y → ⊥
 
 -- the header of one container more, and a descriptor that announces a longer body
-header-refused : (limits : Limits) (depth : ℕ) (k : Kind) (n : ℕ) (header : List ℕ) → Header k n header → limits.depth ≤ depth → Refused limits depth header
+header-refused : (limits : Rules) (depth : ℕ) (k : Kind) (n : ℕ) (header : List ℕ) → Header k n header → limits.depth ≤ depth → Refused limits depth header
 unfolding typed_value_at
 header-refused limits depth _ _ _ (Header.plain k n head d other) full =
     let headed = Descriptor-headed (type_code k) n head d in
@@ -196,7 +195,7 @@ header-refused limits depth _ _ _ (Header.sorted n len v some) full = record {
       container-refused limits a 209 13 1 c y (shape_of 209) (shape_of-is 209) refl (omega arith) (omega arith) (omega arith) (omega (arith, full, deep)) r.1;
 }
 
-descriptor-refused : (limits : Limits) (depth t n : ℕ) (head : List ℕ) → Descriptor t n head → IsBodyTypeCode t → limits.scalar < n → Refused limits depth head
+descriptor-refused : (limits : Rules) (depth t n : ℕ) (head : List ℕ) → Descriptor t n head → IsBodyTypeCode t → limits.scalar < n → Refused limits depth head
 unfolding typed_value_at
 descriptor-refused limits depth t n head d code_is long =
     let headed = Descriptor-headed t n head d in
@@ -205,7 +204,7 @@ descriptor-refused limits depth t n head d code_is long =
       first = first;
       more = headed.more;
       is = headed.is;
-      lower = omega (arith, headed.small, body_code t code_is);
+      lower = omega (arith, headed.small, code_is.0, code_is.1);
       none = λ a c rest y deep here h.
           let r = passed (a.wrapped && is_unwrappable first) BadAnnotation _ y h in
           body-refused limits a first t n headed.length_code headed.more rest c y (shape_of first) (shape_of-is first) refl headed.small code_is
@@ -215,7 +214,7 @@ descriptor-refused limits depth t n head d code_is long =
 -- ---- ids
 
 -- no ids are read of which one more is too many
-ids-refused : (limits : Limits) (most end count q : ℕ) (annotations : List SymbolAt) (ids : List ℕ) (id : ℕ) (octets rest : List ℕ) (c : Cursor) (y : List SymbolAt × Cursor)
+ids-refused : (limits : Rules) (most end count q : ℕ) (annotations : List SymbolAt) (ids : List ℕ) (id : ℕ) (octets rest : List ℕ) (c : Cursor) (y : List SymbolAt × Cursor)
     → Ids q annotations ids → VarUInt id octets → c.rest ≡ ids ++ (octets ++ rest) → c.place + length ids + length octets ≤ end → end ≤ c.place + most
     → limits.scalar < 16 * (count + length annotations + 1) → ids_at most limits end count c ≡ Ok y → ⊥
 unfolding ids_at
@@ -248,7 +247,7 @@ ids-refused limits (suc most) end count q annotations ids id octets rest c y bef
 
 -- ---- values
 
-module _ (limits : Limits) (frames : List Frame) where
+module _ (limits : Rules) (frames : List Frame) where
   -- after a wrapper's lengths stand its ids
   wrapper-after : (code whole n : ℕ) (c : Cursor) (w : Wrapped × Cursor) (head len tail : List ℕ) → code < 15 → Descriptor 14 whole head → VarUInt n len
       → (16 * 14 + code) ∷ c.rest ≡ head ++ (len ++ tail) → wrapper_at (region_of frames) code c ≡ Ok w → (w.1.rest ≡ tail) × (w.0.ids ≡ w.1.place + n)
@@ -364,7 +363,7 @@ fault-stops : (r : Placed (Step State)) → ((y : Step State) → r ≡ Ok y →
 fault-stops (Ok y) refuses = absurd (refuses y refl)
 fault-stops (Err fault) refuses = (fault.0, fault.1, refl)
 
-step_in-stops : (limits : Limits) (frames : List Frame) (top : ℕ) (c : Cursor) → IsBefore frames c.place → 0 < length c.rest
+step_in-stops : (limits : Rules) (frames : List Frame) (top : ℕ) (c : Cursor) → IsBefore frames c.place → 0 < length c.rest
     → ((y : Step State) → member_at limits frames top c ≡ Ok y → ⊥) → IsStop (step_in limits frames top c)
 step_in-stops limits [] top c inside some refuses = by_rest c.rest some
   where
@@ -376,7 +375,7 @@ step_in-stops limits (f ∷ frames) top c inside some refuses =
     (stops.0, stops.1, rw (lt-leb f.end c.place inside) stops.2)
 
 -- a step stops where some octets stand next, after the field, and no value is read there
-next-stops : (limits : Limits) (s : State) (top place : ℕ) (x : List ℕ) → 0 < length x → (n : StandNext s place x)
+next-stops : (limits : Rules) (s : State) (top place : ℕ) (x : List ℕ) → 0 < length x → (n : StandNext s place x)
     → ((top : ℕ) (f : Option SymbolAt) (d : Cursor) (y : Step State) → d.rest ≡ x ++ n.rest → value_at limits s.frames top f d ≡ Ok y → ⊥)
     → IsStop (step limits (state s.frames top s.cursor))
 unfolding step
@@ -387,13 +386,13 @@ next-stops limits s top place x some n refuses =
     step_in-stops limits s.frames top s.cursor n.inside (omega (arith, long, some)) (λ y h.
     member-refused limits s.frames top s.cursor n.field n.name (x ++ n.rest) y n.field_is n.split (λ top f d here. refuses top f d y here) h)
 
-begin-stops : (limits : Limits) (s : State) (top place : ℕ) (x : List ℕ) → BeginNext s place x → Refused limits (length s.frames) x → IsStop (step limits (state s.frames top s.cursor))
+begin-stops : (limits : Rules) (s : State) (top place : ℕ) (x : List ℕ) → BeginNext s place x → Refused limits (length s.frames) x → IsStop (step limits (state s.frames top s.cursor))
 begin-stops limits s top place x b refuses =
     let some : 0 < length (b.wrapper ++ x) = omega (arith, length-append b.wrapper x, ap length refuses.is) in
     next-stops limits s top b.first (b.wrapper ++ x) some b.stand (λ top f d y here.
     annotated-refused limits s.frames top b.first f b.annotations b.n d b.wrapper x b.stand.rest y b.before refuses (here ∙ append_assoc b.wrapper x b.stand.rest))
 
-ids-stop : (limits : Limits) (s : State) (top place : ℕ) → PassesLimit limits s place → IsStop (step limits (state s.frames top s.cursor))
+ids-stop : (limits : Rules) (s : State) (top place : ℕ) → PassesLimit limits s place → IsStop (step limits (state s.frames top s.cursor))
 ids-stop limits s top place p =
     let all : List ℕ = ((p.head ++ p.len) ++ p.ids) ++ p.octets in
     let tail : List ℕ = p.ids ++ (p.octets ++ p.stands.rest) in
@@ -410,7 +409,7 @@ ids-stop limits s top place p =
     (omega (arith, end, p.in_ids)) (omega arith) (omega (arith, p.above)) o.1) e))
 
 -- so a step stops where a limit is passed
-passed-stops : (limits : Limits) (s : State) (top place : ℕ) (reason : Reason) → Passes limits s place reason → IsStop (step limits (state s.frames top s.cursor))
+passed-stops : (limits : Rules) (s : State) (top place : ℕ) (reason : Reason) → Passes limits s place reason → IsStop (step limits (state s.frames top s.cursor))
 passed-stops limits s top place _ (Passes.container k n header b h full) = begin-stops limits s top place header b (header-refused limits (length s.frames) k n header h full)
 passed-stops limits s top place _ (Passes.body t n head b d is long) = begin-stops limits s top place head b (descriptor-refused limits (length s.frames) t n head d is long)
 passed-stops limits s top place _ (Passes.annotation p) = ids-stop limits s top place p
@@ -420,12 +419,12 @@ passed-stops limits s top place _ (Passes.annotation p) = ids-stop limits s top 
 abbrev EndsAtFault : Reading → Type 0
 EndsAtFault r = (reason : Reason) × (place : ℕ) × (ending_of r ≡ Stopped reason place)
 
--- under narrower limits a step is the same, or it stops
-cut-step : (x y : Step State) → StepCut x y → (x ≡ y) ⊎ IsStop x
-cut-step _ _ (StepCut.same_step s) = inl refl
-cut-step _ _ (StepCut.limit_step reason place s is) = inr (reason, place, refl)
+-- under narrower rules a step is the same, or it stops
+cut-step : (limits wide : Rules) (x y : Step State) → StepCut limits wide x y → (x ≡ y) ⊎ IsStop x
+cut-step limits wide _ _ (StepCut.same_step s) = inl refl
+cut-step limits wide _ _ (StepCut.limit_step reason place s is) = inr (reason, place, refl)
 
-module _ (shrinks : Shrinking) (limits wide : Limits) (within : AreWithin limits wide) where
+module _ (shrinks : Shrinking) (limits wide : Rules) (within : AreWithin limits wide) where
   stop-ends : (s : State) → IsStop (step limits s) → EndsAtFault (read_from limits s)
   unfolding read_from
   stop-ends s stop = (stop.0, stop.1, ap ending_of (reading_by-step (step limits) size (shrinks limits) s ∙ ap (next_reading (reading_by (step limits) size)) stop.2))
@@ -435,7 +434,7 @@ module _ (shrinks : Shrinking) (limits wide : Limits) (within : AreWithin limits
   unfolding read_from
   reads-end _ t _ (Reads.nothing s) stop = stop-ends s stop
   reads-end _ t _ (Reads.gives s u v item items e more) stop =
-      elim (cut-step _ _ (step-Cut limits wide within s)) [
+      elim (cut-step limits wide _ _ (step-Cut limits wide within s)) [
         | inl same ↦ (
             let rest = reads-end u t items more stop in
             let one : read_from limits s ≡ More item (read_from limits u) = reading_by-step (step limits) size (shrinks limits) s ∙ ap (next_reading (reading_by (step limits) size)) (same ∙ e) in
@@ -443,7 +442,7 @@ module _ (shrinks : Shrinking) (limits wide : Limits) (within : AreWithin limits
         | inr now ↦ stop-ends s now
       ]
   reads-end _ t _ (Reads.goes_on s u v items e more) stop =
-      elim (cut-step _ _ (step-Cut limits wide within s)) [
+      elim (cut-step limits wide _ _ (step-Cut limits wide within s)) [
         | inl same ↦ (
             let rest = reads-end u t items more stop in
             let one : read_from limits s ≡ read_from limits u = reading_by-step (step limits) size (shrinks limits) s ∙ ap (next_reading (reading_by (step limits) size)) (same ∙ e) in
@@ -452,15 +451,15 @@ module _ (shrinks : Shrinking) (limits wide : Limits) (within : AreWithin limits
       ]
 
 -- where a limit is passed after a path, a reading stops
-passed-ends : Bodies → Shrinking → (limits : Limits) (bytes : List ℕ) (path : Path SymbolAt ℕ) (s : State) (reason : Reason) (place : ℕ) → At bytes path s
+passed-ends : Bodies → Shrinking → (limits : Rules) (bytes : List ℕ) (path : Path SymbolAt ℕ) (s : State) (reason : Reason) (place : ℕ) → At bytes path s
     → Passes limits s place reason → EndsAtFault (reading limits bytes)
 passed-ends bodies shrinks limits bytes path s reason place at passes =
-    let wide : Limits = wider limits bytes in
-    let within : AreWithin limits wide = record { depth = omega arith; scalar = omega arith } in
+    let wide : Rules = record { depth = limits.depth + length bytes; scalar = limits.scalar + 16 * length bytes; floats = true } in
+    let within : AreWithin limits wide = record { depth = omega arith; scalar = omega arith; floats = λ permitted. refl } in
     let spelled = at.0 in
     let short : length bytes ≡ length spelled.before + length s.cursor.rest = ap length spelled.split ∙ length-append spelled.before s.cursor.rest in
     let there = Spells-reads bodies wide path s.frames spelled.before spelled.spells
-    (Spells-allowed wide path s.frames spelled.before spelled.spells (omega (arith, short)) (omega (arith, short))) s.cursor.rest in
+    (Spells-allowed wide path s.frames spelled.before spelled.spells (omega (arith, short)) (omega (arith, short)) (all-permitted wide refl (path_items path))) s.cursor.rest in
     let stop = passed-stops limits s there.0 place reason passes in
     let here : IsStop (step limits (state s.frames there.0 (cursor_at (length spelled.before) s.cursor.rest))) =
     subst (λ (q : ℕ). IsStop (step limits (state s.frames there.0 (cursor_at q s.cursor.rest)))) spelled.place stop
@@ -472,7 +471,7 @@ passed-ends bodies shrinks limits bytes path s reason place at passes =
     )
 
 -- so what is read to its end passes none
-pub none_passed : Bodies → Shrinking → (limits : Limits) (bytes : List ℕ) → ending_of (reading limits bytes) ≡ Finished → (path : Path SymbolAt ℕ) (s : State) (reason : Reason) (place : ℕ)
+pub none_passed : Bodies → Shrinking → (limits : Rules) (bytes : List ℕ) → ending_of (reading limits bytes) ≡ Finished → (path : Path SymbolAt ℕ) (s : State) (reason : Reason) (place : ℕ)
     → At bytes path s → Passes limits s place reason → ⊥
 none_passed bodies shrinks limits bytes finished path s reason place at passes =
     let ends = passed-ends bodies shrinks limits bytes path s reason place at passes in
@@ -481,13 +480,13 @@ none_passed bodies shrinks limits bytes finished path s reason place at passes =
 
 -- and where a stream passes one, its reading stops at one
 pub passed_limits : Bodies → Shrinking → PassedLimitsStop
-passed_limits bodies shrinks limits bytes tops path s reason place stream at passes =
-    let wide : Limits = wider limits bytes in
-    elim (narrow limits wide bytes (record { depth = omega arith; scalar = omega arith })) [
+passed_limits bodies shrinks limits bytes tops path s reason place stream permitted at passes =
+    let wide : Rules = wider limits bytes in
+    elim (narrow limits wide bytes (wider-within limits bytes)) [
       | inl same ↦ (
           let finished : ending_of (reading limits bytes) ≡ Finished =
-          ap ending_of (same ∙ streams bodies shrinks wide bytes tops (omega arith, omega arith) stream.spells) ∙ ending_of-items_then (top_items tops) Finished
+          ap ending_of (same ∙ streams bodies shrinks wide bytes tops (omega arith, omega arith) stream.spells (permitted-alike limits wide refl (top_items tops) permitted)) ∙ ending_of-items_then (top_items tops) Finished
           in
           absurd (none_passed bodies shrinks limits bytes finished path s reason place at passes))
-      | inr cut ↦ (let ends = cut-ends _ _ cut in (ends.0, ends.1, ends.3, ends.2))
+      | inr cut ↦ (let ends = cut-ends limits wide refl _ _ cut in (ends.0, ends.1, ends.3, ends.2))
     ]

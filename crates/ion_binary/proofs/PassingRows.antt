@@ -1,7 +1,7 @@
 -- Worked rows: streams that pass no limit at any place, though some of their octets would pass one if a value began with them.
-use Rattle.std.proofs.Common.{◌≡◌, ℕ, List, [], ◌∷◌, refl}
+use Rattle.std.proofs.Common.{false, ◌≡◌, ℕ, List, [], ◌∷◌, refl}
 use Rattle.ion_meter.specs.declared.fault.Reason.{Reason}
-use Rattle.ion_meter.specs.declared.limits.Limits.{Limits}
+use Rattle.ion_meter.specs.declared.profile.Rules.{Rules}
 use Rattle.ion_value.specs.Value.{SymbolAt}
 use Rattle.ion_value.specs.Path.{Path}
 use Rattle.ion_value.specs.Reading.{Finished}
@@ -15,8 +15,8 @@ use Rattle.ion_binary.proofs.Rows.{read}
 use Rattle.ion_binary.proofs.Termination.{step-shrinks}
 
 -- one open container, one annotation, and sixteen octets
-abbrev narrow : Limits
-narrow = record { depth = 1; scalar = 16; symbols = 1048576; value = 16777216; input = 281474976710656 }
+abbrev narrow : Rules
+narrow = record { depth = 1; scalar = 16; floats = false }
 
 abbrev PassesNothing : List ℕ → Type 0
 PassesNothing bytes = (path : Path SymbolAt ℕ) (s : State) (reason : Reason) (place : ℕ) → At bytes path s → Passes narrow s place reason → ⊥

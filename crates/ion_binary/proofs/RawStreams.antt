@@ -9,6 +9,7 @@ use Rattle.ion_value.specs.Timestamp.{IsTimestamp, timestamp_of_bytes}
 use Rattle.ion_value.specs.Value.{Symbol, SymbolAt, Scalar, Value, Members, Top, version, tree}
 use Rattle.ion_value.specs.Writable.{AreBytes, AreWritable, HasBytes, HasText, IsRaw, IsWritable, MembersHaveBytes, SymbolIsText, ValueHasBytes, field_symbols, members_symbols, scalar_symbols, value_symbols}
 use Rattle.ion_value.proofs.TimestampOctets.{bytes-reading}
+use Rattle.ion_float.proofs.OctetLaws.{octets-IsFloat}
 use Rattle.ion_binary.specs.Grammar.{TimestampBody, Body, Plain, Ids, Field, Wrapper, Annotated, Bin, Inside, Tops}
 use Rattle.ion_binary.specs.Laws.{StreamsAreRaw}
 use Rattle.ion_binary.specs.Positions.{placed_scalar}
@@ -35,6 +36,7 @@ timestamp-raw t b h = subst (λ r. IfOk r IsTimestamp) (TimestampBody-read t b h
 body-raw : (place t : ℕ) (v : Scalar Symbol) (b : List ℕ) → Body t v b → AreBytes b → ScalarRaw (placed_scalar place v)
 body-raw place _ _ _ (Body.positive i b is of range) small = record { range = range; text = tt; bytes = tt; symbols = tt }
 body-raw place _ _ _ (Body.negative i b is of range) small = record { range = range; text = tt; bytes = tt; symbols = tt }
+body-raw place _ _ _ (Body.float x b h) small = record { range = octets-IsFloat x b h; text = tt; bytes = tt; symbols = tt }
 body-raw place _ _ _ (Body.decimal d b h range) small = record { range = range; text = tt; bytes = tt; symbols = tt }
 body-raw place _ _ _ (Body.timestamp t b h) small = record { range = timestamp-raw t b h; text = tt; bytes = tt; symbols = tt }
 body-raw place _ _ _ (Body.symbol b) small = record { range = tt; text = tt; bytes = tt; symbols = (tt, tt) }

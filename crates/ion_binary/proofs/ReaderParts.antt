@@ -7,7 +7,7 @@ use Rattle.ion_meter.specs.Counts.{Counts, Shrinks}
 use Rattle.ion_meter.specs.declared.device.Input.{Ghosts as InputOf}
 use Rattle.ion_meter.specs.declared.fault.Fault.{Fault}
 use Rattle.ion_meter.specs.declared.fault.Fault.TheVariants.{Refused, Memory, ReadFault, WriteFault, InputLimit}
-use Rattle.ion_meter.specs.declared.limits.Limits.{Limits}
+use Rattle.ion_meter.specs.declared.profile.Rules.{Rules}
 use Rattle.ion_value.specs.declared.ion_type.Kind.{Kind}
 use Rattle.ion_value.specs.declared.ion_type.Kind.TheVariants as kind
 use Rattle.ion_value.specs.declared.item.Annotation.{Annotation}
@@ -78,7 +78,7 @@ innermost-top _ _ (inside f outer) e = absurd (cc e)
 pub taken-same : (item : PlacedItem) (after : State) (r : Result StepResult Fault) (s t : Step State) → s ≡ t → TakenGives item after r t → TakenGives item after r s
 taken-same item after r s t e h = subst (λ u. TakenGives item after r u) (sym e) h
 
-pub member_at-refused : (item : PlacedItem) (next : State) (limits : Limits) (frames : List Frame) (top : ℕ) (c after : Cursor) (fault : Fault)
+pub member_at-refused : (item : PlacedItem) (next : State) (limits : Rules) (frames : List Frame) (top : ℕ) (c after : Cursor) (fault : Fault)
     → Answers as_field (Err fault) after c.place (field_at frames c) → TakenGives item next (Err fault) (step_of (member_at limits frames top c))
 unfolding member_at
 member_at-refused item next limits frames top c after (Refused reason at) h =
@@ -88,7 +88,7 @@ member_at-refused item next limits frames top c after ReadFault h = tt
 member_at-refused item next limits frames top c after WriteFault h = tt
 member_at-refused item next limits frames top c after InputLimit h = tt
 
-pub member_at-field : (limits : Limits) (frames : List Frame) (top : ℕ) (c d : Cursor) (f : Option SymbolAt) → field_at frames c ≡ Ok (f, d)
+pub member_at-field : (limits : Rules) (frames : List Frame) (top : ℕ) (c d : Cursor) (f : Option SymbolAt) → field_at frames c ≡ Ok (f, d)
     → member_at limits frames top c ≡ value_at limits frames (top_of frames top c.place) f d
 unfolding member_at
 member_at-field limits frames top c d f e = ap (λ r. part c.place r >>= λ f. value_at limits frames (top_of frames top c.place) f.0 f.1) e
@@ -107,6 +107,7 @@ InRange-placed : (place : ℕ) (s : Scalar Symbol) → InRange s → InRange (pl
 InRange-placed place (value.null t) h = tt
 InRange-placed place (value.bool t) h = tt
 InRange-placed place (value.int n) h = h
+InRange-placed place (value.float n) h = h
 InRange-placed place (value.decimal n) h = h
 InRange-placed place (value.timestamp n) h = h
 InRange-placed place (value.symbol n) h = tt
@@ -118,7 +119,7 @@ field-some : (f : Option field.Field) → is_some (as_field f) ≡ is_some f
 field-some None = refl
 field-some (Some f) = refl
 
-pub taken-fits : (limits : Limits) (x : typed.TypedValue) (old new : List frame.Frame) (w : ItemKind) (r : Result StepResult Fault) (text : List ℕ) (scalar : Body) (annotations : List Annotation) (f : Option field.Field) (place top : ℕ)
+pub taken-fits : (limits : Rules) (x : typed.TypedValue) (old new : List frame.Frame) (w : ItemKind) (r : Result StepResult Fault) (text : List ℕ) (scalar : Body) (annotations : List Annotation) (f : Option field.Field) (place top : ℕ)
     (outer : Option frame.Frame)
     → IsInnermost (as_frames old) outer → is_some f ≡ in_struct (map (λ x. x.kind) (innermost outer)) → TakesAs x old new w r
     → (x ≡ finds.Scalar → InRange (as_scalar text scalar)) → ((k : Kind) (end : ℕ) → x ≡ finds.Container k end → length old < limits.depth)
@@ -142,12 +143,12 @@ pub none-left : (bytes : List ℕ) → slice_get bytes 0 ≡ None → bytes ≡ 
 none-left [] none = refl
 none-left (b ∷ bytes) none = absurd (cc none)
 
-pub top-ends : (limits : Limits) (frames : List Frame) (top : ℕ) (c : Cursor) → frames ≡ [] → slice_get c.rest 0 ≡ None → step limits (record { frames = frames; top = top; cursor = c }) ≡ Ends
+pub top-ends : (limits : Rules) (frames : List Frame) (top : ℕ) (c : Cursor) → frames ≡ [] → slice_get c.rest 0 ≡ None → step limits (record { frames = frames; top = top; cursor = c }) ≡ Ends
 unfolding step
 top-ends limits [] top c e none = ap (top_step limits top c) (none-left c.rest none)
 top-ends limits (f ∷ frames) top c e none = absurd (cc e)
 
-pub top-member : (limits : Limits) (frames : List Frame) (top : ℕ) (c : Cursor) (b : ℕ) → frames ≡ [] → slice_get c.rest 0 ≡ Some b
+pub top-member : (limits : Rules) (frames : List Frame) (top : ℕ) (c : Cursor) (b : ℕ) → frames ≡ [] → slice_get c.rest 0 ≡ Some b
     → step limits (record { frames = frames; top = top; cursor = c }) ≡ step_of (member_at limits frames top c)
 unfolding step
 top-member limits [] top c b e some = one c.rest some
@@ -159,12 +160,12 @@ top-member limits (f ∷ frames) top c b e some = absurd (cc e)
 
 -- ---- in a container
 
-pub inside-ends : (limits : Limits) (frames : List Frame) (f : frame.Frame) (top : ℕ) (c : Cursor) → IsInnermost frames (Some f) → f.end ≤ c.place
+pub inside-ends : (limits : Rules) (frames : List Frame) (f : frame.Frame) (top : ℕ) (c : Cursor) → IsInnermost frames (Some f) → f.end ≤ c.place
     → step limits (record { frames = frames; top = top; cursor = c }) ≡ Gives (placed_item top None [] c.place value.end) (record { frames = drop 1 frames; top = top; cursor = c })
 unfolding step
 inside-ends limits _ _ top c (inside f outer) h = let e : leb f.end c.place ≡ true = le-leb f.end c.place h in rw e refl
 
-pub inside-member : (limits : Limits) (frames : List Frame) (f : frame.Frame) (top : ℕ) (c : Cursor) → IsInnermost frames (Some f) → c.place < f.end
+pub inside-member : (limits : Rules) (frames : List Frame) (f : frame.Frame) (top : ℕ) (c : Cursor) → IsInnermost frames (Some f) → c.place < f.end
     → step limits (record { frames = frames; top = top; cursor = c }) ≡ step_of (member_at limits frames top c)
 unfolding step
 inside-member limits _ _ top c (inside f outer) h = let e : leb f.end c.place ≡ false = lt-leb f.end c.place h in rw e refl

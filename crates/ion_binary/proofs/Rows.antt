@@ -1,9 +1,10 @@
 -- Worked rows of the reading, by computing.
 use Rattle.std.specs.Prelude.{◌≡◌, refl, ℕ, pos, negsuc, List, [], ◌∷◌, Option, Some, None, true, false}
 use Rattle.std.specs.Str.{is_utf8, chars}
+use lib.Ieee.{fin, inf, of_bits}
 use lib.Utf8.{encode}
 use Rattle.ion_meter.specs.declared.fault.Reason.{Reason}
-use Rattle.ion_meter.specs.declared.limits.Limits.{Limits}
+use Rattle.ion_meter.specs.declared.profile.Rules.{Rules}
 use Rattle.ion_value.specs.declared.ion_type.IonType.TheVariants as type
 use Rattle.ion_value.specs.declared.ion_type.Kind.TheVariants as kind
 use Rattle.ion_value.specs.declared.timestamp.Precision.TheVariants.{Day, Second, Fraction}
@@ -19,19 +20,19 @@ use Rattle.ion_binary.specs.Descriptor.{octet_at, var_at, var_uint_at, length_at
 use Rattle.ion_binary.specs.Positions.{symbol_id}
 use Rattle.ion_binary.specs.Reading.{marker_at, bare_at, nop_pad_at, body_at, scalar_at, begin_at, container_at, sorted_at, read_by_descriptor, typed_value_at, wrapper_at, ids_at, placed_item, plain_at, inner_at, annotated_at, value_at, member_at, step, reading}
 
-abbrev usual : Limits
-usual = record { depth = 64; scalar = 1048576; symbols = 1048576; value = 16777216; input = 281474976710656 }
+abbrev usual : Rules
+usual = record { depth = 64; scalar = 1048576; floats = false }
 
 -- one open container, and two octets
-abbrev shallow : Limits
-shallow = record { depth = 1; scalar = 2; symbols = 1048576; value = 16777216; input = 281474976710656 }
+abbrev shallow : Rules
+shallow = record { depth = 1; scalar = 2; floats = false }
 
-unfoldable pub read : Limits → List ℕ → Reading
+unfoldable pub read : Rules → List ℕ → Reading
 unfolding octet_at var_at var_uint_at length_at shape_of marker_at bare_at nop_pad_at body_at scalar_at begin_at container_at sorted_at read_by_descriptor typed_value_at wrapper_at ids_at plain_at inner_at annotated_at value_at member_at step reading scalar_of_body decimal_of_bytes var_cut fields_cut timestamp_of_bytes local_of is_utf8 chars encode
 read limits bytes = reading limits bytes
 
 -- bytes after a version marker
-abbrev read_after : Limits → List ℕ → Reading
+abbrev read_after : Rules → List ℕ → Reading
 read_after limits bytes = read limits (0xE0 ∷ 1 ∷ 0 ∷ 0xEA ∷ bytes)
 
 -- an item, in the top-level value at a place
@@ -64,6 +65,26 @@ each_kind = refl
 float : read_after usual (0x40 ∷ []) ≡ items_then (first ∷ []) (Stopped Reason.Float 4)
 unfolding read
 float = refl
+
+-- where floats are permitted, none, four or eight octets are one
+abbrev with_floats : Rules
+with_floats = record { depth = 64; scalar = 1048576; floats = true }
+
+float_zero : read_after with_floats (0x40 ∷ []) ≡ items_then (first ∷ at 4 4 None [] (whole (value.float (fin false 0 (pos 0)))) ∷ []) (Finished)
+unfolding read
+float_zero = refl
+
+float_of_four : read_after with_floats (0x44 ∷ 0x7F ∷ 0x80 ∷ 0 ∷ 0 ∷ []) ≡ items_then (first ∷ at 4 4 None [] (whole (value.float (inf false))) ∷ []) (Finished)
+unfolding read of_bits
+float_of_four = refl
+
+float_of_three : read_after with_floats (0x43 ∷ 0 ∷ 0 ∷ 0 ∷ []) ≡ items_then (first ∷ []) (Stopped Reason.BadDescriptor 4)
+unfolding read
+float_of_three = refl
+
+float_cut : read_after with_floats (0x44 ∷ 0 ∷ []) ≡ items_then (first ∷ []) (Stopped Reason.Truncated 4)
+unfolding read
+float_cut = refl
 
 float_null : read_after usual (0x4F ∷ []) ≡ items_then (first ∷ at 4 4 None [] (whole (value.null type.Float)) ∷ []) (Finished)
 unfolding read
@@ -290,8 +311,8 @@ unfolding read
 open_list_cut = refl
 
 -- one open container, and one annotation
-abbrev one_annotation : Limits
-one_annotation = record { depth = 1; scalar = 16; symbols = 1048576; value = 16777216; input = 281474976710656 }
+abbrev one_annotation : Rules
+one_annotation = record { depth = 1; scalar = 16; floats = false }
 
 annotation_at_limit : read_after one_annotation (0xE3 ∷ 0x81 ∷ 0x84 ∷ 0x11 ∷ []) ≡ items_then (first ∷ at 7 4 None (symbol_id 4 6 ∷ []) (whole (value.bool true)) ∷ []) (Finished)
 unfolding read
@@ -304,7 +325,7 @@ second_annotation_past_limit = refl
 -- the declaration of `a`, which is read within two containers and 16 octets, and no fewer of each
 abbrev declared : ℕ → ℕ → Reading
 declared depth scalar =
-    ending_of (read_after (record { depth = depth; scalar = scalar; symbols = 1048576; value = 16777216; input = 281474976710656 })
+    ending_of (read_after (record { depth = depth; scalar = scalar; floats = false })
     (0xEA ∷ 0x81 ∷ 0x83 ∷ 0xD7 ∷ 0x86 ∷ 0x71 ∷ 0x03 ∷ 0x87 ∷ 0xB2 ∷ 0x81 ∷ 0x61 ∷ []))
 
 declaration_within_limits : declared 2 16 ≡ Finished

@@ -1,5 +1,5 @@
 -- What scanners show of octets in a window is what reading gives there.
-use Rattle.std.proofs.Common.{◌≡◌, ℕ, suc, ◌+◌, ◌-◌, ◌^◌, ◌<◌, ◌≤◌, ◌&&◌, ◌==◌, Bool, true, false, List, [], ◌∷◌, ◌++◌, length, take, drop, get_or, inl, inr, Some, None, slice_get, Result, Ok, Err, refl, ap, sym, ◌∙◌, arith, add-one}
+use Rattle.std.proofs.Common.{◌≡◌, ℕ, suc, ◌+◌, ◌-◌, ◌^◌, ◌<◌, ◌≤◌, ◌&&◌, ◌==◌, Bool, true, false, if◌then◌else◌, List, [], ◌∷◌, ◌++◌, length, take, drop, get_or, inl, inr, Some, None, slice_get, Result, Ok, Err, refl, ap, sym, ◌∙◌, arith, add-one}
 use Rattle.std.proofs.lemmas.Bool.{cases_lt, eqb-false, eqb-true, le-leb, lt-leb}
 use Rattle.std.proofs.lemmas.Grind.{common_steps}
 use Rattle.std.proofs.lemmas.Option.{slice_get-get_or}
@@ -11,7 +11,7 @@ use Rattle.ion_meter.specs.declared.fault.Fault.{Fault}
 use Rattle.ion_meter.specs.declared.fault.Fault.TheVariants.{Refused, Memory, ReadFault, WriteFault, InputLimit}
 use Rattle.ion_meter.specs.declared.fault.Reason.{Reason}
 use Rattle.ion_meter.specs.declared.fault.Reason.TheVariants.{BadAnnotation, Overrun, Truncated}
-use Rattle.ion_meter.specs.declared.limits.Limits.{Limits}
+use Rattle.ion_meter.specs.declared.profile.Rules.{Rules}
 use Rattle.ion_meter.specs.Sources.{Cursor, Moves, Stands, cursor, skip}
 use Rattle.ion_meter.specs.Windows.{Incoming, IsPassed, left, lent}
 use Rattle.ion_meter.proofs.Lent.{lent-CanPass, lent-take}
@@ -105,39 +105,43 @@ window-sliced place octets more h =
 
 -- ---- a descriptor and its length
 
--- the length code of a descriptor
-pub length_code-small : (s : Shape) → IsOfDescriptor s → length_code_of s < 15
-length_code-small (Shape.nop_pad length_code) h = h
-length_code-small (Shape.wrapper length_code) h = h
-length_code-small (Shape.body type_code length_code) h = h.1
-length_code-small (Shape.container k length_code) h = h
-length_code-small Shape.sorted h = omega arith
-length_code-small (Shape.null t) h = omega arith
-length_code-small (Shape.bool truth) h = omega arith
-length_code-small Shape.marker h = omega arith
-length_code-small Shape.float h = omega arith
-length_code-small Shape.illegal h = omega arith
+read-small : (on : Bool) (n : ℕ) → n < 15 → (if on then n else 0) < 15
+read-small true n h = h
+read-small false n h = omega arith
 
-pub found_at-no_length : (limits : Limits) (a : Around) (s : Shape) (c : Cursor) (e : Reason) → length_at (length_code_of s) a.region c ≡ Err e → found_at limits a s c ≡ Err e
+-- the length code of a descriptor
+pub length_code-small : (limits : Rules) (s : Shape) → IsOfDescriptor s → length_code_of limits s < 15
+length_code-small limits (Shape.nop_pad length_code) h = h
+length_code-small limits (Shape.wrapper length_code) h = h
+length_code-small limits (Shape.body type_code length_code) h = h.1
+length_code-small limits (Shape.container k length_code) h = h
+length_code-small limits Shape.sorted h = omega arith
+length_code-small limits (Shape.null t) h = omega arith
+length_code-small limits (Shape.bool truth) h = omega arith
+length_code-small limits Shape.marker h = omega arith
+length_code-small limits (Shape.float length_code) h = read-small limits.floats length_code h
+length_code-small limits Shape.illegal h = omega arith
+
+pub found_at-no_length : (limits : Rules) (a : Around) (s : Shape) (c : Cursor) (e : Reason) → length_at (length_code_of limits s) a.region c ≡ Err e → found_at limits a s c ≡ Err e
 found_at-no_length limits a s c e h = rw h refl
 
-pub found_at-refused : (limits : Limits) (a : Around) (s : Shape) (c d : Cursor) (n : ℕ) (e : Reason) → length_at (length_code_of s) a.region c ≡ Ok (n, d) → found_by limits a s d.place n ≡ Err e
+pub found_at-refused : (limits : Rules) (a : Around) (s : Shape) (c d : Cursor) (n : ℕ) (e : Reason) → length_at (length_code_of limits s) a.region c ≡ Ok (n, d) → found_by limits a s d.place n ≡ Err e
     → found_at limits a s c ≡ Err e
 found_at-refused limits a s c d n e h m = rw (h, m) refl
 
-pub found_at-found : (limits : Limits) (a : Around) (s : Shape) (c d : Cursor) (n : ℕ) (f : Found) → length_at (length_code_of s) a.region c ≡ Ok (n, d) → found_by limits a s d.place n ≡ Ok f
+pub found_at-found : (limits : Rules) (a : Around) (s : Shape) (c d : Cursor) (n : ℕ) (f : Found) → length_at (length_code_of limits s) a.region c ≡ Ok (n, d) → found_by limits a s d.place n ≡ Ok f
     → found_at limits a s c ≡ Ok (f, d)
 found_at-found limits a s c d n f h m = rw (h, m) refl
 
-pub part_at-octet : (limits : Limits) (a : Around) (c d : Cursor) (b : ℕ) → octet_at a.region c ≡ Ok (b, d) → part_at limits a c ≡ (refuse (a.wrapped && is_unwrappable b) BadAnnotation >> found_at limits a (shape_of b) d)
+pub part_at-octet : (limits : Rules) (a : Around) (c d : Cursor) (b : ℕ) → octet_at a.region c ≡ Ok (b, d) → part_at limits a c ≡ (refuse (a.wrapped && is_unwrappable b) BadAnnotation >> found_at limits a (shape_of b) d)
 unfolding part_at
 part_at-octet limits a c d b o = rw o refl
 
-part_at-no_octet : (limits : Limits) (a : Around) (c : Cursor) (e : Reason) → octet_at a.region c ≡ Err e → part_at limits a c ≡ Err e
+part_at-no_octet : (limits : Rules) (a : Around) (c : Cursor) (e : Reason) → octet_at a.region c ≡ Err e → part_at limits a c ≡ Err e
 unfolding part_at
 part_at-no_octet limits a c e o = rw o refl
 
-module _ (limits : Limits) (a : Around) (end place : ℕ) (octets : List ℕ) (ends : EndsAt a.region end) (small : place ≤ 2 ^ 48) where
+module _ (limits : Rules) (a : Around) (end place : ℕ) (octets : List ℕ) (ends : EndsAt a.region end) (small : place ≤ 2 ^ 48) where
   pub part-over : end ≤ place → (more : List ℕ) → part_at limits a (window place octets more) ≡ Err Overrun
   part-over over more = part_at-no_octet limits a (window place octets more) Overrun (octet_over a.region end (window place octets more) ends (omega (arith, small)) over)
 
@@ -161,14 +165,14 @@ module _ (limits : Limits) (a : Around) (end place : ℕ) (octets : List ℕ) (e
           ∙ (ap (λ t. refuse t BadAnnotation >> found_at limits a (shape_of b) (skip 1 (window place octets more))) free
           ∙ (ap (λ t. found_at limits a t (skip 1 (window place octets more))) shape ∙ ap (found_at limits a s) (sym (window-sliced place octets more (omega (arith, some))))))
 
-      pub part-no_length : (e : Reason) (more : List ℕ) → length_at (length_code_of s) a.region (window (place + 1) (sliced octets) more) ≡ Err e → part_at limits a (window place octets more) ≡ Err e
+      pub part-no_length : (e : Reason) (more : List ℕ) → length_at (length_code_of limits s) a.region (window (place + 1) (sliced octets) more) ≡ Err e → part_at limits a (window place octets more) ≡ Err e
       part-no_length e more h = part-shape more ∙ found_at-no_length limits a s (window (place + 1) (sliced octets) more) e h
 
-      pub part-refused : (e : Reason) (count n : ℕ) (more : List ℕ) → length_at (length_code_of s) a.region (window (place + 1) (sliced octets) more) ≡ Ok (count, skip n (window (place + 1) (sliced octets) more))
+      pub part-refused : (e : Reason) (count n : ℕ) (more : List ℕ) → length_at (length_code_of limits s) a.region (window (place + 1) (sliced octets) more) ≡ Ok (count, skip n (window (place + 1) (sliced octets) more))
           → found_by limits a s (place + 1 + n) count ≡ Err e → part_at limits a (window place octets more) ≡ Err e
       part-refused e count n more h m = part-shape more ∙ found_at-refused limits a s (window (place + 1) (sliced octets) more) (skip n (window (place + 1) (sliced octets) more)) count e h m
 
-      pub part-found : (f : Found) (count n : ℕ) (more : List ℕ) → length_at (length_code_of s) a.region (window (place + 1) (sliced octets) more) ≡ Ok (count, skip n (window (place + 1) (sliced octets) more))
+      pub part-found : (f : Found) (count n : ℕ) (more : List ℕ) → length_at (length_code_of limits s) a.region (window (place + 1) (sliced octets) more) ≡ Ok (count, skip n (window (place + 1) (sliced octets) more))
           → found_by limits a s (place + 1 + n) count ≡ Ok f → part_at limits a (window place octets more) ≡ Ok (f, skip (n + 1) (window place octets more))
       part-found f count n more h m =
           let w = window place octets more in

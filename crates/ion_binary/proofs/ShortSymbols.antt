@@ -3,7 +3,9 @@ use Rattle.std.proofs.Common.{◌≡◌, ℕ, ◌+◌, ◌≤◌, Bool, true, fa
 use Rattle.std.specs.List.{AllByRecursion}
 use Rattle.std.specs.Str.{bytes_eq}
 use Rattle.std.proofs.lemmas.Slice.Eq.{bytes_eq-Decides}
+use Rattle.ion_meter.specs.Rules.{rules}
 use Rattle.ion_meter.specs.declared.limits.Limits.{Limits}
+use Rattle.ion_meter.specs.declared.profile.Profile.{Profile}
 use Rattle.ion_value.specs.Value.{UserSymbol, Known, Unknown, Top, version, tree}
 use Rattle.ion_value.specs.Writable.{value_symbols}
 use Rattle.ion_symbols.specs.Output.{or_given, position, system_id, texts_cost}
@@ -34,16 +36,16 @@ own-place (Some id) own e there = absurd (cc e)
 own-place None (Some place) e there = (place, refl)
 own-place None None e there = absurd (cc there.1)
 
-module _ (limits : Limits) (room : limits.symbols ≤ limits.scalar) where
-  symbol-fits : (texts : List (List ℕ)) (s : UserSymbol) → texts_cost texts ≤ limits.symbols → IsKnown texts s → SymbolFits limits s
+module _ (limits : Limits) (profile : Profile) (room : limits.symbols ≤ limits.scalar) where
+  symbol-fits : (texts : List (List ℕ)) (s : UserSymbol) → texts_cost texts ≤ limits.symbols → IsKnown texts s → SymbolFits (rules limits profile) s
   symbol-fits texts (Known t) cheap known = λ e. omega (arith, text-cost texts t (own-place (system_id t) (position texts t) e known), cheap, room)
   symbol-fits texts Unknown cheap known = tt
 
-  symbols-fit : (texts : List (List ℕ)) (ss : List UserSymbol) → texts_cost texts ≤ limits.symbols → AreKnown texts ss → AllByRecursion (SymbolFits limits) ss
+  symbols-fit : (texts : List (List ℕ)) (ss : List UserSymbol) → texts_cost texts ≤ limits.symbols → AreKnown texts ss → AllByRecursion (SymbolFits (rules limits profile)) ss
   symbols-fit texts [] cheap known = tt
   symbols-fit texts (s ∷ ss) cheap known = (symbol-fits texts s cheap known.0, symbols-fit texts ss cheap known.1)
 
-  tops-fit : (texts : List (List ℕ)) (us : List (Top UserSymbol ℕ)) → AreWithin limits texts us → AllByRecursion (SymbolsFit limits) us
+  tops-fit : (texts : List (List ℕ)) (us : List (Top UserSymbol ℕ)) → AreWithin limits texts us → AllByRecursion (SymbolsFit (rules limits profile)) us
   tops-fit texts [] within = tt
   tops-fit texts (version place ∷ us) within = (tt, tops-fit texts us within)
   tops-fit texts (tree first annotations place x ∷ us) within =
@@ -52,4 +54,4 @@ module _ (limits : Limits) (room : limits.symbols ≤ limits.scalar) where
       (symbols-fit all symbols within.0 (all_known (texts_left limits.symbols texts) symbols), tops-fit all us within.2)
 
 pub texts_within_fit : TextsWithinFit
-texts_within_fit limits us room within = tops-fit limits room [] us within
+texts_within_fit limits profile us room within = tops-fit limits profile room [] us within

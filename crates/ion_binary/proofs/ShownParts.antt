@@ -6,7 +6,7 @@ use Rattle.std.proofs.lemmas.Grind.{common_steps}
 use Rattle.std.proofs.lemmas.List.{take-append-le, drop-append-le}
 use Rattle.ion_meter.specs.Sources.{Cursor, skip}
 use Rattle.ion_meter.specs.declared.fault.Reason.TheVariants.{BadAnnotation}
-use Rattle.ion_meter.specs.declared.limits.Limits.{Limits}
+use Rattle.ion_meter.specs.declared.profile.Rules.{Rules}
 use Rattle.ion_value.specs.declared.ion_type.Kind.{Kind}
 use Rattle.ion_value.specs.Parts.{◌>>=◌, ◌>>◌, part, refuse}
 use Rattle.ion_value.specs.Scalar.{scalar_of_body}
@@ -66,13 +66,13 @@ length_shown octets length_code at after number is v = record {
 
 -- ---- one annotation or two
 
-no_more : (limits : Limits) (most end count : ℕ) (d : Cursor) → end ≡ d.place → ids_at most limits end count d ≡ Ok ([], d)
+no_more : (limits : Rules) (most end count : ℕ) (d : Cursor) → end ≡ d.place → ids_at most limits end count d ≡ Ok ([], d)
 unfolding ids_at
 no_more limits zero end count d last = refl
 no_more limits (suc most) end count d last = let over : nat_le end d.place ≡ true = le-leb end d.place (omega arith) in rw over refl
 
 -- an id, and those after it
-id_first : (limits : Limits) (most end count id : ℕ) (c d e : Cursor) (others : List SymbolAt) → 0 < most → c.place < end → var_uint_at (Some end) c ≡ Ok (id, d) → 16 * (count + 1) ≤ limits.scalar
+id_first : (limits : Rules) (most end count id : ℕ) (c d e : Cursor) (others : List SymbolAt) → 0 < most → c.place < end → var_uint_at (Some end) c ≡ Ok (id, d) → 16 * (count + 1) ≤ limits.scalar
     → ((m : ℕ) → most ≡ suc m → ids_at m limits end (count + 1) d ≡ Ok (others, e)) → ids_at most limits end count c ≡ Ok (symbol_id id c.place ∷ others, e)
 unfolding ids_at
 id_first limits zero end count id c d e others some before first few rest = absurd (omega arith)
@@ -82,7 +82,7 @@ id_first limits (suc most) end count id c d e others some before first few rest 
     rw (open_end, first, within, rest most refl) refl
 
 -- those after the first of a wrapper that has one or two
-second_shown : (limits : Limits) (octets more : List ℕ) (here at inner most : ℕ) (second : Option (ℕ × ℕ)) → 0 < most → ShowsSecond octets at second inner → 32 ≤ limits.scalar
+second_shown : (limits : Rules) (octets more : List ℕ) (here at inner most : ℕ) (second : Option (ℕ × ℕ)) → 0 < most → ShowsSecond octets at second inner → 32 ≤ limits.scalar
     → ids_at most limits (here + inner) 1 (skip at (window here octets more)) ≡ Ok (second_id here second, skip inner (window here octets more))
 second_shown limits octets more here at inner most None some last few =
     let c = window here octets more in
@@ -94,7 +94,7 @@ second_shown limits octets more here at inner most (Some s) some v few =
     (v.1.gives here more (Some (here + inner)) (omega arith)) few (λ m e. no_more limits m (here + inner) 2 (skip inner c) refl))
 
 -- the ids of a wrapper that has one or two
-ids_shown : (limits : Limits) (octets more : List ℕ) (here first : ℕ) (n : ShownNote) → 0 < n.from → ShowsVar octets n.from first n.id → ShowsSecond octets first n.second n.inner → first ≤ n.inner → 32 ≤ limits.scalar
+ids_shown : (limits : Rules) (octets more : List ℕ) (here first : ℕ) (n : ShownNote) → 0 < n.from → ShowsVar octets n.from first n.id → ShowsSecond octets first n.second n.inner → first ≤ n.inner → 32 ≤ limits.scalar
     → ids_at (here + n.inner) limits (here + n.inner) 0 (skip n.from (window here octets more)) ≡ Ok (noted_ids here n, skip n.inner (window here octets more))
 ids_shown limits octets more here first n some v second before few =
     let c = window here octets more in
@@ -118,8 +118,8 @@ second-starts octets at inner (Some s) v = omega (arith, v.0, v.1.further)
 -- ---- values
 
 -- a descriptor and its length
-pub part_shown : (limits : Limits) (octets : List ℕ) (here : ℕ) (a : Around) (at after count : ℕ) (s : Shape) (f : Found)
-    → at < length octets → s ≡ shape_of (get_or octets at 0) → (a.wrapped && is_unwrappable (get_or octets at 0)) ≡ false → ShowsLength octets (length_code_of s) (at + 1) after count → found_by limits a s (here + after) count ≡ Ok f
+pub part_shown : (limits : Rules) (octets : List ℕ) (here : ℕ) (a : Around) (at after count : ℕ) (s : Shape) (f : Found)
+    → at < length octets → s ≡ shape_of (get_or octets at 0) → (a.wrapped && is_unwrappable (get_or octets at 0)) ≡ false → ShowsLength octets (length_code_of limits s) (at + 1) after count → found_by limits a s (here + after) count ≡ Ok f
     → (more : List ℕ) → Reaches a.region (here + after) → part_at limits a (skip at (window here octets more)) ≡ Ok (f, skip after (window here octets more))
 part_shown limits octets here a at after count s f h is free l found more reaches =
     let c = window here octets more in
@@ -131,7 +131,7 @@ part_shown limits octets here a at after count s f h is free l found more reache
     ∙ found_at-found limits a s (skip (at + 1) c) (skip after c) count f (l.gives here more a.region reaches) found))
 
 -- what has no octets after its length
-pub rest_none : (limits : Limits) (octets : List ℕ) (here : ℕ) (f : Found) (at after : ℕ) (v : TypedValue) → after ≡ at → at ≤ length octets → wrapping f ≡ None → ((c : Cursor) → rest_at limits f c ≡ Ok (v, c))
+pub rest_none : (limits : Rules) (octets : List ℕ) (here : ℕ) (f : Found) (at after : ℕ) (v : TypedValue) → after ≡ at → at ≤ length octets → wrapping f ≡ None → ((c : Cursor) → rest_at limits f c ≡ Ok (v, c))
     → ShowsRest limits octets here f at after v
 rest_none limits octets here f at after v same within plain none = record {
   further = omega arith;
@@ -141,7 +141,7 @@ rest_none limits octets here f at after v same within plain none = record {
 }
 
 -- a container's beginning
-pub shows_begin : {limits : Limits} {octets : List ℕ} {here at after end : ℕ} {a : Around} {kind : Kind} → ShowsPart limits octets here a at after (found.Begin kind end) → ShowsValue limits octets here a at after (a_container kind end)
+pub shows_begin : {limits : Rules} {octets : List ℕ} {here at after end : ℕ} {a : Around} {kind : Kind} → ShowsPart limits octets here a at after (found.Begin kind end) → ShowsValue limits octets here a at after (a_container kind end)
 unfolding rest_at
 shows_begin {limits} {octets} {here} {at} {after} {end} {a} {kind} p =
     record { found = found.Begin kind end; from = after; part = p; rest = rest_none limits octets here (found.Begin kind end) after after (a_container kind end) refl p.within refl (λ c. refl) }
@@ -152,7 +152,7 @@ body_octets octets more from n h =
     ap (take n) (drop-append-le from octets more (omega arith)) ∙ take-append-le n (drop from octets) more (grind (arith, common_steps))
 
 -- a body of these bytes
-pub rest_body : (limits : Limits) (octets bytes : List ℕ) (here type_code n at : ℕ) (v : Scalar Symbol) → at + n ≤ length octets → n ≤ limits.scalar → bytes ≡ take n (drop at octets) → scalar_of_body type_code bytes ≡ Ok v
+pub rest_body : (limits : Rules) (octets bytes : List ℕ) (here type_code n at : ℕ) (v : Scalar Symbol) → at + n ≤ length octets → n ≤ limits.scalar → bytes ≡ take n (drop at octets) → scalar_of_body type_code bytes ≡ Ok v
     → ShowsRest limits octets here (found.Body type_code n) at (at + length bytes) (a_scalar v)
 unfolding rest_at
 rest_body limits octets bytes here type_code n at v h few is meaning =
@@ -171,7 +171,7 @@ rest_body limits octets bytes here type_code n at v h few is meaning =
 -- ---- annotations
 
 -- the lengths of a wrapper, and its one id or two, of which the first ends at `first`
-pub shows_note : (limits : Limits) (octets : List ℕ) (here : ℕ) (r : Region) (at after first length_code count ids : ℕ) (n : ShownNote)
+pub shows_note : (limits : Rules) (octets : List ℕ) (here : ℕ) (r : Region) (at after first length_code count ids : ℕ) (n : ShownNote)
     → at < length octets → wrapper length_code ≡ shape_of (get_or octets at 0) → ShowsLength octets length_code (at + 1) after count → ShowsVar octets after n.from ids → ShowsVar octets n.from first n.id
     → ShowsSecond octets first n.second n.inner → here + n.inner < here + after + count → Reaches r (here + after + count) → wrapper_by r (here + after) count (here + n.from) ids ≡ Ok (record { ids = here + n.inner; end = n.end }) → 32 ≤ limits.scalar
     → ShowsNote limits octets here r at n
@@ -194,7 +194,7 @@ shows_note limits octets here r at after first length_code count ids n h is l v 
     }
 
 -- a value with no annotation
-pub shows_plain : (limits : Limits) (octets : List ℕ) (here : ℕ) (r : Region) (depth at after : ℕ) (v : TypedValue) → ShowsValue limits octets here (around_after None r depth) at after v → ShowsItem limits octets here r depth at at after [] v
+pub shows_plain : (limits : Rules) (octets : List ℕ) (here : ℕ) (r : Region) (depth at after : ℕ) (v : TypedValue) → ShowsValue limits octets here (around_after None r depth) at after v → ShowsItem limits octets here r depth at at after [] v
 shows_plain limits octets here r depth at after v s =
     let reaches : Reaches r (here + s.from) = s.part.reaches s.rest.plain in
     record {
@@ -207,7 +207,7 @@ shows_plain limits octets here r depth at after v s =
     }
 
 -- a value that fills a wrapper
-pub shows_noted : (limits : Limits) (octets : List ℕ) (here : ℕ) (r : Region) (depth at after : ℕ) (note : ShownNote) (v : TypedValue) → ShowsNote limits octets here r at note
+pub shows_noted : (limits : Rules) (octets : List ℕ) (here : ℕ) (r : Region) (depth at after : ℕ) (note : ShownNote) (v : TypedValue) → ShowsNote limits octets here r at note
     → ShowsValue limits octets here (around_after (Some note.end) r depth) note.inner after v → ShowsItem limits octets here r depth at note.inner after (noted_ids here note) v
 shows_noted limits octets here r depth at after note v n s = record {
   further = omega (arith, n.further.0, n.further.1, n.starts, s.part.further, s.rest.further);

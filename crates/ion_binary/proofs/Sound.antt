@@ -1,7 +1,7 @@
 -- What is read is a path of the bytes, and all of them where reading finishes.
 use Rattle.std.proofs.Common.{◌≡◌, ℕ, zero, suc, ◌<◌, List, [], ◌∷◌, ◌++◌, length, refl, sym, ap, subst, ◌∙◌, append_assoc, append-nil, arith}
 use Rattle.ion_meter.specs.declared.fault.Reason.{Reason}
-use Rattle.ion_meter.specs.declared.limits.Limits.{Limits}
+use Rattle.ion_meter.specs.declared.profile.Rules.{Rules}
 use Rattle.ion_value.specs.Value.{SymbolAt, Top}
 use Rattle.ion_value.specs.Path.{Path, closed, path_items}
 use Rattle.ion_value.specs.Reading.{Reading, Finished, Stopped, items_of, Step, Ends, Stops, Gives, GoesOn, Leaves, after_item, after_nothing, next_reading, reading_for, Shrinks}
@@ -73,16 +73,16 @@ next_reading-leads bytes path s later (Gives item after) at follows more =
     }
 next_reading-leads bytes path s later (GoesOn after) at follows more = more after path (after_nothing after) follows
 
-module _ (bodies : Bodies) (shrinks : (limits : Limits) → Shrinks (step limits) size) where
+module _ (bodies : Bodies) (shrinks : (limits : Rules) → Shrinks (step limits) size) where
   -- a reading with enough steps
-  reading_for-leads : (n : ℕ) (limits : Limits) (bytes : List ℕ) (path : Path SymbolAt ℕ) (s : State) → At bytes path s → size s < n → LeadsTo bytes path (reading_for (step limits) n s)
+  reading_for-leads : (n : ℕ) (limits : Rules) (bytes : List ℕ) (path : Path SymbolAt ℕ) (s : State) → At bytes path s → size s < n → LeadsTo bytes path (reading_for (step limits) n s)
   reading_for-leads zero limits bytes path s at fuel = absurd (omega arith)
   reading_for-leads (suc n) limits bytes path s at fuel =
       next_reading-leads bytes path s (λ t. reading_for (step limits) n t) (step limits s) at (step-follows bodies limits bytes path s at)
       (λ after next leaves at. let smaller : size after < size s = shrinks limits s after leaves in reading_for-leads n limits bytes next after at (omega arith))
 
 -- what is read is a path of the bytes, and the whole of them where reading finishes
-pub sound : Bodies → ((limits : Limits) → Shrinks (step limits) size) → Sound
+pub sound : Bodies → ((limits : Rules) → Shrinks (step limits) size) → Sound
 unfolding reading
 sound bodies shrinks limits bytes =
     let c = reading_for-leads bodies shrinks (suc (size (start bytes))) limits bytes (closed []) (start bytes)

@@ -2,7 +2,7 @@
 use Rattle.std.proofs.Common.{◌≡◌, ℕ, zero, suc, ◌+◌, ◌*◌, ◌<◌, ◌≤◌, ◌⊎◌, inl, inr, false, ltb, List, [], ◌∷◌, ◌++◌, length, Option, Some, None, Ok, refl, sym, ◌∙◌, subst, append_assoc, arith}
 use Rattle.std.proofs.lemmas.Bool.{lt-leb, lt-ltb, le-ltb, le-leb, ne_eqb}
 use Rattle.std.proofs.lemmas.List.{length-append}
-use Rattle.ion_meter.specs.declared.limits.Limits.{Limits}
+use Rattle.ion_meter.specs.declared.profile.Rules.{Rules}
 use Rattle.ion_value.specs.declared.ion_type.Kind.{Kind}
 use Rattle.ion_value.specs.Number.{IsVar, VarUInt}
 use Rattle.ion_value.specs.Value.{SymbolAt}
@@ -106,7 +106,7 @@ Descriptor-headed t n _ (Descriptor.long len spells) = record {
 -- ---- annotation ids
 
 -- the ids of a wrapper are read, where the limit allows 16 for each of them
-pub ids_at-spelled : (limits : Limits) (most end count q : ℕ) (annotations : List SymbolAt) (ids rest : List ℕ) → Ids q annotations ids → end ≡ q + length ids → length ids ≤ most
+pub ids_at-spelled : (limits : Rules) (most end count q : ℕ) (annotations : List SymbolAt) (ids rest : List ℕ) → Ids q annotations ids → end ≡ q + length ids → length ids ≤ most
     → 16 * (count + length annotations) ≤ limits.scalar → ids_at most limits end count (cursor_at q (ids ++ rest)) ≡ Ok (annotations, cursor_at end rest)
 unfolding ids_at
 ids_at-spelled limits zero end count _ _ _ rest (Ids.nothing q) e enough limit = let same : end ≡ q = omega arith in rw same refl

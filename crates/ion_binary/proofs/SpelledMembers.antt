@@ -2,7 +2,7 @@
 use Rattle.std.proofs.Common.{◌≡◌, ℕ, suc, ◌+◌, ◌*◌, ◌<◌, ◌≤◌, ◌⊎◌, inl, inr, true, false, leb, List, [], ◌∷◌, ◌++◌, length, Option, Some, None, Ok, refl, ap, ◌∙◌, subst, append_assoc, arith}
 use Rattle.std.proofs.lemmas.Bool.{lt-leb, le-leb, le-ltb, ne_eqb}
 use Rattle.std.proofs.lemmas.List.{length-append}
-use Rattle.ion_meter.specs.declared.limits.Limits.{Limits}
+use Rattle.ion_meter.specs.declared.profile.Rules.{Rules}
 use Rattle.ion_value.specs.Number.{VarUInt}
 use Rattle.ion_value.specs.declared.ion_type.Kind.{Kind}
 use Rattle.ion_value.specs.Value as value
@@ -29,7 +29,7 @@ wrapper_at-spelled r length_code all p k n c len rest head whole long ids value 
     let within : leb (p + all) (p + length len + k) ≡ false = lt-leb (p + all) (p + length len + k) (omega arith) in
     rw (head, lengths, passes-not r p all h, le-ltb all 3 long, ne_eqb k 0 (omega arith), within) refl
 
-annotated_at-spelled : (limits : Limits) (frames : List Frame) (top : ℕ) (f : Option SymbolAt) (q length_code ids_end end p : ℕ) (c : Cursor) (annotations : List SymbolAt) (ids rest : List ℕ)
+annotated_at-spelled : (limits : Rules) (frames : List Frame) (top : ℕ) (f : Option SymbolAt) (q length_code ids_end end p : ℕ) (c : Cursor) (annotations : List SymbolAt) (ids rest : List ℕ)
     → wrapper_at (region_of frames) length_code c ≡ Ok (record { ids = ids_end; end = end }, cursor_at p (ids ++ rest)) → Ids p annotations ids → ids_end ≡ p + length ids → 16 * length annotations ≤ limits.scalar
     → annotated_at limits frames top f q length_code c ≡ inner_at limits frames top f annotations end (cursor_at ids_end rest)
 unfolding annotated_at
@@ -39,7 +39,7 @@ annotated_at-spelled limits frames top f q length_code ids_end end p c annotatio
     rw (wraps, read) refl
 
 -- octets are the header of a wrapper: after its descriptor octet its ids are read, and its value is read next, up to the wrapper's end
-pub record Wraps (limits : Limits) (q : ℕ) (annotations : List SymbolAt) (n : ℕ) (w : List ℕ) : Type 0 where
+pub record Wraps (limits : Rules) (q : ℕ) (annotations : List SymbolAt) (n : ℕ) (w : List ℕ) : Type 0 where
   pub first : ℕ
   pub length_code : ℕ
   pub more : List ℕ
@@ -57,7 +57,7 @@ pub kept-long : (length_code all : ℕ) (more : List ℕ) → ((length_code ≡ 
 kept-long length_code all more (inl kept) long = omega (arith, kept.0)
 kept-long length_code all more (inr kept) long = omega arith
 
-pub Wrapper-wraps : (limits : Limits) (q : ℕ) (annotations : List SymbolAt) (n : ℕ) (w : List ℕ) → Wrapper q annotations n w → 16 * length annotations ≤ limits.scalar → Wraps limits q annotations n w
+pub Wrapper-wraps : (limits : Rules) (q : ℕ) (annotations : List SymbolAt) (n : ℕ) (w : List ℕ) → Wrapper q annotations n w → 16 * length annotations ≤ limits.scalar → Wraps limits q annotations n w
 Wrapper-wraps limits _ _ _ _ (Wrapper.wrapper q annotations n head len ids descriptor long some_ids some_value spells ids_spell) limit =
     let headed = Descriptor-headed 14 (length len + length ids + n) head descriptor in
     let small : headed.length_code < 16 = omega (arith, headed.small) in
@@ -95,28 +95,28 @@ unwrapped frames = record { wrapped = false; region = region_of frames; depth = 
 abbrev pub wrapped_to : List Frame → ℕ → Around
 wrapped_to frames end = record { wrapped = true; region = Some end; depth = length frames }
 
-plain_at-found : (limits : Limits) (frames : List Frame) (top : ℕ) (f : Option SymbolAt) (q b : ℕ) (c d : Cursor) (v : TypedValue) → typed_value_at limits (unwrapped frames) b c ≡ Ok (v, d)
+plain_at-found : (limits : Rules) (frames : List Frame) (top : ℕ) (f : Option SymbolAt) (q b : ℕ) (c d : Cursor) (v : TypedValue) → typed_value_at limits (unwrapped frames) b c ≡ Ok (v, d)
     → plain_at limits frames top f q b c ≡ Ok (step_for frames top f [] q v d)
 unfolding plain_at
 plain_at-found limits frames top f q b c d v e = rw e refl
 
-inner_at-found : (limits : Limits) (frames : List Frame) (top : ℕ) (f : Option SymbolAt) (annotations : List SymbolAt) (end b : ℕ) (c d e : Cursor) (v : TypedValue)
+inner_at-found : (limits : Rules) (frames : List Frame) (top : ℕ) (f : Option SymbolAt) (annotations : List SymbolAt) (end b : ℕ) (c d e : Cursor) (v : TypedValue)
     → octet_at (Some end) c ≡ Ok (b, d) → typed_value_at limits (wrapped_to frames end) b d ≡ Ok (v, e) → inner_at limits frames top f annotations end c ≡ Ok (step_for frames top f annotations c.place v e)
 unfolding inner_at
 inner_at-found limits frames top f annotations end b c d e v octet found = rw (octet, found) refl
 
-value_at-plain : (limits : Limits) (frames : List Frame) (top : ℕ) (f : Option SymbolAt) (b : ℕ) (c d : Cursor) → octet_at (region_of frames) c ≡ Ok (b, d) → wrapper_length (shape_of b) ≡ None
+value_at-plain : (limits : Rules) (frames : List Frame) (top : ℕ) (f : Option SymbolAt) (b : ℕ) (c d : Cursor) → octet_at (region_of frames) c ≡ Ok (b, d) → wrapper_length (shape_of b) ≡ None
     → value_at limits frames top f c ≡ plain_at limits frames top f c.place b d
 unfolding value_at
 value_at-plain limits frames top f b c d octet bare = rw (octet, bare) refl
 
-value_at-annotated : (limits : Limits) (frames : List Frame) (top : ℕ) (f : Option SymbolAt) (b length_code : ℕ) (c d : Cursor) → octet_at (region_of frames) c ≡ Ok (b, d)
+value_at-annotated : (limits : Rules) (frames : List Frame) (top : ℕ) (f : Option SymbolAt) (b length_code : ℕ) (c d : Cursor) → octet_at (region_of frames) c ≡ Ok (b, d)
     → wrapper_length (shape_of b) ≡ Some length_code → value_at limits frames top f c ≡ annotated_at limits frames top f c.place length_code d
 unfolding value_at
 value_at-annotated limits frames top f b length_code c d octet wraps = rw (octet, wraps) refl
 
 -- a value or a NOP pad without a wrapper is read
-pub value_at-bare : (limits : Limits) (frames : List Frame) (top : ℕ) (f : Option SymbolAt) (q : ℕ) (v : TypedValue) (x rest : List ℕ) → Finds limits (unwrapped frames) q v x
+pub value_at-bare : (limits : Rules) (frames : List Frame) (top : ℕ) (f : Option SymbolAt) (q : ℕ) (v : TypedValue) (x rest : List ℕ) → Finds limits (unwrapped frames) q v x
     → Holds (region_of frames) (q + length x) → value_at limits frames top f (cursor_at q (x ++ rest)) ≡ Ok (step_for frames top f [] q v (cursor_at (q + length x) rest))
 value_at-bare limits frames top f q v x rest found h =
     let long : length x ≡ suc (length found.more) = ap length found.is in
@@ -127,7 +127,7 @@ value_at-bare limits frames top f q v x rest found h =
     ∙ plain_at-found limits frames top f q found.first (cursor_at (q + 1) (found.more ++ rest)) (cursor_at (q + length x) rest) v (found.finds rest)
 
 -- and a value in one
-value_at-wrapped : (limits : Limits) (frames : List Frame) (top : ℕ) (f : Option SymbolAt) (q : ℕ) (annotations : List SymbolAt) (n : ℕ) (v : TypedValue) (w x rest : List ℕ)
+value_at-wrapped : (limits : Rules) (frames : List Frame) (top : ℕ) (f : Option SymbolAt) (q : ℕ) (annotations : List SymbolAt) (n : ℕ) (v : TypedValue) (w x rest : List ℕ)
     → Wraps limits q annotations n w → Finds limits (wrapped_to frames (q + length w + n)) (q + length w) v x → Holds (region_of frames) (q + length w + n)
     → value_at limits frames top f (cursor_at q (w ++ (x ++ rest))) ≡ Ok (step_for frames top f annotations (q + length w) v (cursor_at (q + length w + length x) rest))
 value_at-wrapped limits frames top f q annotations n v w x rest wraps found h =
@@ -143,7 +143,7 @@ value_at-wrapped limits frames top f q annotations n v w x rest wraps found h =
     (cursor_at (q + length w + length x) rest) v (octet_at-spelled (Some end) (q + length w) found.first (found.more ++ rest) (omega (arith, wraps.some))) (found.finds rest)
 
 -- what stands before a value and what is found are read, where the value's n octets lie within the containers that are open
-pub value_at-spelled : (limits : Limits) (frames : List Frame) (top : ℕ) (f : Option SymbolAt) (q : ℕ) (annotations : List SymbolAt) (n : ℕ) (v : TypedValue) (w x rest : List ℕ)
+pub value_at-spelled : (limits : Rules) (frames : List Frame) (top : ℕ) (f : Option SymbolAt) (q : ℕ) (annotations : List SymbolAt) (n : ℕ) (v : TypedValue) (w x rest : List ℕ)
     → Annotated q annotations n w → 16 * length annotations ≤ limits.scalar → Holds (region_of frames) (q + length w + n) → length x ≤ n
     → ((a : Around) → a.depth ≡ length frames → Suits a (q + length w + n) → Finds limits a (q + length w) v x)
     → value_at limits frames top f (cursor_at q (w ++ (x ++ rest))) ≡ Ok (step_for frames top f annotations (q + length w) v (cursor_at (q + length w + length x) rest))
@@ -158,7 +158,7 @@ value_at-spelled limits frames top f _ _ _ v _ x rest (Annotated.wrapped q annot
 -- ---- members, and steps
 
 -- a field and what stands after it are read
-pub member_at-spelled : (limits : Limits) (frames : List Frame) (top q : ℕ) (f : Option SymbolAt) (b y : List ℕ) (r : Placed (Step State)) → FieldIn frames q f b → Holds (region_of frames) (q + length b)
+pub member_at-spelled : (limits : Rules) (frames : List Frame) (top q : ℕ) (f : Option SymbolAt) (b y : List ℕ) (r : Placed (Step State)) → FieldIn frames q f b → Holds (region_of frames) (q + length b)
     → value_at limits frames (top_of frames top q) f (cursor_at (q + length b) y) ≡ r → member_at limits frames top (cursor_at q (b ++ y)) ≡ r
 unfolding member_at
 member_at-spelled limits frames top q f b y r field h e = rw (field_at-spelled frames q f b y field h) e
@@ -167,7 +167,7 @@ abbrev pub state : List Frame → ℕ → Cursor → State
 state frames top c = record { frames = frames; top = top; cursor = c }
 
 -- a step reads a member where there are octets up to a place that the innermost open container holds
-pub step-member : (limits : Limits) (frames : List Frame) (top q : ℕ) (x rest : List ℕ) (s : Step State) → 0 < length x → Within frames (q + length x)
+pub step-member : (limits : Rules) (frames : List Frame) (top q : ℕ) (x rest : List ℕ) (s : Step State) → 0 < length x → Within frames (q + length x)
     → member_at limits frames top (cursor_at q (x ++ rest)) ≡ Ok s → step limits (state frames top (cursor_at q (x ++ rest))) ≡ s
 unfolding step
 step-member limits [] top q [] rest s some within e = absurd (omega arith)
@@ -175,12 +175,12 @@ step-member limits [] top q (b ∷ x) rest s some within e = ap step_of e
 step-member limits (frame ∷ frames) top q x rest s some within e = rw (lt-leb frame.end q (omega arith), e) refl
 
 -- and the end of the innermost open container at its end
-pub step-end : (limits : Limits) (k : Kind) (frames : List Frame) (top q : ℕ) (rest : List ℕ)
+pub step-end : (limits : Rules) (k : Kind) (frames : List Frame) (top q : ℕ) (rest : List ℕ)
     → step limits (state (frame_of k q ∷ frames) top (cursor_at q rest)) ≡ Gives (placed_item top None [] q value.end) (state frames top (cursor_at q rest))
 unfolding step
 step-end limits k frames top q rest = rw (le-leb q q (omega arith)) refl
 
 -- where nothing is open the reading ends with the octets
-pub step-ends : (limits : Limits) (top q : ℕ) → step limits (state [] top (cursor_at q [])) ≡ Ends
+pub step-ends : (limits : Rules) (top q : ℕ) → step limits (state [] top (cursor_at q [])) ≡ Ends
 unfolding step
 step-ends limits top q = refl

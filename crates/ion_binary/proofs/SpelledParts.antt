@@ -1,17 +1,18 @@
 -- What the grammar has after ids is found: scalars, NOP pads, version markers and the headers of containers.
-use Rattle.std.proofs.Common.{◌≡◌, ◌≢◌, ℕ, suc, ◌+◌, ◌*◌, ◌/◌, ◌%◌, ◌<◌, ◌≤◌, ◌⊎◌, inl, inr, Bool, true, false, ◌&&◌, ltb, List, [], ◌∷◌, ◌++◌, length, Some, None, Ok, refl, sym, ap, ◌∙◌, subst, append_assoc, arith}
+use Rattle.std.proofs.Common.{◌≡◌, ◌≢◌, ℕ, suc, ◌+◌, ◌*◌, ◌/◌, ◌%◌, ◌<◌, ◌≤◌, ◌⊎◌, inl, inr, Bool, true, false, not, ◌&&◌, ltb, List, [], ◌∷◌, ◌++◌, length, Some, None, Ok, refl, sym, ap, ◌∙◌, subst, append_assoc, arith}
 use Rattle.std.proofs.lemmas.Bool.{lt-leb, le-ltb, ne_eqb}
 use Rattle.std.proofs.lemmas.List.{length-append, take_at, drop_at}
-use Rattle.ion_meter.specs.declared.limits.Limits.{Limits}
+use Rattle.ion_meter.specs.declared.profile.Rules.{Rules}
 use Rattle.ion_value.specs.declared.ion_type.IonType.{IonType}
 use Rattle.ion_value.specs.declared.ion_type.IonType.TheVariants as type
 use Rattle.ion_value.specs.declared.ion_type.Kind.{Kind}
 use Rattle.ion_value.specs.declared.ion_type.Kind.TheVariants as kind
+use Rattle.ion_value.specs.ReadingLaws.{IsPermitted}
 use Rattle.ion_value.specs.Scalar.{scalar_of_body}
 use Rattle.ion_value.specs.Value as value
 use Rattle.ion_value.specs.Value.{Symbol, Scalar}
 use Rattle.ion_meter.specs.Sources.{Cursor, skip}
-use Rattle.ion_binary.specs.Descriptor.{Region, passes, falls_short, var_uint_at, length_at, Shape, null, bool, nop_pad, body, container, sorted, marker, shape_by, shape_of, is_unwrappable}
+use Rattle.ion_binary.specs.Descriptor.{Region, passes, falls_short, var_uint_at, length_at, Shape, null, bool, nop_pad, body, container, sorted, marker, float, shape_by, shape_of, is_unwrappable}
 use Rattle.ion_binary.specs.Grammar.{IsNullOf, Body, Plain, IsNopPad, Header, type_code}
 use Rattle.ion_binary.specs.Laws.{Bodies}
 use Rattle.ion_binary.specs.Reading.{Around, TypedValue, a_nop_pad, a_marker, a_scalar, a_container, marker_at, bare_at, nop_pad_at, body_at, scalar_at, begin_at, container_at, sorted_at, read_by_descriptor, typed_value_at, wrapper_length}
@@ -65,20 +66,38 @@ null_code type.List n e = omega arith
 null_code type.Sexp n e = omega arith
 null_code type.Struct n e = omega arith
 
+-- how a scalar of a type code is read, by its length code
+record IsSized (limits : Rules) (t length_code : ℕ) : Type 0 where
+  shape : Shape
+  is : shape_by t length_code ≡ shape
+  bare : wrapper_length shape ≡ None
+  reads : (a : Around) (c : Cursor) → read_by_descriptor limits a shape c ≡ scalar_at limits a t length_code c
+
+body_shape : (limits : Rules) (t length_code : ℕ) → shape_by t length_code ≡ body t length_code → IsSized limits t length_code
+unfolding read_by_descriptor
+body_shape limits t length_code is = record { shape = body t length_code; is = is; bare = refl; reads = λ a c. refl }
+
+float_shape : (limits : Rules) (length_code : ℕ) → length_code < 15 → limits.floats ≡ true → IsSized limits 4 length_code
+unfolding read_by_descriptor
+float_shape limits length_code small permitted =
+    record { shape = float length_code; is = rw (ne_eqb length_code 15 (omega arith)) refl; bare = refl; reads = λ a c. rw permitted refl }
+
 -- the type codes of bodies
-body_shape : (t length_code : ℕ) (v : Scalar Symbol) (b : List ℕ) → Body t v b → length_code < 15 → shape_by t length_code ≡ body t length_code
-body_shape _ length_code _ _ (Body.positive i b sign magnitude is) small = rw (ne_eqb length_code 15 (omega arith)) refl
-body_shape _ length_code _ _ (Body.negative i b sign magnitude is) small = rw (ne_eqb length_code 15 (omega arith)) refl
-body_shape _ length_code _ _ (Body.decimal d b spells is) small = rw (ne_eqb length_code 15 (omega arith)) refl
-body_shape _ length_code _ _ (Body.timestamp t b spells) small = rw (ne_eqb length_code 15 (omega arith)) refl
-body_shape _ length_code _ _ (Body.symbol b) small = rw (ne_eqb length_code 15 (omega arith)) refl
-body_shape _ length_code _ _ (Body.string b utf8) small = rw (ne_eqb length_code 15 (omega arith)) refl
-body_shape _ length_code _ _ (Body.clob b) small = rw (ne_eqb length_code 15 (omega arith)) refl
-body_shape _ length_code _ _ (Body.blob b) small = rw (ne_eqb length_code 15 (omega arith)) refl
+body_sized : (limits : Rules) (t length_code : ℕ) (v : Scalar Symbol) (b : List ℕ) → Body t v b → IsPermitted limits v → length_code < 15 → IsSized limits t length_code
+body_sized limits _ length_code _ _ (Body.positive i b sign magnitude is) permitted small = body_shape limits 2 length_code (rw (ne_eqb length_code 15 (omega arith)) refl)
+body_sized limits _ length_code _ _ (Body.negative i b sign magnitude is) permitted small = body_shape limits 3 length_code (rw (ne_eqb length_code 15 (omega arith)) refl)
+body_sized limits _ length_code _ _ (Body.float x b spells) permitted small = float_shape limits length_code small permitted
+body_sized limits _ length_code _ _ (Body.decimal d b spells is) permitted small = body_shape limits 5 length_code (rw (ne_eqb length_code 15 (omega arith)) refl)
+body_sized limits _ length_code _ _ (Body.timestamp t b spells) permitted small = body_shape limits 6 length_code (rw (ne_eqb length_code 15 (omega arith)) refl)
+body_sized limits _ length_code _ _ (Body.symbol b) permitted small = body_shape limits 7 length_code (rw (ne_eqb length_code 15 (omega arith)) refl)
+body_sized limits _ length_code _ _ (Body.string b utf8) permitted small = body_shape limits 8 length_code (rw (ne_eqb length_code 15 (omega arith)) refl)
+body_sized limits _ length_code _ _ (Body.clob b) permitted small = body_shape limits 9 length_code (rw (ne_eqb length_code 15 (omega arith)) refl)
+body_sized limits _ length_code _ _ (Body.blob b) permitted small = body_shape limits 10 length_code (rw (ne_eqb length_code 15 (omega arith)) refl)
 
 body_code : (t : ℕ) (v : Scalar Symbol) (b : List ℕ) → Body t v b → (1 ≤ t) × (t < 14)
 body_code _ _ _ (Body.positive i b sign magnitude is) = (omega arith, omega arith)
 body_code _ _ _ (Body.negative i b sign magnitude is) = (omega arith, omega arith)
+body_code _ _ _ (Body.float x b spells) = (omega arith, omega arith)
 body_code _ _ _ (Body.decimal d b spells is) = (omega arith, omega arith)
 body_code _ _ _ (Body.timestamp t b spells) = (omega arith, omega arith)
 body_code _ _ _ (Body.symbol b) = (omega arith, omega arith)
@@ -129,14 +148,14 @@ fills-not a q n h = both_not a.wrapped (falls_short a.region q n) (λ w. falls_s
 -- ---- what is found
 
 -- octets are a part that is found, after its descriptor octet, and that needs no wrapper
-pub record Finds (limits : Limits) (a : Around) (q : ℕ) (f : TypedValue) (x : List ℕ) : Type 0 where
+pub record Finds (limits : Rules) (a : Around) (q : ℕ) (f : TypedValue) (x : List ℕ) : Type 0 where
   pub first : ℕ
   pub more : List ℕ
   pub is : x ≡ first ∷ more
   pub bare : wrapper_length (shape_of first) ≡ None
   pub finds : (rest : List ℕ) → typed_value_at limits a first (cursor_at (q + 1) (more ++ rest)) ≡ Ok (f, cursor_at (q + length x) rest)
 
-typed_value_at-shape : (limits : Limits) (a : Around) (b : ℕ) (s : Shape) (c : Cursor) → (a.wrapped && is_unwrappable b) ≡ false → shape_of b ≡ s → typed_value_at limits a b c ≡ read_by_descriptor limits a s c
+typed_value_at-shape : (limits : Rules) (a : Around) (b : ℕ) (s : Shape) (c : Cursor) → (a.wrapped && is_unwrappable b) ≡ false → shape_of b ≡ s → typed_value_at limits a b c ≡ read_by_descriptor limits a s c
 unfolding typed_value_at
 typed_value_at-shape limits a b s c free e = rw (free, e) refl
 
@@ -146,16 +165,16 @@ bare_at-spelled : (a : Around) (v : Scalar Symbol) (c : Cursor) → Suits a (c.p
 unfolding bare_at
 bare_at-spelled a v c h = rw (fills-not a c.place 0 h) refl
 
-read_by_descriptor-null : (limits : Limits) (a : Around) (t : IonType) (c : Cursor) → read_by_descriptor limits a (null t) c ≡ bare_at a (value.null t) c
+read_by_descriptor-null : (limits : Rules) (a : Around) (t : IonType) (c : Cursor) → read_by_descriptor limits a (null t) c ≡ bare_at a (value.null t) c
 unfolding read_by_descriptor
 read_by_descriptor-null limits a t c = refl
 
-read_by_descriptor-bool : (limits : Limits) (a : Around) (truth : Bool) (c : Cursor) → read_by_descriptor limits a (bool truth) c ≡ bare_at a (value.bool truth) c
+read_by_descriptor-bool : (limits : Rules) (a : Around) (truth : Bool) (c : Cursor) → read_by_descriptor limits a (bool truth) c ≡ bare_at a (value.bool truth) c
 unfolding read_by_descriptor
 read_by_descriptor-bool limits a truth c = refl
 
 -- one octet that is a scalar is found
-octet-found : (limits : Limits) (a : Around) (q b : ℕ) (s : Shape) (v : Scalar Symbol) → shape_of b ≡ s → wrapper_length s ≡ None → is_unwrappable b ≡ false
+octet-found : (limits : Rules) (a : Around) (q b : ℕ) (s : Shape) (v : Scalar Symbol) → shape_of b ≡ s → wrapper_length s ≡ None → is_unwrappable b ≡ false
     → ((c : Cursor) → read_by_descriptor limits a s c ≡ bare_at a v c) → Suits a (q + 1) → Finds limits a q (a_scalar v) (b ∷ [])
 octet-found limits a q b s v shape bare free by h = record {
   first = b;
@@ -184,7 +203,7 @@ length-short b rest = le-ltb (length (b ++ rest)) (length b) (omega (arith, leng
 skip-spelled : (q : ℕ) (b rest : List ℕ) → skip (length b) (cursor_at q (b ++ rest)) ≡ cursor_at (q + length b) rest
 skip-spelled q b rest = ap (cursor_at (q + length b)) (drop_at b rest (length b) refl)
 
-body_at-spelled : (limits : Limits) (a : Around) (t q : ℕ) (v : Scalar Symbol) (b rest : List ℕ) → scalar_of_body t b ≡ Ok v → Suits a (q + length b) → length b ≤ limits.scalar
+body_at-spelled : (limits : Rules) (a : Around) (t q : ℕ) (v : Scalar Symbol) (b rest : List ℕ) → scalar_of_body t b ≡ Ok v → Suits a (q + length b) → length b ≤ limits.scalar
     → body_at limits a t (length b) (cursor_at q (b ++ rest)) ≡ Ok (a_scalar v, cursor_at (q + length b) rest)
 unfolding body_at
 body_at-spelled limits a t q v b rest means h limit =
@@ -198,15 +217,16 @@ body_at-spelled limits a t q v b rest means h limit =
       drop_at b rest (length b) refl,
     ) refl
 
-read_by_descriptor-body : (limits : Limits) (a : Around) (t length_code n : ℕ) (c d : Cursor) → length_at length_code a.region c ≡ Ok (n, d) → read_by_descriptor limits a (body t length_code) c ≡ body_at limits a t n d
-unfolding read_by_descriptor scalar_at
-read_by_descriptor-body limits a t length_code n c d e = rw e refl
+scalar_at-body : (limits : Rules) (a : Around) (t length_code n : ℕ) (c d : Cursor) → length_at length_code a.region c ≡ Ok (n, d) → scalar_at limits a t length_code c ≡ body_at limits a t n d
+unfolding scalar_at
+scalar_at-body limits a t length_code n c d e = rw e refl
 
 -- a descriptor with a body after it is found
-body-found : (limits : Limits) (a : Around) (t q : ℕ) (v : Scalar Symbol) (head b : List ℕ) → Headed t (length b) head → ((length_code : ℕ) → length_code < 15 → shape_by t length_code ≡ body t length_code)
+body-found : (limits : Rules) (a : Around) (t q : ℕ) (v : Scalar Symbol) (head b : List ℕ) → Headed t (length b) head → ((length_code : ℕ) → length_code < 15 → IsSized limits t length_code)
     → (1 ≤ t) × (t < 14) → scalar_of_body t b ≡ Ok v → Suits a (q + length (head ++ b)) → length b ≤ limits.scalar → Finds limits a q (a_scalar v) (head ++ b)
 body-found limits a t q v head b headed shapes codes means h limit =
-    let shape : shape_of (16 * t + headed.length_code) ≡ body t headed.length_code = shape_of-parts t headed.length_code (omega (arith, headed.small)) ∙ shapes headed.length_code headed.small in
+    let sized = shapes headed.length_code headed.small in
+    let shape : shape_of (16 * t + headed.length_code) ≡ sized.shape = shape_of-parts t headed.length_code (omega (arith, headed.small)) ∙ sized.is in
     let free : is_unwrappable (16 * t + headed.length_code) ≡ false = wrappable t headed.length_code (omega (arith, headed.small)) codes.1 (omega (arith, codes.0)) in
     let long : length (head ++ b) ≡ length head + length b = length-append head b in
     let place : q + length (head ++ b) ≡ q + length head + length b = omega arith in
@@ -215,27 +235,28 @@ body-found limits a t q v head b headed shapes codes means h limit =
       first = 16 * t + headed.length_code;
       more = headed.more ++ b;
       is = ap (λ l. l ++ b) headed.is;
-      bare = ap wrapper_length shape;
+      bare = ap wrapper_length shape ∙ sized.bare;
       finds = λ rest.
           rw (append_assoc headed.more b rest, place)
-          (typed_value_at-shape limits a (16 * t + headed.length_code) (body t headed.length_code) (cursor_at (q + 1) (headed.more ++ (b ++ rest))) (both_not a.wrapped (is_unwrappable (16 * t + headed.length_code)) (λ w. free)) shape
-          ∙ read_by_descriptor-body limits a t headed.length_code (length b) (cursor_at (q + 1) (headed.more ++ (b ++ rest))) (cursor_at (q + length head) (b ++ rest))
+          (typed_value_at-shape limits a (16 * t + headed.length_code) sized.shape (cursor_at (q + 1) (headed.more ++ (b ++ rest))) (both_not a.wrapped (is_unwrappable (16 * t + headed.length_code)) (λ w. free)) shape
+          ∙ sized.reads a (cursor_at (q + 1) (headed.more ++ (b ++ rest)))
+          ∙ scalar_at-body limits a t headed.length_code (length b) (cursor_at (q + 1) (headed.more ++ (b ++ rest))) (cursor_at (q + length head) (b ++ rest))
           (headed.reads a.region q (b ++ rest) (Holds-before a.region (q + length head) (q + length head + length b) end.holds (omega arith)))
           ∙ body_at-spelled limits a t (q + length head) v b rest means end limit);
     }
 
 -- a scalar without annotations is found
-pub Plain-found : Bodies → (limits : Limits) (a : Around) (q : ℕ) (v : Scalar Symbol) (x : List ℕ) (plain : Plain v x) → Suits a (q + length x) → PlainFits limits plain → Finds limits a q (a_scalar v) x
+pub Plain-found : Bodies → (limits : Rules) (a : Around) (q : ℕ) (v : Scalar Symbol) (x : List ℕ) (plain : Plain v x) → Suits a (q + length x) → PlainFits limits plain → Finds limits a q (a_scalar v) x
 Plain-found bodies limits a q _ _ (Plain.null t n is) h limit =
     octet-found limits a q (16 * n + 15) (null t) (value.null t) (shape_of-parts n 15 (omega arith) ∙ null_shape t n is) refl (wrappable n 15 (omega arith) (null_code t n is) (omega arith)) (read_by_descriptor-null limits a t) h
 Plain-found bodies limits a q _ _ Plain.no h limit = octet-found limits a q 16 (bool false) (value.bool false) no_shape refl refl (read_by_descriptor-bool limits a false) h
 Plain-found bodies limits a q _ _ Plain.yes h limit = octet-found limits a q 17 (bool true) (value.bool true) yes_shape refl refl (read_by_descriptor-bool limits a true) h
 Plain-found bodies limits a q _ _ (Plain.body t v head b descriptor is) h limit =
-    body-found limits a t q v head b (Descriptor-headed t (length b) head descriptor) (λ length_code small. body_shape t length_code v b is small) (body_code t v b is) ((bodies t v b).0 is) h limit
+    body-found limits a t q v head b (Descriptor-headed t (length b) head descriptor) (λ length_code small. body_sized limits t length_code v b is limit.1 small) (body_code t v b is) ((bodies t v b).0 is) h limit.0
 
 -- ---- NOP pads and markers
 
-read_by_descriptor-nop_pad : (limits : Limits) (a : Around) (length_code n : ℕ) (c d : Cursor) → length_at length_code a.region c ≡ Ok (n, d) → passes a.region d.place n ≡ false → ltb (length d.rest) n ≡ false
+read_by_descriptor-nop_pad : (limits : Rules) (a : Around) (length_code n : ℕ) (c d : Cursor) → length_at length_code a.region c ≡ Ok (n, d) → passes a.region d.place n ≡ false → ltb (length d.rest) n ≡ false
     → read_by_descriptor limits a (nop_pad length_code) c ≡ Ok (a_nop_pad, skip n d)
 unfolding read_by_descriptor nop_pad_at
 read_by_descriptor-nop_pad limits a length_code n c d e holds there = rw (e, holds, there) refl
@@ -243,7 +264,7 @@ read_by_descriptor-nop_pad limits a length_code n c d e holds there = rw (e, hol
 nop_pad_shape : (length_code : ℕ) → length_code < 15 → shape_by 0 length_code ≡ nop_pad length_code
 nop_pad_shape length_code small = rw (ne_eqb length_code 15 (omega arith)) refl
 
-pub IsNopPad-found : (limits : Limits) (a : Around) (q : ℕ) (p : List ℕ) → IsNopPad p → a.wrapped ≡ false → Holds a.region (q + length p) → Finds limits a q a_nop_pad p
+pub IsNopPad-found : (limits : Rules) (a : Around) (q : ℕ) (p : List ℕ) → IsNopPad p → a.wrapped ≡ false → Holds a.region (q + length p) → Finds limits a q a_nop_pad p
 IsNopPad-found limits a q _ (IsNopPad.nop_pad head skipped descriptor) free h =
     let headed = Descriptor-headed 0 (length skipped) head descriptor in
     let shape : shape_of (16 * 0 + headed.length_code) ≡ nop_pad headed.length_code = shape_of-parts 0 headed.length_code (omega (arith, headed.small)) ∙ nop_pad_shape headed.length_code headed.small in
@@ -268,11 +289,11 @@ marker_shape : shape_of 224 ≡ marker
 unfolding shape_of
 marker_shape = refl
 
-read_by_descriptor-marker : (limits : Limits) (a : Around) (q : ℕ) (rest : List ℕ) → a.region ≡ None → read_by_descriptor limits a marker (cursor_at (q + 1) (1 ∷ 0 ∷ 234 ∷ rest)) ≡ Ok (a_marker, cursor_at (q + 4) rest)
+read_by_descriptor-marker : (limits : Rules) (a : Around) (q : ℕ) (rest : List ℕ) → a.region ≡ None → read_by_descriptor limits a marker (cursor_at (q + 1) (1 ∷ 0 ∷ 234 ∷ rest)) ≡ Ok (a_marker, cursor_at (q + 4) rest)
 unfolding read_by_descriptor marker_at
 read_by_descriptor-marker limits a q rest top = let place : q + 1 + 3 ≡ q + 4 = omega arith in rw (top, place) refl
 
-pub marker-found : (limits : Limits) (a : Around) (q : ℕ) → a.wrapped ≡ false → a.region ≡ None → Finds limits a q a_marker (224 ∷ 1 ∷ 0 ∷ 234 ∷ [])
+pub marker-found : (limits : Rules) (a : Around) (q : ℕ) → a.wrapped ≡ false → a.region ≡ None → Finds limits a q a_marker (224 ∷ 1 ∷ 0 ∷ 234 ∷ [])
 marker-found limits a q free top = record {
   first = 224;
   more = 1 ∷ 0 ∷ 234 ∷ [];
@@ -285,15 +306,15 @@ marker-found limits a q free top = record {
 
 -- ---- the headers of containers
 
-begin_at-spelled : (limits : Limits) (a : Around) (k : Kind) (n : ℕ) (c : Cursor) → Suits a (c.place + n) → a.depth < limits.depth → begin_at limits a k n c ≡ Ok (a_container k (c.place + n), c)
+begin_at-spelled : (limits : Rules) (a : Around) (k : Kind) (n : ℕ) (c : Cursor) → Suits a (c.place + n) → a.depth < limits.depth → begin_at limits a k n c ≡ Ok (a_container k (c.place + n), c)
 unfolding begin_at
 begin_at-spelled limits a k n c h deep = rw (passes-not a.region c.place n h.holds, fills-not a c.place n h, lt-leb limits.depth a.depth deep) refl
 
-read_by_descriptor-container : (limits : Limits) (a : Around) (k : Kind) (length_code n : ℕ) (c d : Cursor) → length_at length_code a.region c ≡ Ok (n, d) → read_by_descriptor limits a (container k length_code) c ≡ begin_at limits a k n d
+read_by_descriptor-container : (limits : Rules) (a : Around) (k : Kind) (length_code n : ℕ) (c d : Cursor) → length_at length_code a.region c ≡ Ok (n, d) → read_by_descriptor limits a (container k length_code) c ≡ begin_at limits a k n d
 unfolding read_by_descriptor container_at
 read_by_descriptor-container limits a k length_code n c d e = rw e refl
 
-read_by_descriptor-sorted : (limits : Limits) (a : Around) (n : ℕ) (c d : Cursor) → var_uint_at a.region c ≡ Ok (n, d) → 0 < n → read_by_descriptor limits a sorted c ≡ begin_at limits a kind.Struct n d
+read_by_descriptor-sorted : (limits : Rules) (a : Around) (n : ℕ) (c d : Cursor) → var_uint_at a.region c ≡ Ok (n, d) → 0 < n → read_by_descriptor limits a sorted c ≡ begin_at limits a kind.Struct n d
 unfolding read_by_descriptor sorted_at
 read_by_descriptor-sorted limits a n c d e some = rw (e, ne_eqb n 0 (omega arith)) refl
 
@@ -306,7 +327,7 @@ not_in_order : (t n : ℕ) (head : List ℕ) (headed : Headed t n head) → head
 not_in_order t n head headed other (inl kept) e = other (headed.is ∙ ap (λ l. (16 * t + headed.length_code) ∷ l) kept.1 ∙ ap (λ b. b ∷ []) e)
 not_in_order t n head headed other (inr kept) e = omega arith
 
-pub Header-found : (limits : Limits) (a : Around) (q : ℕ) (k : Kind) (n : ℕ) (header : List ℕ) → Header k n header → Suits a (q + length header + n) → a.depth < limits.depth
+pub Header-found : (limits : Rules) (a : Around) (q : ℕ) (k : Kind) (n : ℕ) (header : List ℕ) → Header k n header → Suits a (q + length header + n) → a.depth < limits.depth
     → Finds limits a q (a_container k (q + length header + n)) header
 Header-found limits a q _ _ _ (Header.plain k n head descriptor other) h deep =
     let headed = Descriptor-headed (type_code k) n head descriptor in

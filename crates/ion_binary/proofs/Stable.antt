@@ -1,10 +1,10 @@
 -- A reading that stops, and not since the bytes end, stops so whatever bytes follow.
-use Rattle.std.proofs.Common.{◌≡◌, ◌≢◌, ℕ, zero, suc, ◌+◌, ◌≤◌, Bool, true, false, ◌||◌, if◌then◌else◌, nat_le, nat_lt, nat_eq, List, [], ◌∷◌, ◌++◌, length, take, Option, Some, None, Result, Ok, Err, refl, sym, ap, ◌∙◌, arith}
+use Rattle.std.proofs.Common.{◌≡◌, ◌≢◌, ℕ, zero, suc, ◌+◌, ◌≤◌, Bool, true, false, not, ◌||◌, if◌then◌else◌, nat_le, nat_lt, nat_eq, List, [], ◌∷◌, ◌++◌, length, take, Option, Some, None, Result, Ok, Err, refl, sym, ap, ◌∙◌, arith}
 use Rattle.std.proofs.lemmas.Bool.{ltb-false, le-ltb}
 use Rattle.std.proofs.lemmas.List.{length-append, take-append-le, drop-append-le}
 use Rattle.ion_meter.specs.declared.fault.Reason.{Reason}
 use Rattle.ion_meter.specs.declared.fault.Reason.TheVariants.{Truncated, BadDescriptor, BadVar, Overrun, BadAnnotation, Float, DepthLimit, ScalarLimit}
-use Rattle.ion_meter.specs.declared.limits.Limits.{Limits}
+use Rattle.ion_meter.specs.declared.profile.Rules.{Rules}
 use Rattle.ion_value.specs.declared.ion_type.Kind.{Kind}
 use Rattle.ion_value.specs.declared.ion_type.Kind.TheVariants as kind
 use Rattle.ion_value.specs.Scalar.{scalar_of_body}
@@ -140,7 +140,7 @@ module _ (more : List ℕ) where
       bind-Grows IsEnd (extend_after more) (extend_after more) _ _ _ _ (length_at-Grows length_code a.region c) (λ n.
       then-Grows IsEnd (extend_after more) _ _ _ (counted-Grows n.0 n.1 _ _ (λ le. rw (skip-extend n.0 n.1 le) (ok (a_nop_pad, skip n.0 n.1)))))
 
-module _ (limits : Limits) (more : List ℕ) where
+module _ (limits : Rules) (more : List ℕ) where
   body_at-Grows : (a : Around) (type_code n : ℕ) (c : Cursor) → Grows IsEnd (extend_after more) (body_at limits a type_code n c) (body_at limits a type_code n (extend more c))
   unfolding body_at
   body_at-Grows a type_code n c =
@@ -190,7 +190,7 @@ module _ (limits : Limits) (more : List ℕ) where
   read_by_descriptor-Grows a sorted c = sorted_at-Grows a c
   read_by_descriptor-Grows a (container k length_code) c = container_at-Grows a k length_code c
   read_by_descriptor-Grows a marker c = marker_at-Grows more a.region c
-  read_by_descriptor-Grows a float c = err Float
+  read_by_descriptor-Grows a (float length_code) c = then-Grows IsEnd (extend_after more) (refuse (not limits.floats) Float) _ _ (scalar_at-Grows a 4 length_code c)
   read_by_descriptor-Grows a (wrapper length_code) c = err BadAnnotation
   read_by_descriptor-Grows a illegal c = err BadDescriptor
 
@@ -301,7 +301,7 @@ step_of-Grows more _ _ (ok s) = step-Grows more s
 step_of-Grows more _ _ (err e) = stops e.0 e.1
 step_of-Grows more _ _ (ended e r is) = rw is (ended_step e.1 (step_of r))
 
-module _ (limits : Limits) (more : List ℕ) where
+module _ (limits : Rules) (more : List ℕ) where
   top_step-Grows : (top : ℕ) (c : Cursor) (rest : List ℕ) → StepGrows more (top_step limits top c rest) (top_step limits top (extend more c) (rest ++ more))
   top_step-Grows top c [] = ends (top_step limits top (extend more c) more)
   top_step-Grows top c (b ∷ rest) = step_of-Grows more _ _ (member_at-Grows limits more [] top c)

@@ -4,7 +4,7 @@ use Rattle.std.proofs.lemmas.Bool.{leb-true, true≢false}
 use Rattle.std.proofs.lemmas.List.{length-append}
 use Rattle.std.proofs.lemmas.Option.{none-some}
 use Rattle.ion_meter.specs.declared.fault.Reason.{Reason}
-use Rattle.ion_meter.specs.declared.limits.Limits.{Limits}
+use Rattle.ion_meter.specs.declared.profile.Rules.{Rules}
 use Rattle.ion_value.specs.declared.ion_type.Kind.{Kind}
 use Rattle.ion_value.specs.Number.{VarUInt}
 use Rattle.ion_value.specs.Value as value
@@ -243,7 +243,7 @@ wrapper_is b length_code e = by_cases (shape_of b) (shape_of-is b) e
     by_cases (Shape.container k m) is e = absurd (cc e)
     by_cases Shape.sorted is e = absurd (cc e)
     by_cases Shape.marker is e = absurd (cc e)
-    by_cases Shape.float is e = absurd (cc e)
+    by_cases (Shape.float m) is e = absurd (cc e)
     by_cases Shape.illegal is e = absurd (cc e)
 
 -- a wrapper's header, from its lengths and its ids, is one that wants just the octets up to the wrapper's end
@@ -279,7 +279,7 @@ module _ (r : Region) (length_code b : ℕ) (start after : Cursor) (w : Wrapped 
       (omega (arith, lengths.long)) (omega (arith, lengths.some_ids)) (omega (arith, lengths.some_rest)) (subst (λ (m : ℕ). VarUInt m lengths.len) size lengths.spells)
       (subst (λ (q : ℕ). Ids q annotations ids.octets) ids_start ids.spells))
 
-module _ (bodies : Bodies) (limits : Limits) (bytes : List ℕ) (path : Path SymbolAt ℕ) (frames : List Frame) (c : Cursor) (at : IsSpelledTo bytes path frames c) where
+module _ (bodies : Bodies) (limits : Rules) (bytes : List ℕ) (path : Path SymbolAt ℕ) (frames : List Frame) (c : Cursor) (at : IsSpelledTo bytes path frames c) where
   module _ (top : ℕ) (f : Option SymbolAt) (y : List ℕ) (start : Cursor) (fits : Fits path (length at.before) top f) (field : FieldIn frames (length at.before) f y)
       (took : Took (region_of frames) c y start) where
     start_inside : InRegion (region_of frames) start.place
@@ -384,6 +384,6 @@ module _ (bodies : Bodies) (limits : Limits) (bytes : List ℕ) (path : Path Sym
   step_in-follows top (frame ∷ others) is is_top = end_or_member top frame others (leb frame.end c.place) is refl is_top
 
 -- each step follows the path so far
-pub step-follows : Bodies → (limits : Limits) (bytes : List ℕ) (path : Path SymbolAt ℕ) (s : State) → At bytes path s → Follows bytes path s.frames s.cursor (step limits s)
+pub step-follows : Bodies → (limits : Rules) (bytes : List ℕ) (path : Path SymbolAt ℕ) (s : State) → At bytes path s → Follows bytes path s.frames s.cursor (step limits s)
 unfolding step
 step-follows bodies limits bytes path s at = step_in-follows bodies limits bytes path s.frames s.cursor at.0 s.top s.frames refl at.1

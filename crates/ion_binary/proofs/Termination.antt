@@ -2,8 +2,8 @@
 use Rattle.std.proofs.Common.{arith, ℕ, zero, suc, ◌+◌, ◌*◌, ◌<◌, ◌≤◌, Bool, true, false, nat_lt, nat_le, nat_eq, not, ◌&&◌, ◌||◌, if◌then◌else◌, List, [], ◌∷◌, length, take, Option, Some, None, Result, Ok, Err}
 use Rattle.std.proofs.lemmas.List.{length-drop}
 use Rattle.ion_meter.specs.declared.fault.Reason.{Reason}
-use Rattle.ion_meter.specs.declared.fault.Reason.TheVariants.{Overrun, Truncated, BadAnnotation, BadDescriptor, ScalarLimit, DepthLimit, AnnotationLimit}
-use Rattle.ion_meter.specs.declared.limits.Limits.{Limits}
+use Rattle.ion_meter.specs.declared.fault.Reason.TheVariants.{Float, Overrun, Truncated, BadAnnotation, BadDescriptor, ScalarLimit, DepthLimit, AnnotationLimit}
+use Rattle.ion_meter.specs.declared.profile.Rules.{Rules}
 use Rattle.ion_value.specs.declared.ion_type.Kind.{Kind}
 use Rattle.ion_value.specs.declared.ion_type.Kind.TheVariants as kind
 use Rattle.ion_value.specs.Scalar.{scalar_of_body}
@@ -95,7 +95,7 @@ nop_pad_at-stays a length_code c =
     (λ n h. then-ok (NoMore TypedValue (length c.rest)) (refuse (passes a.region n.1.place n.0) Overrun) _
     (then-ok (NoMore TypedValue (length c.rest)) (refuse (nat_lt (length n.1.rest) n.0) Truncated) (Ok (a_nop_pad, skip n.0 n.1)) (skipped n.0 (length c.rest) n.1 h)))
 
-body_at-stays : (m : ℕ) (limits : Limits) (a : Around) (type_code n : ℕ) (c : Cursor) → length c.rest ≤ m → Stays m (body_at limits a type_code n c)
+body_at-stays : (m : ℕ) (limits : Rules) (a : Around) (type_code n : ℕ) (c : Cursor) → length c.rest ≤ m → Stays m (body_at limits a type_code n c)
 unfolding body_at
 body_at-stays m limits a type_code n c h =
     then-ok (NoMore TypedValue m) (fits a c.place n) _
@@ -107,7 +107,7 @@ body_at-stays m limits a type_code n c h =
     any (Ok x) = tt
     any (Err e) = tt
 
-begin_at-stays : (m : ℕ) (limits : Limits) (a : Around) (k : Kind) (n : ℕ) (c : Cursor) → length c.rest ≤ m → Stays m (begin_at limits a k n c)
+begin_at-stays : (m : ℕ) (limits : Rules) (a : Around) (k : Kind) (n : ℕ) (c : Cursor) → length c.rest ≤ m → Stays m (begin_at limits a k n c)
 unfolding begin_at
 begin_at-stays m limits a k n c h =
     then-ok (NoMore TypedValue m) (fits a c.place n) _
@@ -119,7 +119,7 @@ marker_at-stays r c =
     then-ok (NoMore TypedValue (length c.rest)) (refuse (not (is_top r)) BadDescriptor) _
     (then-ok (NoMore TypedValue (length c.rest)) (marker_rest c.rest) (Ok (a_marker, skip 3 c)) (skip-no_more 3 c))
 
-read_by_descriptor-stays : (limits : Limits) (a : Around) (s : Shape) (c : Cursor) → Stays (length c.rest) (read_by_descriptor limits a s c)
+read_by_descriptor-stays : (limits : Rules) (a : Around) (s : Shape) (c : Cursor) → Stays (length c.rest) (read_by_descriptor limits a s c)
 unfolding read_by_descriptor scalar_at container_at sorted_at
 read_by_descriptor-stays limits a (null t) c = bare_at-stays a (value.null t) c
 read_by_descriptor-stays limits a (bool truth) c = bare_at-stays a (value.bool truth) c
@@ -135,10 +135,13 @@ read_by_descriptor-stays limits a sorted c =
     bind-ok (Less ℕ (length c.rest)) (NoMore TypedValue (length c.rest)) (var_uint_at a.region c) _ (var_uint_at-less a.region c)
     (λ n h. then-ok (NoMore TypedValue (length c.rest)) (refuse (nat_eq n.0 0) BadDescriptor) _ (begin_at-stays (length c.rest) limits a kind.Struct n.0 n.1 (omega (arith, h))))
 read_by_descriptor-stays limits a marker c = marker_at-stays a.region c
-read_by_descriptor-stays limits a float c = tt
+read_by_descriptor-stays limits a (float length_code) c =
+    then-ok (NoMore TypedValue (length c.rest)) (refuse (not limits.floats) Float) _
+    (bind-ok (NoMore ℕ (length c.rest)) (NoMore TypedValue (length c.rest)) (length_at length_code a.region c) _ (length_at-no_more length_code a.region c)
+    (λ n h. body_at-stays (length c.rest) limits a 4 n.0 n.1 h))
 read_by_descriptor-stays limits a illegal c = tt
 
-pub typed_value_at-stays : (limits : Limits) (a : Around) (b : ℕ) (c : Cursor) → Stays (length c.rest) (typed_value_at limits a b c)
+pub typed_value_at-stays : (limits : Rules) (a : Around) (b : ℕ) (c : Cursor) → Stays (length c.rest) (typed_value_at limits a b c)
 unfolding typed_value_at
 typed_value_at-stays limits a b c =
     then-ok (NoMore TypedValue (length c.rest)) (refuse (a.wrapped && is_unwrappable b) BadAnnotation) _ (read_by_descriptor-stays limits a (shape_of b) c)
@@ -153,7 +156,7 @@ wrapper_at-stays r length_code c =
     (λ ids k. then-ok (NoMore Wrapped (length c.rest)) (refuse (passes r n.1.place n.0) Overrun) _
     (then-ok (NoMore Wrapped (length c.rest)) (refuse (nat_lt n.0 3 || nat_eq ids.0 0 || nat_le (n.1.place + n.0) (ids.1.place + ids.0)) BadAnnotation) _ (omega (arith, h, k)))))
 
-ids_at-stays : (n : ℕ) (limits : Limits) (end count : ℕ) (c : Cursor) → OnOk (NoMore (List SymbolAt) (length c.rest)) (ids_at n limits end count c)
+ids_at-stays : (n : ℕ) (limits : Rules) (end count : ℕ) (c : Cursor) → OnOk (NoMore (List SymbolAt) (length c.rest)) (ids_at n limits end count c)
 unfolding ids_at
 ids_at-stays zero limits end count c = omega arith
 ids_at-stays (suc n) limits end count c =
@@ -198,7 +201,7 @@ step_for-smaller n frames top f annotations place (a_container k end) c h = omeg
 abbrev Shorter : ℕ → Placed (Step State) → Type 0
 Shorter n r = OnOk (Smaller n) r
 
-plain_at-shorter : (n : ℕ) (limits : Limits) (frames : List Frame) (top : ℕ) (f : Option SymbolAt) (place b : ℕ) (c : Cursor)
+plain_at-shorter : (n : ℕ) (limits : Rules) (frames : List Frame) (top : ℕ) (f : Option SymbolAt) (place b : ℕ) (c : Cursor)
     → length c.rest < n → Shorter (2 * n + length frames) (plain_at limits frames top f place b c)
 unfolding plain_at
 plain_at-shorter n limits frames top f place b c h =
@@ -207,7 +210,7 @@ plain_at-shorter n limits frames top f place b c h =
     (part-ok (NoMore TypedValue (length c.rest)) place (typed_value_at limits a b c) (typed_value_at-stays limits a b c))
     (λ v k. step_for-smaller n frames top f [] place v.0 v.1 (omega (arith, h, k)))
 
-inner_at-shorter : (n : ℕ) (limits : Limits) (frames : List Frame) (top : ℕ) (f : Option SymbolAt) (annotations : List SymbolAt) (end : ℕ) (c : Cursor)
+inner_at-shorter : (n : ℕ) (limits : Rules) (frames : List Frame) (top : ℕ) (f : Option SymbolAt) (annotations : List SymbolAt) (end : ℕ) (c : Cursor)
     → length c.rest < n → Shorter (2 * n + length frames) (inner_at limits frames top f annotations end c)
 unfolding inner_at
 inner_at-shorter n limits frames top f annotations end c h =
@@ -218,7 +221,7 @@ inner_at-shorter n limits frames top f annotations end c h =
     (part-ok (NoMore TypedValue (length b.1.rest)) c.place (typed_value_at limits a b.0 b.1) (typed_value_at-stays limits a b.0 b.1))
     (λ v k. step_for-smaller n frames top f annotations c.place v.0 v.1 (omega (arith, h, g, k))))
 
-annotated_at-shorter : (n : ℕ) (limits : Limits) (frames : List Frame) (top : ℕ) (f : Option SymbolAt) (place length_code : ℕ) (c : Cursor)
+annotated_at-shorter : (n : ℕ) (limits : Rules) (frames : List Frame) (top : ℕ) (f : Option SymbolAt) (place length_code : ℕ) (c : Cursor)
     → length c.rest < n → Shorter (2 * n + length frames) (annotated_at limits frames top f place length_code c)
 unfolding annotated_at
 annotated_at-shorter n limits frames top f place length_code c h =
@@ -227,13 +230,13 @@ annotated_at-shorter n limits frames top f place length_code c h =
     (λ w g. bind-ok (NoMore (List SymbolAt) (length w.1.rest)) (Smaller (2 * n + length frames)) (ids_at w.0.ids limits w.0.ids 0 w.1) _ (ids_at-stays w.0.ids limits w.0.ids 0 w.1)
     (λ annotations k. inner_at-shorter n limits frames top f annotations.0 w.0.end annotations.1 (omega (arith, h, g, k))))
 
-by_wrapper-shorter : (n : ℕ) (limits : Limits) (frames : List Frame) (top : ℕ) (f : Option SymbolAt) (place b : ℕ) (c : Cursor) (m : Option ℕ)
+by_wrapper-shorter : (n : ℕ) (limits : Rules) (frames : List Frame) (top : ℕ) (f : Option SymbolAt) (place b : ℕ) (c : Cursor) (m : Option ℕ)
     → length c.rest < n
     → Shorter (2 * n + length frames) (by_wrapper m (λ length_code. annotated_at limits frames top f place length_code c) (plain_at limits frames top f place b c))
 by_wrapper-shorter n limits frames top f place b c None h = plain_at-shorter n limits frames top f place b c h
 by_wrapper-shorter n limits frames top f place b c (Some length_code) h = annotated_at-shorter n limits frames top f place length_code c h
 
-value_at-shorter : (n : ℕ) (limits : Limits) (frames : List Frame) (top : ℕ) (f : Option SymbolAt) (c : Cursor)
+value_at-shorter : (n : ℕ) (limits : Rules) (frames : List Frame) (top : ℕ) (f : Option SymbolAt) (c : Cursor)
     → length c.rest ≤ n → Shorter (2 * n + length frames) (value_at limits frames top f c)
 unfolding value_at
 value_at-shorter n limits frames top f c h =
@@ -241,7 +244,7 @@ value_at-shorter n limits frames top f c h =
     (part-ok (Less ℕ (length c.rest)) c.place (octet_at (region_of frames) c) (octet_at-less (region_of frames) c))
     (λ b k. by_wrapper-shorter n limits frames top f c.place b.0 b.1 (wrapper_length (shape_of b.0)) (omega (arith, h, k)))
 
-member_at-shorter : (limits : Limits) (frames : List Frame) (top : ℕ) (c : Cursor) → Shorter (2 * length c.rest + length frames) (member_at limits frames top c)
+member_at-shorter : (limits : Rules) (frames : List Frame) (top : ℕ) (c : Cursor) → Shorter (2 * length c.rest + length frames) (member_at limits frames top c)
 unfolding member_at
 member_at-shorter limits frames top c =
     bind-ok (NoMore (Option SymbolAt) (length c.rest)) (Smaller (2 * length c.rest + length frames)) (part c.place (field_at frames c)) _
@@ -252,7 +255,7 @@ step_of-smaller : (n : ℕ) (r : Placed (Step State)) → Shorter n r → Smalle
 step_of-smaller n (Ok s) h = h
 step_of-smaller n (Err fault) h = tt
 
-step_in-smaller : (limits : Limits) (frames : List Frame) (top : ℕ) (c : Cursor) → Smaller (2 * length c.rest + length frames) (step_in limits frames top c)
+step_in-smaller : (limits : Rules) (frames : List Frame) (top : ℕ) (c : Cursor) → Smaller (2 * length c.rest + length frames) (step_in limits frames top c)
 step_in-smaller limits [] top c = at_top c.rest
   where
     at_top : (rest : List ℕ) → Smaller (2 * length c.rest + 0) (top_step limits top c rest)
@@ -264,6 +267,6 @@ step_in-smaller limits (f ∷ frames) top c = ended (nat_le f.end c.place)
     ended true = omega arith
     ended false = step_of-smaller (2 * length c.rest + length (f ∷ frames)) (member_at limits (f ∷ frames) top c) (member_at-shorter limits (f ∷ frames) top c)
 
-pub step-shrinks : (limits : Limits) → Shrinks (step limits) size
+pub step-shrinks : (limits : Rules) → Shrinks (step limits) size
 unfolding step
 step-shrinks limits s after leaves = leaves-on (λ t. size t < size s) (step_in limits s.frames s.top s.cursor) after (step_in-smaller limits s.frames s.top s.cursor) leaves

@@ -4,8 +4,8 @@ use Rattle.std.specs.Prelude.{slice_index_or}
 use Rattle.std.proofs.lemmas.Bool.{ltb-false, eqb-true, eqb-false, and_cases, and_parts, not-false, cases_Bool}
 use Rattle.std.proofs.lemmas.List.{length-take}
 use Rattle.ion_meter.specs.declared.fault.Reason.{Reason}
-use Rattle.ion_meter.specs.declared.fault.Reason.TheVariants.{ScalarLimit, DepthLimit, BadDescriptor, BadAnnotation, BadVersion, Overrun, Truncated}
-use Rattle.ion_meter.specs.declared.limits.Limits.{Limits}
+use Rattle.ion_meter.specs.declared.fault.Reason.TheVariants.{ScalarLimit, DepthLimit, BadDescriptor, BadAnnotation, BadVersion, Float, Overrun, Truncated}
+use Rattle.ion_meter.specs.declared.profile.Rules.{Rules}
 use Rattle.ion_value.specs.declared.ion_type.Kind.{Kind}
 use Rattle.ion_value.specs.declared.ion_type.Kind.TheVariants as kind
 use Rattle.ion_value.specs.Scalar.{scalar_of_body}
@@ -31,7 +31,7 @@ IsShape b (Shape.body t length_code) = (b ≡ 16 * t + length_code) × (length_c
 IsShape b (Shape.container k length_code) = (b ≡ 16 * type_code k + length_code) × (length_code < 15) × (b ≢ 209)
 IsShape b Shape.sorted = b ≡ 209
 IsShape b Shape.marker = b ≡ 224
-IsShape b Shape.float = Unit {0}
+IsShape b (Shape.float length_code) = (b ≡ 16 * 4 + length_code) × (length_code < 15)
 IsShape b Shape.illegal = Unit {0}
 
 nulls : (t : ℕ) → IsShape (16 * t + 15) (slice_index_or null_shapes t Shape.illegal)
@@ -73,15 +73,15 @@ wrappers length_code lt =
 sized : (t length_code : ℕ) → length_code < 15 → IsShape (16 * t + length_code) (slice_index_or (sized_shapes length_code) t Shape.illegal)
 sized zero length_code lt = (refl, lt)
 sized (suc zero) length_code lt = bools length_code
-sized (suc (suc zero)) length_code lt = (refl, lt, inl refl)
-sized (suc (suc (suc zero))) length_code lt = (refl, lt, inr (inl refl))
-sized (suc (suc (suc (suc zero)))) length_code lt = tt
-sized (suc (suc (suc (suc (suc zero))))) length_code lt = (refl, lt, inr (inr (inl refl)))
-sized (suc (suc (suc (suc (suc (suc zero)))))) length_code lt = (refl, lt, inr (inr (inr (inl refl))))
-sized (suc (suc (suc (suc (suc (suc (suc zero))))))) length_code lt = (refl, lt, inr (inr (inr (inr (inl refl)))))
-sized (suc (suc (suc (suc (suc (suc (suc (suc zero)))))))) length_code lt = (refl, lt, inr (inr (inr (inr (inr (omega arith, omega arith))))))
-sized (suc (suc (suc (suc (suc (suc (suc (suc (suc zero))))))))) length_code lt = (refl, lt, inr (inr (inr (inr (inr (omega arith, omega arith))))))
-sized (suc (suc (suc (suc (suc (suc (suc (suc (suc (suc zero)))))))))) length_code lt = (refl, lt, inr (inr (inr (inr (inr (omega arith, omega arith))))))
+sized (suc (suc zero)) length_code lt = (refl, lt, (omega arith, omega arith))
+sized (suc (suc (suc zero))) length_code lt = (refl, lt, (omega arith, omega arith))
+sized (suc (suc (suc (suc zero)))) length_code lt = (refl, lt)
+sized (suc (suc (suc (suc (suc zero))))) length_code lt = (refl, lt, (omega arith, omega arith))
+sized (suc (suc (suc (suc (suc (suc zero)))))) length_code lt = (refl, lt, (omega arith, omega arith))
+sized (suc (suc (suc (suc (suc (suc (suc zero))))))) length_code lt = (refl, lt, (omega arith, omega arith))
+sized (suc (suc (suc (suc (suc (suc (suc (suc zero)))))))) length_code lt = (refl, lt, (omega arith, omega arith))
+sized (suc (suc (suc (suc (suc (suc (suc (suc (suc zero))))))))) length_code lt = (refl, lt, (omega arith, omega arith))
+sized (suc (suc (suc (suc (suc (suc (suc (suc (suc (suc zero)))))))))) length_code lt = (refl, lt, (omega arith, omega arith))
 sized (suc (suc (suc (suc (suc (suc (suc (suc (suc (suc (suc zero))))))))))) length_code lt = (refl, lt, λ e. omega (arith, e))
 sized (suc (suc (suc (suc (suc (suc (suc (suc (suc (suc (suc (suc zero)))))))))))) length_code lt = (refl, lt, λ e. omega (arith, e))
 sized (suc (suc (suc (suc (suc (suc (suc (suc (suc (suc (suc (suc (suc zero))))))))))))) length_code lt = structs length_code lt
@@ -166,7 +166,7 @@ nop_pad_at-finds a b length_code c p is lt free h =
       means = (rw is (IsNopPad.nop_pad ((16 * 0 + length_code) ∷ len.octets) body (rw (← body-len) len.spells)), free);
     })
 
-begin_at-finds : (limits : Limits) (a : Around) (b : ℕ) (k : Kind) (c : Cursor) (x : List ℕ) (n : ℕ) (d : Cursor) (p : TypedValue × Cursor)
+begin_at-finds : (limits : Rules) (a : Around) (b : ℕ) (k : Kind) (c : Cursor) (x : List ℕ) (n : ℕ) (d : Cursor) (p : TypedValue × Cursor)
     → Took a.region c x d → Header k n (b ∷ x) → begin_at limits a k n d ≡ Ok p → Finds a b c p
 unfolding begin_at
 begin_at-finds limits a b k c x n d p took header h =
@@ -176,7 +176,7 @@ begin_at-finds limits a b k c x n d p took header h =
     let e : (a_container k (d.place + n), d) ≡ p = ok_is {E = Reason} _ _ m.1 in
     subst (λ (q : TypedValue × Cursor). Finds a b c q) e (record { octets = x; took = took; means = (n, header, refl, rows.0, rows.1) })
 
-container_at-finds : (limits : Limits) (a : Around) (b length_code : ℕ) (k : Kind) (c : Cursor) (p : TypedValue × Cursor)
+container_at-finds : (limits : Rules) (a : Around) (b length_code : ℕ) (k : Kind) (c : Cursor) (p : TypedValue × Cursor)
     → b ≡ 16 * type_code k + length_code → length_code < 15 → b ≢ 209 → container_at limits a k length_code c ≡ Ok p → Finds a b c p
 unfolding container_at
 container_at-finds limits a b length_code k c p is lt other h =
@@ -184,7 +184,7 @@ container_at-finds limits a b length_code k c p is lt other h =
     let len = length_at-taken (type_code k) length_code a.region c n.0 lt n.1 in
     begin_at-finds limits a b k c len.octets n.0.0 n.0.1 p len.took (Header.plain k n.0.0 (b ∷ len.octets) (rw is len.spells) (λ e. other (cc e))) n.2
 
-sorted_at-finds : (limits : Limits) (a : Around) (b : ℕ) (c : Cursor) (p : TypedValue × Cursor) → b ≡ 209 → sorted_at limits a c ≡ Ok p → Finds a b c p
+sorted_at-finds : (limits : Rules) (a : Around) (b : ℕ) (c : Cursor) (p : TypedValue × Cursor) → b ≡ 209 → sorted_at limits a c ≡ Ok p → Finds a b c p
 unfolding sorted_at
 sorted_at-finds limits a b c p is h =
     let n = bind_ok (var_uint_at a.region c) _ p h in
@@ -225,7 +225,7 @@ marker_at-finds a b c p is h =
     })
 
 module _ (bodies : Bodies) where
-  body_at-finds : (limits : Limits) (a : Around) (b t length_code : ℕ) (c : Cursor) (p : TypedValue × Cursor) → b ≡ 16 * t + length_code → length_code < 15 → scalar_at limits a t length_code c ≡ Ok p → Finds a b c p
+  body_at-finds : (limits : Rules) (a : Around) (b t length_code : ℕ) (c : Cursor) (p : TypedValue × Cursor) → b ≡ 16 * t + length_code → length_code < 15 → scalar_at limits a t length_code c ≡ Ok p → Finds a b c p
   unfolding scalar_at body_at
   body_at-finds limits a b t length_code c p is lt h =
       let n = bind_ok (length_at length_code a.region c) _ p h in
@@ -245,7 +245,7 @@ module _ (bodies : Bodies) where
         means = (rw is (Plain.body t v.0 ((16 * t + length_code) ∷ len.octets) body (rw (← body-len) len.spells) ((bodies t v.0 body).1 v.1)), rows.1);
       })
 
-  read_by_descriptor-finds : (limits : Limits) (a : Around) (b : ℕ) (s : Shape) (c : Cursor) (p : TypedValue × Cursor) → IsShape b s → (b < 15 → a.wrapped ≡ false) → read_by_descriptor limits a s c ≡ Ok p → Finds a b c p
+  read_by_descriptor-finds : (limits : Rules) (a : Around) (b : ℕ) (s : Shape) (c : Cursor) (p : TypedValue × Cursor) → IsShape b s → (b < 15 → a.wrapped ≡ false) → read_by_descriptor limits a s c ≡ Ok p → Finds a b c p
   unfolding read_by_descriptor
   read_by_descriptor-finds limits a b (Shape.null t) c p is free h = bare_at-finds a b c (value.null t) p (rw is.2 (Plain.null t is.0 is.1)) h
   read_by_descriptor-finds limits a b (Shape.bool false) c p is free h = bare_at-finds a b c (value.bool false) p (rw is Plain.no) h
@@ -256,11 +256,13 @@ module _ (bodies : Bodies) where
   read_by_descriptor-finds limits a b (Shape.container k length_code) c p is free h = container_at-finds limits a b length_code k c p is.0 is.1 is.2 h
   read_by_descriptor-finds limits a b Shape.sorted c p is free h = sorted_at-finds limits a b c p is h
   read_by_descriptor-finds limits a b Shape.marker c p is free h = marker_at-finds a b c p is h
-  read_by_descriptor-finds limits a b Shape.float c p is free h = not_ok _ _ h
+  read_by_descriptor-finds limits a b (Shape.float length_code) c p is free h =
+      let k = passed (not limits.floats) Float _ p h in
+      body_at-finds limits a b 4 length_code c p is.0 is.1 k.1
   read_by_descriptor-finds limits a b Shape.illegal c p is free h = not_ok _ _ h
 
   -- what is found after a descriptor octet, the octets up to the next cursor spell
-  pub typed_value_at-finds : (limits : Limits) (a : Around) (b : ℕ) (c : Cursor) (p : TypedValue × Cursor) → typed_value_at limits a b c ≡ Ok p → Finds a b c p
+  pub typed_value_at-finds : (limits : Rules) (a : Around) (b : ℕ) (c : Cursor) (p : TypedValue × Cursor) → typed_value_at limits a b c ≡ Ok p → Finds a b c p
   unfolding typed_value_at
   typed_value_at-finds limits a b c p h =
       let k = passed (a.wrapped && is_unwrappable b) BadAnnotation _ p h in

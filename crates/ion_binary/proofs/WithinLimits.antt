@@ -111,6 +111,7 @@ scalar-users : (v : Scalar SymbolAt) → users_of (scalar_symbols v) ≡ scalar_
 scalar-users (value.null type) = refl
 scalar-users (value.bool truth) = refl
 scalar-users (value.int number) = refl
+scalar-users (value.float number) = refl
 scalar-users (value.decimal number) = refl
 scalar-users (value.timestamp moment) = refl
 scalar-users (value.symbol name) = refl

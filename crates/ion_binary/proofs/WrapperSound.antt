@@ -3,7 +3,7 @@ use Rattle.std.proofs.Common.{◌≡◌, ℕ, zero, suc, ◌+◌, ◌-◌, ◌*�
 use Rattle.std.proofs.lemmas.Bool.{ltb-false, leb-false, leb-true, eqb-false, or_parts}
 use Rattle.ion_meter.specs.declared.fault.Reason.{Reason}
 use Rattle.ion_meter.specs.declared.fault.Reason.TheVariants.{Overrun, BadAnnotation, AnnotationLimit}
-use Rattle.ion_meter.specs.declared.limits.Limits.{Limits}
+use Rattle.ion_meter.specs.declared.profile.Rules.{Rules}
 use Rattle.ion_value.specs.declared.ion_type.Kind.{Kind}
 use Rattle.ion_value.specs.declared.ion_type.Kind.TheVariants as kind
 use Rattle.ion_value.specs.Number.{VarUInt}
@@ -95,7 +95,7 @@ some_octets n [] v = absurd v.ends
 some_octets n (x ∷ b) v = omega arith
 
 -- each id takes an octet, so that no more of them come than places are left
-pub ids_at-taken : (n : ℕ) (limits : Limits) (e count : ℕ) (c : Cursor) (o : List SymbolAt × Cursor) → e ≤ c.place + n → ids_at n limits e count c ≡ Ok o → TookIds e c o
+pub ids_at-taken : (n : ℕ) (limits : Rules) (e count : ℕ) (c : Cursor) (o : List SymbolAt × Cursor) → e ≤ c.place + n → ids_at n limits e count c ≡ Ok o → TookIds e c o
 unfolding ids_at
 ids_at-taken zero limits e count c o fuel h =
     subst (λ (o : List SymbolAt × Cursor). TookIds e c o) (ok_is {E = Reason × ℕ} ([], c) o h)

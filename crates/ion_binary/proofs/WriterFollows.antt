@@ -28,6 +28,7 @@ in-range : (body : Scalar SymbolAt) → InRange (map_scalar user_symbol_at body)
 in-range (value.null type) h = h
 in-range (value.bool truth) h = h
 in-range (value.int number) h = h
+in-range (value.float number) h = h
 in-range (value.decimal number) h = h
 in-range (value.timestamp moment) h = h
 in-range (value.symbol name) h = h
@@ -39,6 +40,7 @@ in-range-of-user : (body : Scalar SymbolAt) → InRange body → InRange (map_sc
 in-range-of-user (value.null type) h = h
 in-range-of-user (value.bool truth) h = h
 in-range-of-user (value.int number) h = h
+in-range-of-user (value.float number) h = h
 in-range-of-user (value.decimal number) h = h
 in-range-of-user (value.timestamp moment) h = h
 in-range-of-user (value.symbol name) h = h

@@ -1,5 +1,6 @@
 -- Worked rows of the canonical form, of trees and item by item, by computing.
-use Rattle.std.specs.Prelude.{◌≡◌, refl, ℕ, zero, suc, ◌^◌, ◌-◌, pos, negsuc, Bool, true, false, List, [], ◌∷◌, ◌++◌, Option, Some, None, codes}
+use Rattle.std.specs.Prelude.{◌≡◌, refl, ℕ, zero, suc, ◌^◌, ◌-◌, pos, negsuc, Bool, true, false, List, [], ◌∷◌, ◌++◌, Option, Some, None, codes, from_bits}
+use lib.Ieee.{binary64, fits, of_bits, to_bits}
 use Rattle.ion_meter.specs.declared.fault.Reason.{Reason}
 use Rattle.ion_meter.specs.declared.fault.Reason.TheVariants.{SymbolLimit, ValueLimit}
 use Rattle.ion_meter.specs.declared.limits.Limits.{Limits}
@@ -111,6 +112,14 @@ minus_zero = refl
 plain_zero : octets (scalar (value.decimal (record { negative = false; coefficient = 0; exponent = pos 0 }))) ≡ after_marker (0x50 ∷ [])
 unfolding form
 plain_zero = refl
+
+float_zero : octets (scalar (value.float (from_bits binary64 0))) ≡ after_marker (0x40 ∷ [])
+unfolding form to_bits of_bits fits
+float_zero = refl
+
+float_of_four : octets (scalar (value.float (from_bits binary64 0x3FF8000000000000))) ≡ after_marker (0x44 ∷ 0x3F ∷ 0xC0 ∷ 0 ∷ 0 ∷ [])
+unfolding form to_bits of_bits fits
+float_of_four = refl
 
 a_half_more : octets (scalar (value.decimal (record { negative = false; coefficient = 15; exponent = negsuc 0 }))) ≡ after_marker (0x52 ∷ 0xC1 ∷ 0x0F ∷ [])
 unfolding form

@@ -2,7 +2,7 @@
 use Rattle.std.proofs.Common.{◌≡◌, ℕ, suc, ◌+◌, ◌^◌, ◌<◌, ◌≤◌, Bool, true, false, inl, inr, List, [], ◌∷◌, ◌++◌, length, map, Result, Ok, Err, Option, Some, None, option_map, unwrap_or, if◌then◌else◌, IsUtf8, refl, ap, ap₂, sym, ◌∙◌, subst, append_assoc, append-nil, length-append, arith, codes}
 use Rattle.std.specs.Bool.{⊤}
 use Rattle.std.specs.List.{AllByRecursion}
-use Rattle.ion_meter.specs.declared.limits.Limits.{Limits}
+use Rattle.ion_meter.specs.declared.profile.Rules.{Rules}
 use Rattle.ion_value.specs.declared.ion_type.Kind.{Kind}
 use Rattle.ion_value.specs.declared.ion_type.Kind.TheVariants as kind
 use Rattle.ion_value.specs.Value as value
@@ -57,7 +57,7 @@ given-fit most None (Some m) f g h =
     omega (arith, few, h)
 given-fit most None None f g h = let few = uint-short 0 [] (omega arith) in omega (arith, few)
 
-pub ids-fit : (texts : List (List ℕ)) → length texts ≤ 2 ^ 30 → (limits : Limits) → IdsFit (id_in texts) limits
+pub ids-fit : (texts : List (List ℕ)) → length texts ≤ 2 ^ 30 → (limits : Rules) → IdsFit (id_in texts) limits
 unfolding id_in
 ids-fit texts few limits (Known t) h =
     given-fit limits.scalar (position system_texts t) (position texts t) (λ m e. position-lt system_texts t m e)
@@ -117,6 +117,7 @@ element-scalar : {S T P Q : Type 0} (f : S → T) (g : P → Q) (v : Scalar S) �
 element-scalar f g (value.null t) = refl
 element-scalar f g (value.bool truth) = refl
 element-scalar f g (value.int number) = refl
+element-scalar f g (value.float number) = refl
 element-scalar f g (value.decimal number) = refl
 element-scalar f g (value.timestamp moment) = refl
 element-scalar f g (value.symbol s) = refl
@@ -138,6 +139,7 @@ element-seen : (v : Scalar SymbolAt) → bare_element {S = SymbolAt} {P = ℕ} (
 element-seen (value.null t) = refl
 element-seen (value.bool truth) = refl
 element-seen (value.int number) = refl
+element-seen (value.float number) = refl
 element-seen (value.decimal number) = refl
 element-seen (value.timestamp moment) = refl
 element-seen (value.symbol s) = refl
@@ -232,6 +234,7 @@ a_symbol_scalar id (value.symbol s) e =
 a_symbol_scalar id (value.null t) e = absurd (cc e)
 a_symbol_scalar id (value.bool truth) e = absurd (cc e)
 a_symbol_scalar id (value.int number) e = absurd (cc e)
+a_symbol_scalar id (value.float number) e = absurd (cc e)
 a_symbol_scalar id (value.decimal number) e = absurd (cc e)
 a_symbol_scalar id (value.timestamp moment) e = absurd (cc e)
 a_symbol_scalar id (value.string b) e = absurd (cc e)
@@ -285,6 +288,7 @@ none-above old (member before None [] place (container k inner last)) h above = 
 none-above old (member before None [] place (scalar (value.null t))) h above = absurd h
 none-above old (member before None [] place (scalar (value.bool truth))) h above = absurd h
 none-above old (member before None [] place (scalar (value.int number))) h above = absurd h
+none-above old (member before None [] place (scalar (value.float number))) h above = absurd h
 none-above old (member before None [] place (scalar (value.decimal number))) h above = absurd h
 none-above old (member before None [] place (scalar (value.timestamp moment))) h above = absurd h
 none-above old (member before None [] place (scalar (value.symbol s))) h above = absurd h
@@ -414,27 +418,27 @@ declaration-spelled q t ts h short =
     value-spelled (id_in []) q (Known (codes "$ion_symbol_table") ∷ []) (declaring (t ∷ ts)) (λ s. omega (arith, id_in-lt [] s)) (declaring-writable (t ∷ ts) h) short
 
 -- no text is longer than the limit on scalars
-abbrev pub TextsFit : Limits → List (List ℕ) → Type 0
+abbrev pub TextsFit : Rules → List (List ℕ) → Type 0
 TextsFit limits texts = AllByRecursion (λ t. length t ≤ limits.scalar) texts
 
-strings-fit : (limits : Limits) (depth : ℕ) (before : Members UserSymbol ⊤) (texts : List (List ℕ)) → MembersFit limits depth before → TextsFit limits texts
+strings-fit : (limits : Rules) (depth : ℕ) (before : Members UserSymbol ⊤) (texts : List (List ℕ)) → MembersFit limits depth before → TextsFit limits texts
     → MembersFit limits depth (string_members before texts)
 strings-fit limits depth before [] fits texts = fits
 strings-fit limits depth before (t ∷ ts) fits texts = strings-fit limits depth (member before None [] tt (scalar (value.string t))) ts (fits, omega arith, texts.0) texts.1
 
-table-fits : (limits : Limits) → AllowDeclarations limits → IdFits limits (Known (codes "$ion_symbol_table"))
+table-fits : (limits : Rules) → AllowDeclarations limits → IdFits limits (Known (codes "$ion_symbol_table"))
 table-fits limits allow =
     let one : id_size (system_id (codes "$ion_symbol_table")) ≡ 1 = refl in
     omega (arith, one, allow.scalar)
 
-declaring-fits : (limits : Limits) (texts : List (List ℕ)) → AllowDeclarations limits → TextsFit limits texts → ValueFits limits 0 (declaring texts)
+declaring-fits : (limits : Rules) (texts : List (List ℕ)) → AllowDeclarations limits → TextsFit limits texts → ValueFits limits 0 (declaring texts)
 declaring-fits limits texts allow fits =
     (omega (arith, allow.depth), ((tt, omega arith, table-fits limits allow), omega arith, (omega (arith, allow.depth), strings-fit limits 2 nothing texts tt fits)))
 
 -- what is written of a declaration is one, within limits that allow declarations and its texts
 pub record DeclaredWithin (catalog : List Shared) (old : Table) (q : ℕ) (texts : List (List ℕ)) : Type 0 where
   pub at : IsDeclared catalog old q texts
-  pub fits : (limits : Limits) → AllowDeclarations limits → TextsFit limits texts → BinFits limits 0 at.spells
+  pub fits : (limits : Rules) → AllowDeclarations limits → TextsFit limits texts → BinFits limits 0 at.spells
 
 pub declared-within : (catalog : List Shared) (old : Table) (q : ℕ) (texts : List (List ℕ)) → 0 < length texts → AllByRecursion IsUtf8 texts
     → length (declaration texts) < 2 ^ 62 → DeclaredWithin catalog old q texts

@@ -63,6 +63,7 @@ module _ (t : Table) where
   scalar-stands (value.null type) h = tt
   scalar-stands (value.bool truth) h = tt
   scalar-stands (value.int number) h = tt
+  scalar-stands (value.float number) h = tt
   scalar-stands (value.decimal number) h = tt
   scalar-stands (value.timestamp moment) h = tt
   scalar-stands (value.string bytes) h = tt

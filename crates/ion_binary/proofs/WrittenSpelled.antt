@@ -2,7 +2,7 @@
 use Rattle.std.proofs.Common.{◌≡◌, ◌≢◌, ℕ, suc, ◌+◌, ◌*◌, ◌^◌, ◌<◌, ◌≤◌, Bool, true, false, nat_lt, is_some, if◌then◌else◌, List, [], ◌∷◌, ◌++◌, length, map, Option, Some, None, option_map, refl, ap, ap₂, sym, subst, ◌∙◌, inl, append_assoc, arith, length-append, ltb-true}
 use Rattle.std.proofs.lemmas.List.{length-map}
 use Rattle.std.specs.Bool.{⊤}
-use Rattle.ion_meter.specs.declared.limits.Limits.{Limits}
+use Rattle.ion_meter.specs.declared.profile.Rules.{Rules}
 use Rattle.ion_value.specs.declared.ion_type.IonType.{IonType}
 use Rattle.ion_value.specs.declared.ion_type.IonType.TheVariants as type
 use Rattle.ion_value.specs.declared.ion_type.Kind.{Kind}
@@ -11,8 +11,10 @@ use Rattle.ion_value.specs.declared.int.Int.{Int}
 use Rattle.ion_value.specs.Number.{uint, marked, digits_in, uint_octets, var_uint_octets}
 use Rattle.ion_value.specs.Int.{IsInt}
 use Rattle.ion_value.specs.Decimal.{decimal_body}
+use Rattle.ion_value.specs.FloatOctets.{float_octets}
 use Rattle.ion_value.specs.Timestamp.{timestamp_body}
 use Rattle.ion_value.specs.Name.{raw_id}
+use Rattle.ion_value.specs.ReadingLaws.{IsPermitted}
 use Rattle.ion_value.specs.Scalar as numbered
 use Rattle.ion_value.specs.Standing.{InRange, in_struct}
 use Rattle.ion_value.specs.Value as value
@@ -22,6 +24,7 @@ use Rattle.ion_value.proofs.Octets.{Digits-fewest, digits_in-Digits}
 use Rattle.ion_value.proofs.VarOctets.{var_uint_octets-VarUInt}
 use Rattle.ion_value.proofs.DecimalOctets.{decimal_body-DecimalBody}
 use Rattle.ion_value.proofs.TimestampBodies.{bytes-back}
+use Rattle.ion_float.proofs.OctetLaws.{octets-read}
 use Rattle.ion_binary.specs.Positions.{symbol_id, placed_scalar}
 use Rattle.ion_binary.specs.Grammar.{Descriptor, IsNullOf, Body, Plain, Ids, Field, Header, Wrapper, Annotated, Bin, Inside, type_code}
 use Rattle.ion_binary.specs.Canonical.{annotation_octets, field_octets, header, headed, id_octets, length_octets, members_octets, scalar_octets, value_octets, wrapped}
@@ -98,17 +101,17 @@ null-code type.Sexp = refl
 null-code type.Struct = refl
 
 -- ids are no longer than the limit on scalars where those of their symbols may be so long
-abbrev pub IdsFit : (UserSymbol → ℕ) → Limits → Type 0
+abbrev pub IdsFit : (UserSymbol → ℕ) → Rules → Type 0
 IdsFit ids limits = (s : UserSymbol) → IdFits limits s → length (uint_octets (ids s)) ≤ limits.scalar
 
 -- octets are a scalar, within the limits within which a scalar of a user is
 record PlainAt (ids : UserSymbol → ℕ) (u : Scalar UserSymbol) (v : Scalar Symbol) (x : List ℕ) : Type 0 where
   pub spells : Plain v x
-  pub fits : (limits : Limits) → IdsFit ids limits → ScalarFits limits u → PlainFits limits spells
+  pub fits : (limits : Rules) → IdsFit ids limits → ScalarFits limits u → PlainFits limits spells
 
 -- a body after its header
 headed-Plain : (ids : UserSymbol → ℕ) (u : Scalar UserSymbol) (t : ℕ) (v : Scalar Symbol) (b : List ℕ) → Body t v b → length (headed t b) < 2 ^ 62
-    → ((limits : Limits) → IdsFit ids limits → ScalarFits limits u → length b ≤ limits.scalar) → PlainAt ids u v (headed t b)
+    → ((limits : Rules) → IdsFit ids limits → ScalarFits limits u → (length b ≤ limits.scalar) × IsPermitted limits v) → PlainAt ids u v (headed t b)
 headed-Plain ids u t v b spells short fits = record {
   spells = Plain.body t v (header t (length b)) b (header-Descriptor t (length b) (omega (arith, short, headed-length t b))) spells;
   fits = fits;
@@ -122,10 +125,10 @@ int-Plain : (ids : UserSymbol → ℕ) (sign : Bool) (i : Int) → i.negative �
     → PlainAt ids (value.int i) (value.int i) (headed (if sign then 3 else 2) (uint_octets i.magnitude))
 int-Plain ids true i e range short =
     headed-Plain ids (value.int i) 3 (value.int i) (uint_octets i.magnitude) (Body.negative i (uint_octets i.magnitude) e (sym (uint-back i.magnitude)) range) short
-    (λ limits least fits. fits)
+    (λ limits least fits. (fits, tt))
 int-Plain ids false i e range short =
     headed-Plain ids (value.int i) 2 (value.int i) (uint_octets i.magnitude) (Body.positive i (uint_octets i.magnitude) e (sym (uint-back i.magnitude)) range) short
-    (λ limits least fits. fits)
+    (λ limits least fits. (fits, tt))
 
 symbol-Body : (n : ℕ) → n < 2 ^ 31 → Body 7 (value.symbol (Id n)) (uint_octets n)
 symbol-Body n small =
@@ -141,17 +144,19 @@ scalar-Plain ids (value.null t) small range text short = record { spells = Plain
 scalar-Plain ids (value.bool true) small range text short = record { spells = Plain.yes; fits = λ limits least fits. tt }
 scalar-Plain ids (value.bool false) small range text short = record { spells = Plain.no; fits = λ limits least fits. tt }
 scalar-Plain ids (value.int i) small range text short = int-Plain ids i.negative i refl range short
+scalar-Plain ids (value.float x) small range text short =
+    headed-Plain ids (value.float x) 4 (value.float x) (float_octets x) (Body.float x (float_octets x) (octets-read x range)) short (λ limits least fits. fits)
 scalar-Plain ids (value.decimal d) small range text short =
-    headed-Plain ids (value.decimal d) 5 (value.decimal d) (decimal_body d) (Body.decimal d (decimal_body d) (decimal_body-DecimalBody d range) range) short (λ limits least fits. fits)
+    headed-Plain ids (value.decimal d) 5 (value.decimal d) (decimal_body d) (Body.decimal d (decimal_body d) (decimal_body-DecimalBody d range) range) short (λ limits least fits. (fits, tt))
 scalar-Plain ids (value.timestamp t) small range text short =
     headed-Plain ids (value.timestamp t) 6 (value.timestamp t) (timestamp_body t) (Body.timestamp t (timestamp_body t) (timestamp_of_bytes-body t (timestamp_body t) (bytes-back t range))) short
-    (λ limits least fits. fits)
+    (λ limits least fits. (fits, tt))
 scalar-Plain ids (value.symbol s) small range text short =
     headed-Plain ids (value.symbol s) 7 (value.symbol (Id (ids s))) (uint_octets (ids s)) (symbol-Body (ids s) (small s)) short
-    (λ limits least fits. least s fits)
-scalar-Plain ids (value.string b) small range text short = headed-Plain ids (value.string b) 8 (value.string b) b (Body.string b text) short (λ limits least fits. fits)
-scalar-Plain ids (value.clob b) small range text short = headed-Plain ids (value.clob b) 9 (value.clob b) b (Body.clob b) short (λ limits least fits. fits)
-scalar-Plain ids (value.blob b) small range text short = headed-Plain ids (value.blob b) 10 (value.blob b) b (Body.blob b) short (λ limits least fits. fits)
+    (λ limits least fits. (least s fits, tt))
+scalar-Plain ids (value.string b) small range text short = headed-Plain ids (value.string b) 8 (value.string b) b (Body.string b text) short (λ limits least fits. (fits, tt))
+scalar-Plain ids (value.clob b) small range text short = headed-Plain ids (value.clob b) 9 (value.clob b) b (Body.clob b) short (λ limits least fits. (fits, tt))
+scalar-Plain ids (value.blob b) small range text short = headed-Plain ids (value.blob b) 10 (value.blob b) b (Body.blob b) short (λ limits least fits. (fits, tt))
 
 -- each value has an octet
 headed-some : (t : ℕ) (b : List ℕ) → 0 < length (headed t b)
@@ -164,6 +169,7 @@ scalar-some : (ids : UserSymbol → ℕ) (v : Scalar UserSymbol) → 0 < length 
 scalar-some ids (value.null t) = omega arith
 scalar-some ids (value.bool truth) = omega arith
 scalar-some ids (value.int i) = body-some ids (value.int i)
+scalar-some ids (value.float d) = body-some ids (value.float d)
 scalar-some ids (value.decimal d) = body-some ids (value.decimal d)
 scalar-some ids (value.timestamp t) = body-some ids (value.timestamp t)
 scalar-some ids (value.symbol s) = body-some ids (value.symbol s)
@@ -265,6 +271,7 @@ unplaced : (place : ℕ) (v : Scalar Symbol) → map_scalar bare_symbol (placed_
 unplaced place (value.null t) = refl
 unplaced place (value.bool truth) = refl
 unplaced place (value.int number) = refl
+unplaced place (value.float number) = refl
 unplaced place (value.decimal number) = refl
 unplaced place (value.timestamp moment) = refl
 unplaced place (value.symbol s) = refl
@@ -295,7 +302,7 @@ record MembersAt {P : Type 0} (ids : UserSymbol → ℕ) (k : Kind) (q : ℕ) (m
   pub raw : Members SymbolAt ℕ
   pub spells : Inside k q raw (members_octets ids ms)
   pub are : map_members bare_symbol no_place raw ≡ map_members (with_id ids) no_place ms
-  pub fits : (limits : Limits) (depth : ℕ) → IdsFit ids limits → MembersFit limits depth ms → InsideFits limits depth spells
+  pub fits : (limits : Rules) (depth : ℕ) → IdsFit ids limits → MembersFit limits depth ms → InsideFits limits depth spells
 
 -- so many annotations, and no others
 few-own : (ids : UserSymbol → ℕ) (own : List SymbolAt) (annotations : List UserSymbol) → map bare_symbol own ≡ map (with_id ids) annotations → length own ≡ length annotations
@@ -304,12 +311,12 @@ few-own ids own annotations are = sym (length-map own bare_symbol) ∙ ap length
 -- octets are a value, within the limits within which a value of a user is
 record BinAt {P : Type 0} (ids : UserSymbol → ℕ) (annotations : List UserSymbol) (x : Value UserSymbol P) (q : ℕ) (own : List SymbolAt) (place : ℕ) (raw : Value SymbolAt ℕ) (bytes : List ℕ) : Type 0 where
   pub spells : Bin q own place raw bytes
-  pub fits : (limits : Limits) (depth : ℕ) → IdsFit ids limits → AnnotationsFit limits annotations → ValueFits limits depth x → BinFits limits depth spells
+  pub fits : (limits : Rules) (depth : ℕ) → IdsFit ids limits → AnnotationsFit limits annotations → ValueFits limits depth x → BinFits limits depth spells
 
 -- what is written of a value is spelled, within the limits within which the value is
 pub record SpelledWithin {P : Type 0} (ids : UserSymbol → ℕ) (q : ℕ) (annotations : List UserSymbol) (x : Value UserSymbol P) (bytes : List ℕ) : Type 0 where
   pub at : IsSpelledAt ids q annotations x bytes
-  pub fits : (limits : Limits) (depth : ℕ) → IdsFit ids limits → AnnotationsFit limits annotations → ValueFits limits depth x → BinFits limits depth at.spells
+  pub fits : (limits : Rules) (depth : ℕ) → IdsFit ids limits → AnnotationsFit limits annotations → ValueFits limits depth x → BinFits limits depth at.spells
 
 mutual
   pub value-spelled : {P : Type 0} (ids : UserSymbol → ℕ) (q : ℕ) (annotations : List UserSymbol) (x : Value UserSymbol P) → AreSmall ids → IsWritable x

@@ -7,7 +7,8 @@ use Rattle.std.proofs.lemmas.List.{map-append}
 use Rattle.std.proofs.lemmas.Slice.Eq.{bytes_eq-Decides}
 use Rattle.std.proofs.lemmas.Iterator.Adapters.{option_map_id}
 use Rattle.std.proofs.Math.Seq.{drop-append_seam}
-use Rattle.ion_meter.specs.declared.limits.Limits.{Limits}
+use Rattle.ion_meter.specs.Rules.{rules}
+use Rattle.ion_meter.specs.declared.profile.Rules.{Rules}
 use Rattle.ion_value.specs.declared.ion_type.Kind.TheVariants as kind
 use Rattle.ion_value.specs.Items.{named, text_or_id}
 use Rattle.ion_value.specs.Path.{closed, path_items}
@@ -120,6 +121,7 @@ scalar-then : {A B C : Type 0} (f : B → C) (g : A → B) (v : Scalar A) → ma
 scalar-then f g (value.null t) = refl
 scalar-then f g (value.bool truth) = refl
 scalar-then f g (value.int number) = refl
+scalar-then f g (value.float number) = refl
 scalar-then f g (value.decimal number) = refl
 scalar-then f g (value.timestamp moment) = refl
 scalar-then f g (value.symbol s) = refl
@@ -157,6 +159,7 @@ stay-scalar f (value.symbol s) h = ap (λ x. value.symbol x) h.0
 stay-scalar f (value.null t) h = refl
 stay-scalar f (value.bool truth) h = refl
 stay-scalar f (value.int number) h = refl
+stay-scalar f (value.float number) h = refl
 stay-scalar f (value.decimal number) h = refl
 stay-scalar f (value.timestamp moment) h = refl
 stay-scalar f (value.string b) h = refl
@@ -168,6 +171,7 @@ id-scalar (value.symbol s) = refl
 id-scalar (value.null t) = refl
 id-scalar (value.bool truth) = refl
 id-scalar (value.int number) = refl
+id-scalar (value.float number) = refl
 id-scalar (value.decimal number) = refl
 id-scalar (value.timestamp moment) = refl
 id-scalar (value.string b) = refl
@@ -241,7 +245,7 @@ leads-value catalog t p h own raw none more = rw (none, user_tops) refl
 -- ---- a value more
 
 -- limits allow the declaration of each of these texts
-abbrev AreAllowed : Limits → List (List ℕ) → Type 0
+abbrev AreAllowed : Rules → List (List ℕ) → Type 0
 AreAllowed limits texts = AllByRecursion (λ (t : List ℕ). AllowDeclarations limits) texts
 
 -- the new texts of symbols, which are no longer than limits that the symbols are within, and may be declared where these may
@@ -249,8 +253,8 @@ pub record News (kept all : List (List ℕ)) (ss : List UserSymbol) : Type 0 whe
   pub more : List (List ℕ)
   pub is : all ≡ kept ++ more
   pub texts : AllByRecursion IsUtf8 more
-  pub fits : (limits : Limits) → AllByRecursion (SymbolFits limits) ss → TextsFit limits more
-  pub allowed : (limits : Limits) → AllByRecursion (MayBeDeclared limits) ss → AreAllowed limits more
+  pub fits : (limits : Rules) → AllByRecursion (SymbolFits limits) ss → TextsFit limits more
+  pub allowed : (limits : Rules) → AllByRecursion (MayBeDeclared limits) ss → AreAllowed limits more
 
 no-news : (kept : List (List ℕ)) (ss : List UserSymbol) → News kept kept ss
 no-news kept ss = record { more = []; is = sym (append-nil kept); texts = tt; fits = λ limits h. tt; allowed = λ limits h. tt }
@@ -357,7 +361,7 @@ same-value texts q first place annotations x own h raw k n e =
 
 -- ---- all values, under limits that they are within where that is wanted
 
-module _ (limits : Limits) (Wanted : Type 0) where
+module _ (limits : Rules) (Wanted : Type 0) where
   -- the bytes so far spell a stream, within the limits where that is wanted; these values were written, and the table after them is this one
   record Sofar (catalog : List Shared) (t : Table) (b : List ℕ) (done : List (Top UserSymbol ℕ)) : Type 0 where
     pub raw : List (Top SymbolAt ℕ)
@@ -482,7 +486,7 @@ module _ (limits : Limits) (Wanted : Type 0) where
   }
 
 -- the stream of all values, under any limits
-whole : (limits : Limits) (Wanted : Type 0) (catalog : List Shared) (limit : ℕ) (tops : List (Top UserSymbol ℕ))
+whole : (limits : Rules) (Wanted : Type 0) (catalog : List Shared) (limit : ℕ) (tops : List (Top UserSymbol ℕ))
     → AllByRecursion IsUser tops → (Wanted → AllByRecursion (FitsBinary limits) tops) → AreShort limit [] tops
     → (t : Table) × Sofar limits Wanted catalog t (binary limit tops) tops
 whole limits Wanted catalog limit tops users within short =
@@ -490,7 +494,7 @@ whole limits Wanted catalog limit tops users within short =
 
 pub the_form_is_read : TheFormIsRead
 the_form_is_read catalog limit tops users short =
-    let none : Limits = record { depth = 0; scalar = 0; symbols = 0; value = 0; input = 0 } in
+    let none : Rules = record { depth = 0; scalar = 0; floats = false } in
     let r = (whole none ⊥ catalog limit tops users (λ wanted. absurd wanted) short).1 in
     record {
       raw = r.raw;
@@ -502,9 +506,9 @@ the_form_is_read catalog limit tops users short =
 
 -- what is written of values that fit is read to its end
 pub what_is_written_is_within_limits : Bodies → Shrinking → WhatIsWrittenIsWithinLimits
-what_is_written_is_within_limits bodies shrinks limits us raw checked users within fits stream =
-    let r = (whole limits ⊤ [] limits.symbols us users (λ wanted. fits) (what_is_within_is_short limits us checked within)).1 in
+what_is_written_is_within_limits bodies shrinks limits profile us raw checked users within fits stream =
+    let r = (whole (rules limits profile) ⊤ [] limits.symbols us users (λ wanted. fits) (what_is_within_is_short limits us checked within)).1 in
     let spelled : Stream (binary limits.symbols us) r.raw = record { begins = stream.begins; spells = r.spells } in
     let same : r.raw ≡ raw = one_stream bodies shrinks (binary limits.symbols us) r.raw raw spelled stream in
-    fitting_streams bodies shrinks limits (binary limits.symbols us) r.raw r.spells (r.fits tt)
+    fitting_streams bodies shrinks (rules limits profile) (binary limits.symbols us) r.raw r.spells (r.fits tt)
     ∙ ap (λ (tops : List (Top SymbolAt ℕ)). items_then (path_items (closed tops)) Finished) same

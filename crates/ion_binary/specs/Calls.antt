@@ -3,13 +3,13 @@ use Rattle.std.specs.Prelude.{◌+◌, ◌*◌, ◌<◌, ◌≤◌, List, ℕ, l
 use Rattle.ion_meter.specs.Counts.{Counts}
 use Rattle.ion_meter.specs.declared.device.Input.{Ghosts as InputOf}
 use Rattle.ion_meter.specs.declared.fault.Fault.{Fault}
-use Rattle.ion_meter.specs.declared.limits.Limits.{Limits}
+use Rattle.ion_meter.specs.declared.profile.Rules.{Rules}
 use Rattle.ion_meter.specs.Windows.{Incoming}
 use Rattle.ion_value.specs.Shares.{Charges, ReadCauses, fault_of}
 use Rattle.ion_meter.specs.Sources.{Exceeds, Stands, Moves}
 
 -- whatever it answers, of a value with its annotations
-pub record ReadsValue {I N T : Type 0} (device : InputOf I) (limits : Limits) (old new : Incoming I) (earlier later : Counts) (before text : List ℕ) (annotations : List N) (result : Result T Fault) : Type 0 where
+pub record ReadsValue {I N T : Type 0} (device : InputOf I) (limits : Rules) (old new : Incoming I) (earlier later : Counts) (before text : List ℕ) (annotations : List N) (result : Result T Fault) : Type 0 where
   pub further : OnOk result (old.place < new.place)
   pub stands : OnOk result (Stands new)
   pub moves : Moves device old new

@@ -71,7 +71,7 @@ pub data Shape : Type 0 where
   container : (kind : Kind) → (length_code : ℕ) → Shape
   sorted : Shape
   marker : Shape
-  float : Shape
+  float : (length_code : ℕ) → Shape
   illegal : Shape
 
 -- by type code, where the length code is 15: an int of either sign has the same null, and a wrapper has none
@@ -100,7 +100,7 @@ struct_shape length_code =
 -- by type code, where the length code is not 15
 abbrev pub sized_shapes : ℕ → List Shape
 sized_shapes length_code =
-    nop_pad length_code ∷ bool_shape length_code ∷ body 2 length_code ∷ body 3 length_code ∷ float
+    nop_pad length_code ∷ bool_shape length_code ∷ body 2 length_code ∷ body 3 length_code ∷ float length_code
     ∷ body 5 length_code ∷ body 6 length_code ∷ body 7 length_code ∷ body 8 length_code ∷ body 9 length_code ∷ body 10 length_code
     ∷ container kind.List length_code ∷ container kind.Sexp length_code
     ∷ struct_shape length_code ∷ wrapper_shape length_code ∷ []

@@ -24,5 +24,5 @@ IsOfDescriptor (null type) = Unit {0}
 IsOfDescriptor (bool truth) = Unit {0}
 IsOfDescriptor sorted = Unit {0}
 IsOfDescriptor marker = Unit {0}
-IsOfDescriptor float = Unit {0}
+IsOfDescriptor (float length_code) = length_code < 15
 IsOfDescriptor illegal = Unit {0}

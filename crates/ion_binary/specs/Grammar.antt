@@ -1,6 +1,7 @@
 -- Which bytes spell which values, each with the place of its first byte: the binary form as a grammar.
 use Rattle.std.specs.Prelude.{◌≡◌, ◌≢◌, ℕ, ◌+◌, ◌*◌, ◌^◌, ◌<◌, ◌≤◌, ◌⊎◌, ℤ, true, false, List, [], ◌∷◌, ◌++◌, length, Option, Some, None, IsUtf8}
 use Rattle.std.specs.List.{AllByRecursion, flat_map}
+use lib.Ieee.{Float}
 use Rattle.ion_value.specs.declared.ion_type.IonType.{IonType}
 use Rattle.ion_value.specs.declared.ion_type.IonType.TheVariants as type
 use Rattle.ion_value.specs.declared.ion_type.Kind.{Kind}
@@ -12,6 +13,7 @@ use Rattle.ion_value.specs.declared.timestamp.Precision.TheVariants.{Year, Month
 use Rattle.ion_value.specs.Number.{VarUInt, IsVar, uint, var_uint, var_int_negative, var_int_magnitude, int_negative, int_magnitude, signed}
 use Rattle.ion_value.specs.Int.{IsInt}
 use Rattle.ion_value.specs.Decimal.{DecimalBody, IsDecimal}
+use Rattle.ion_value.specs.FloatOctets.{float_of_octets}
 use Rattle.ion_value.specs.Timestamp.{IsMoment, IsMoved, IsOffset, offset_minutes, is_date, fields}
 use Rattle.ion_value.specs.Name.{raw_id}
 use Rattle.ion_value.specs.Value as value
@@ -76,10 +78,11 @@ pub data TimestampBody : Timestamp → List ℕ → Type 0 where
 
 -- ---- scalars
 
--- the body of a scalar of a type code; there is no negative zero among ints, and any id is a symbol
+-- the body of a scalar of a type code; there is no negative zero among ints, a float has none, four or eight octets, and any id is a symbol
 pub data Body : ℕ → Scalar Symbol → List ℕ → Type 0 where
   positive : (i : Int) (b : List ℕ) → i.negative ≡ false → i.magnitude ≡ uint b → IsInt i → Body 2 (value.int i) b
   negative : (i : Int) (b : List ℕ) → i.negative ≡ true → i.magnitude ≡ uint b → IsInt i → Body 3 (value.int i) b
+  float : (x : Float) (b : List ℕ) → float_of_octets b ≡ Some x → Body 4 (value.float x) b
   decimal : (d : Decimal) (b : List ℕ) → DecimalBody d b → IsDecimal d → Body 5 (value.decimal d) b
   timestamp : (t : Timestamp) (b : List ℕ) → TimestampBody t b → Body 6 (value.timestamp t) b
   symbol : (b : List ℕ) → Body 7 (value.symbol (Id (raw_id (uint b)))) b

@@ -23,7 +23,7 @@ use Rattle.ion_binary.specs.Reading.{TypedValue, field_at, region_of}
 use Rattle.ion_binary.specs.Scanned.{Reaches, window}
 use Rattle.ion_binary.specs.Shown.{ShowsItem, ShowsValue, around_after}
 use Rattle.ion_binary.specs.Descriptor.{Shape, shape_of}
-use Rattle.ion_meter.specs.declared.limits.Limits.{Limits}
+use Rattle.ion_meter.specs.declared.profile.Rules.{Rules}
 use Rattle.ion_binary.specs.declared.reader.BinReader.{BinReader}
 use Rattle.ion_binary.specs.declared.reader.front.Around.{Around}
 use Rattle.ion_binary.specs.declared.reader.front.Front.{Front}
@@ -129,7 +129,7 @@ abbrev pub notes_of : Front → List SymbolAt
 notes_of f = with_second (listed (option_map placed_text f.annotation)) f.second
 
 -- octets show what stands in front of a head: a field's name, and after that a wrapper with an annotation or two, or nothing; a value that is shown after it is one with this field and these annotations
-pub record ShowsFront (texts : ℕ → Option (List ℕ)) (limits : Limits) (octets : List ℕ) (here : ℕ) (frames : List Frame) (f : Front) : Type 0 where
+pub record ShowsFront (texts : ℕ → Option (List ℕ)) (limits : Rules) (octets : List ℕ) (here : ℕ) (frames : List Frame) (f : Front) : Type 0 where
   pub name : ShowsField texts octets here frames f.field f.at
   pub raws : List SymbolAt
   pub named : map (named_at texts) raws ≡ notes_of f

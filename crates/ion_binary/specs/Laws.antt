@@ -2,8 +2,8 @@
 use Rattle.std.specs.Prelude.{◌≡◌, ◌≢◌, ℕ, ◌+◌, ◌*◌, ◌<◌, ◌≤◌, ◌⊎◌, List, [], ◌∷◌, ◌++◌, length, Option, Ok, ⊤}
 use Rattle.std.specs.List.{AllByRecursion}
 use Rattle.ion_meter.specs.declared.fault.Reason.{Reason}
-use Rattle.ion_meter.specs.declared.fault.Reason.TheVariants.{Truncated, DepthLimit, ScalarLimit, AnnotationLimit}
-use Rattle.ion_meter.specs.declared.limits.Limits.{Limits}
+use Rattle.ion_meter.specs.declared.fault.Reason.TheVariants.{Truncated, Float, DepthLimit, ScalarLimit, AnnotationLimit}
+use Rattle.ion_meter.specs.declared.profile.Rules.{Rules}
 use Rattle.ion_value.specs.declared.ion_type.Kind.{Kind}
 use Rattle.ion_value.specs.Number.{VarUInt}
 use Rattle.ion_value.specs.Scalar.{scalar_of_body}
@@ -11,7 +11,7 @@ use Rattle.ion_value.specs.Standing.{open_after_all}
 use Rattle.ion_value.specs.Value.{Symbol, SymbolAt, Scalar, Top, PlacedItem}
 use Rattle.ion_value.specs.Path.{Path, closed, path_items}
 use Rattle.ion_value.specs.Reading.{Reading, Finished, Stopped, Shrinks, items_of, items_then}
-use Rattle.ion_value.specs.ReadingLaws.{ending_of, IsLimit, Allows, AreWithin, IsBegun}
+use Rattle.ion_value.specs.ReadingLaws.{ending_of, IsLimit, Allows, ArePermitted, AreWithin, IsBegun}
 use Rattle.ion_value.specs.Writable.{AreBytes, IsRaw}
 use Rattle.ion_binary.specs.Bodies.{IsBodyTypeCode}
 use Rattle.ion_binary.specs.Grammar.{Descriptor, Body, Ids, Header, Annotated, Tops, Stream}
@@ -33,41 +33,49 @@ pub record IsRead (bytes : List ℕ) (r : Reading) : Type 0 where
 
 -- so it is of all bytes, under all limits
 abbrev pub Sound : Type 0
-Sound = (limits : Limits) (bytes : List ℕ) → IsRead bytes (reading limits bytes)
+Sound = (limits : Rules) (bytes : List ℕ) → IsRead bytes (reading limits bytes)
 
 -- a step from where the bytes before it spell a path gives an item and the path with it, or it keeps the path; it ends where nothing is open and
 -- nothing is left
 abbrev pub EachStepFollows : Type 0
-EachStepFollows = (limits : Limits) (bytes : List ℕ) (path : Path SymbolAt ℕ) (s : State) → At bytes path s → Follows bytes path s.frames s.cursor (step limits s)
+EachStepFollows = (limits : Rules) (bytes : List ℕ) (path : Path SymbolAt ℕ) (s : State) → At bytes path s → Follows bytes path s.frames s.cursor (step limits s)
 
 -- each step takes an octet or closes a container
 abbrev pub EachStepFalls : Type 0
-EachStepFalls = (limits : Limits) → Shrinks (step limits) size
+EachStepFalls = (limits : Rules) → Shrinks (step limits) size
 
 -- whatever path the bytes have, its items are read first where the limits allow them
 abbrev pub Complete : Type 0
 Complete =
-    (limits : Limits) (bytes : List ℕ) (q : ℕ) (path : Path SymbolAt ℕ) → Allows limits bytes → IsPath bytes q path
+    (limits : Rules) (bytes : List ℕ) (q : ℕ) (path : Path SymbolAt ℕ) → Allows limits bytes → IsPath bytes q path
+    → ArePermitted limits (path_items path)
     → (rest : Reading) × (reading limits bytes ≡ items_then (path_items path) rest)
 
 -- and a stream is read to its end
 abbrev pub StreamsAreRead : Type 0
 StreamsAreRead =
-    (limits : Limits) (bytes : List ℕ) (ts : List (Top SymbolAt ℕ)) → Allows limits bytes → Tops ts bytes
+    (limits : Rules) (bytes : List ℕ) (ts : List (Top SymbolAt ℕ)) → Allows limits bytes → Tops ts bytes
+    → ArePermitted limits (path_items (closed ts))
     → reading limits bytes ≡ items_then (path_items (closed ts)) Finished
 
 -- the values of a stream of bytes are as streams have them: their numbers are in range, strings are text, and clobs and blobs bytes
 abbrev pub StreamsAreRaw : Type 0
 StreamsAreRaw = (bytes : List ℕ) (tops : List (Top SymbolAt ℕ)) → AreBytes bytes → Stream bytes tops → AllByRecursion IsRaw tops
 
--- a reading is a prefix of another, up to a limit's fault
-pub data IsCut : Reading → Reading → Type 0 where
-  here : (reason : Reason) (place : ℕ) (r : Reading) → IsLimit reason → IsCut (Stopped reason place) r
-  later : (item : PlacedItem) (r s : Reading) → IsCut r s → IsCut (Reading.More item r) (Reading.More item s)
+-- a fault of rules that are narrower than others: a limit's, or that of floats where the others permit them
+abbrev pub IsNarrower : Rules → Rules → Reason → Type 0
+IsNarrower limits wide reason = IsLimit reason ⊎ ((reason ≡ Float) × (limits.floats ≢ wide.floats))
 
--- narrower limits change nothing, or cut the reading short by a limit's fault
+-- a reading is a prefix of another, up to such a fault
+pub data IsCut (limits wide : Rules) : Reading → Reading → Type 0 where
+  here : (reason : Reason) (place : ℕ) (r : Reading) → IsNarrower limits wide reason → IsCut limits wide (Stopped reason place) r
+  later : (item : PlacedItem) (r s : Reading) → IsCut limits wide r s → IsCut limits wide (Reading.More item r) (Reading.More item s)
+
+-- narrower rules change nothing, or cut the reading short by such a fault
 abbrev pub Narrow : Type 0
-Narrow = (limits wide : Limits) (bytes : List ℕ) → AreWithin limits wide → (reading limits bytes ≡ reading wide bytes) ⊎ IsCut (reading limits bytes) (reading wide bytes)
+Narrow =
+    (limits wide : Rules) (bytes : List ℕ) → AreWithin limits wide
+    → (reading limits bytes ≡ reading wide bytes) ⊎ IsCut limits wide (reading limits bytes) (reading wide bytes)
 
 -- of two paths of the same bytes the items of one begin the other's
 abbrev pub OnePath : Type 0
@@ -79,25 +87,26 @@ OnePath =
 abbrev pub OneStream : Type 0
 OneStream = (bytes : List ℕ) (a b : List (Top SymbolAt ℕ)) → Stream bytes a → Stream bytes b → a ≡ b
 
--- where a reading stops, and not at a limit, the bytes are no stream
+-- where a reading stops, and not at a limit, the bytes are no stream of values that the rules permit
 abbrev pub RightlyRefused : Type 0
 RightlyRefused =
-    (limits : Limits) (bytes : List ℕ) (reason : Reason) (place : ℕ) (ts : List (Top SymbolAt ℕ))
-    → ending_of (reading limits bytes) ≡ Stopped reason place → (IsLimit reason → ⊥) → Stream bytes ts → ⊥
+    (limits : Rules) (bytes : List ℕ) (reason : Reason) (place : ℕ) (ts : List (Top SymbolAt ℕ))
+    → ending_of (reading limits bytes) ≡ Stopped reason place → (IsLimit reason → ⊥) → Stream bytes ts
+    → ArePermitted limits (path_items (closed ts)) → ⊥
 
 -- a reading that stops, and not since the bytes end, stops so whatever bytes follow
 abbrev pub Stable : Type 0
 Stable =
-    (limits : Limits) (bytes more : List ℕ) (items : List PlacedItem) (reason : Reason) (place : ℕ)
+    (limits : Rules) (bytes more : List ℕ) (items : List PlacedItem) (reason : Reason) (place : ℕ)
     → reading limits bytes ≡ items_then items (Stopped reason place) → reason ≢ Truncated
     → reading limits (bytes ++ more) ≡ items_then items (Stopped reason place)
 
--- and then, where the reason is no limit's either, no stream begins with the bytes
+-- and then, where the reason is no limit's either, no such stream begins with the bytes
 abbrev pub NoStreamBegins : Type 0
 NoStreamBegins =
-    (limits : Limits) (bytes more : List ℕ) (reason : Reason) (place : ℕ) (ts : List (Top SymbolAt ℕ))
+    (limits : Rules) (bytes more : List ℕ) (reason : Reason) (place : ℕ) (ts : List (Top SymbolAt ℕ))
     → ending_of (reading limits bytes) ≡ Stopped reason place → (IsLimit reason → ⊥) → reason ≢ Truncated
-    → Stream (bytes ++ more) ts → ⊥
+    → Stream (bytes ++ more) ts → ArePermitted limits (path_items (closed ts)) → ⊥
 
 -- a place is before the end of the innermost open container
 abbrev pub IsBefore : List Frame → ℕ → Type 0
@@ -126,7 +135,7 @@ pub record BeginNext (s : State) (place : ℕ) (x : List ℕ) : Type 0 where
 
 -- an annotation of the next wrapper, after others, within the length of its ids, after which it has room for a value: the first with which they
 -- cost more than the limit, each counting 16
-pub record PassesLimit (limits : Limits) (s : State) (place : ℕ) : Type 0 where
+pub record PassesLimit (limits : Rules) (s : State) (place : ℕ) : Type 0 where
   pub first : ℕ
   pub size : ℕ
   pub ids_size : ℕ
@@ -149,7 +158,7 @@ pub record PassesLimit (limits : Limits) (s : State) (place : ℕ) : Type 0 wher
 
 -- a limit is passed where a reading stands, at a place of the next value: by the header of one more container, by the descriptor of a
 -- scalar that announces a longer body, or by an annotation
-pub data Passes (limits : Limits) (s : State) (place : ℕ) : Reason → Type 0 where
+pub data Passes (limits : Rules) (s : State) (place : ℕ) : Reason → Type 0 where
   container : (k : Kind) (n : ℕ) (header : List ℕ) → BeginNext s place header → Header k n header → limits.depth ≤ length s.frames
       → Passes limits s place DepthLimit
   body : (t n : ℕ) (head : List ℕ) → BeginNext s place head → Descriptor t n head → IsBodyTypeCode t → limits.scalar < n
@@ -157,7 +166,7 @@ pub data Passes (limits : Limits) (s : State) (place : ℕ) : Reason → Type 0 
   annotation : PassesLimit limits s place → Passes limits s place AnnotationLimit
 
 -- a reading stops after a path, where so many containers are open, since a limit is passed there
-pub record StopsAtLimit (limits : Limits) (bytes : List ℕ) (reason : Reason) (place : ℕ) : Type 0 where
+pub record StopsAtLimit (limits : Rules) (bytes : List ℕ) (reason : Reason) (place : ℕ) : Type 0 where
   pub path : Path SymbolAt ℕ
   pub state : State
   pub stands : At bytes path state
@@ -168,19 +177,19 @@ pub record StopsAtLimit (limits : Limits) (bytes : List ℕ) (reason : Reason) (
 -- a reading stops at a limit only where it is passed
 abbrev pub ExactLimits : Type 0
 ExactLimits =
-    (limits : Limits) (bytes : List ℕ) (reason : Reason) (place : ℕ)
+    (limits : Rules) (bytes : List ℕ) (reason : Reason) (place : ℕ)
     → ending_of (reading limits bytes) ≡ Stopped reason place → IsLimit reason → StopsAtLimit limits bytes reason place
 
--- a stream that passes no limit at any place is read to its end
+-- a stream that passes no limit at any place, of values that the rules permit, is read to its end
 abbrev pub WithinLimitsAreRead : Type 0
 WithinLimitsAreRead =
-    (limits : Limits) (bytes : List ℕ) (tops : List (Top SymbolAt ℕ)) → Stream bytes tops
+    (limits : Rules) (bytes : List ℕ) (tops : List (Top SymbolAt ℕ)) → Stream bytes tops → ArePermitted limits (path_items (closed tops))
     → ((path : Path SymbolAt ℕ) (s : State) (reason : Reason) (place : ℕ) → At bytes path s → Passes limits s place reason → ⊥)
     → reading limits bytes ≡ items_then (path_items (closed tops)) Finished
 
 -- and one that passes a limit at some place is not: its reading stops at a limit
 abbrev pub PassedLimitsStop : Type 0
 PassedLimitsStop =
-    (limits : Limits) (bytes : List ℕ) (tops : List (Top SymbolAt ℕ)) (path : Path SymbolAt ℕ) (s : State) (reason : Reason) (place : ℕ)
-    → Stream bytes tops → At bytes path s → Passes limits s place reason
+    (limits : Rules) (bytes : List ℕ) (tops : List (Top SymbolAt ℕ)) (path : Path SymbolAt ℕ) (s : State) (reason : Reason) (place : ℕ)
+    → Stream bytes tops → ArePermitted limits (path_items (closed tops)) → At bytes path s → Passes limits s place reason
     → (why : Reason) × (stop : ℕ) × (ending_of (reading limits bytes) ≡ Stopped why stop) × IsLimit why

@@ -2,7 +2,7 @@
 use Rattle.std.specs.Prelude.{ℕ, zero, suc, ◌+◌, ◌*◌, Bool, true, false, not, ◌&&◌, ◌||◌, ◌==◌, nat_le, nat_lt, nat_eq, if◌then◌else◌, List, [], ◌∷◌, length, take, Option, Some, None, Result, Ok, Err}
 use Rattle.ion_meter.specs.declared.fault.Reason.{Reason}
 use Rattle.ion_meter.specs.declared.fault.Reason.TheVariants.{Truncated, BadDescriptor, BadVersion, BadAnnotation, Overrun, Float, DepthLimit, ScalarLimit, AnnotationLimit}
-use Rattle.ion_meter.specs.declared.limits.Limits.{Limits}
+use Rattle.ion_meter.specs.declared.profile.Rules.{Rules}
 use Rattle.ion_value.specs.declared.ion_type.Kind.{Kind}
 use Rattle.ion_value.specs.declared.ion_type.Kind.TheVariants as kind
 use Rattle.ion_value.specs.Scalar.{scalar_of_body}
@@ -70,7 +70,7 @@ nop_pad_at a length_code c = do
   Ok (a_nop_pad, skip n.0 n.1)
 
 -- a scalar whose body has n octets
-unfoldable pub body_at : Limits → Around → ℕ → ℕ → Cursor → Result (TypedValue × Cursor) Reason
+unfoldable pub body_at : Rules → Around → ℕ → ℕ → Cursor → Result (TypedValue × Cursor) Reason
 body_at limits a type_code n c = do
   fits a c.place n
   refuse (nat_lt limits.scalar n) ScalarLimit
@@ -79,34 +79,34 @@ body_at limits a type_code n c = do
   Ok (a_scalar v, skip n c)
 
 -- a scalar after its descriptor octet: its length, and then its body
-unfoldable pub scalar_at : Limits → Around → ℕ → ℕ → Cursor → Result (TypedValue × Cursor) Reason
+unfoldable pub scalar_at : Rules → Around → ℕ → ℕ → Cursor → Result (TypedValue × Cursor) Reason
 scalar_at limits a type_code length_code c = do
   n ← length_at length_code a.region c
   body_at limits a type_code n.0 n.1
 
 -- a container whose members have n octets
-unfoldable pub begin_at : Limits → Around → Kind → ℕ → Cursor → Result (TypedValue × Cursor) Reason
+unfoldable pub begin_at : Rules → Around → Kind → ℕ → Cursor → Result (TypedValue × Cursor) Reason
 begin_at limits a k n c = do
   fits a c.place n
   refuse (nat_le limits.depth a.depth) DepthLimit
   Ok (a_container k (c.place + n), c)
 
 -- a container's beginning after its descriptor octet: its length, which tells its end
-unfoldable pub container_at : Limits → Around → Kind → ℕ → Cursor
+unfoldable pub container_at : Rules → Around → Kind → ℕ → Cursor
     → Result (TypedValue × Cursor) Reason
 container_at limits a k length_code c = do
   n ← length_at length_code a.region c
   begin_at limits a k n.0 n.1
 
 -- the beginning of a struct whose fields are in order, after its descriptor octet: its length is a VarUInt other than 0
-unfoldable pub sorted_at : Limits → Around → Cursor → Result (TypedValue × Cursor) Reason
+unfoldable pub sorted_at : Rules → Around → Cursor → Result (TypedValue × Cursor) Reason
 sorted_at limits a c = do
   n ← var_uint_at a.region c
   refuse (nat_eq n.0 0) BadDescriptor
   begin_at limits a kind.Struct n.0 n.1
 
 -- the part after its descriptor octet, by what that says
-unfoldable pub read_by_descriptor : Limits → Around → Shape → Cursor
+unfoldable pub read_by_descriptor : Rules → Around → Shape → Cursor
     → Result (TypedValue × Cursor) Reason
 read_by_descriptor limits a (null t) c = bare_at a (value.null t) c
 read_by_descriptor limits a (bool truth) c = bare_at a (value.bool truth) c
@@ -116,12 +116,14 @@ read_by_descriptor limits a (body type_code length_code) c =
 read_by_descriptor limits a sorted c = sorted_at limits a c
 read_by_descriptor limits a (container k length_code) c = container_at limits a k length_code c
 read_by_descriptor limits a marker c = marker_at a.region c
-read_by_descriptor limits a float c = Err Float
+read_by_descriptor limits a (float length_code) c = do
+  refuse (not limits.floats) Float
+  scalar_at limits a 4 length_code c
 read_by_descriptor limits a (wrapper length_code) c = Err BadAnnotation
 read_by_descriptor limits a illegal c = Err BadDescriptor
 
 -- after its descriptor octet
-unfoldable pub typed_value_at : Limits → Around → ℕ → Cursor → Result (TypedValue × Cursor) Reason
+unfoldable pub typed_value_at : Rules → Around → ℕ → Cursor → Result (TypedValue × Cursor) Reason
 typed_value_at limits a b c = do
   refuse (a.wrapped && is_unwrappable b) BadAnnotation
   read_by_descriptor limits a (shape_of b) c
@@ -145,7 +147,7 @@ wrapper_at r length_code c = do
 -- ---- an item
 
 -- the ids of a wrapper up to their end, each counted as 16 with those before it; the first number is how many there are at most
-unfoldable pub ids_at : ℕ → Limits → ℕ → ℕ → Cursor → Placed (List SymbolAt × Cursor)
+unfoldable pub ids_at : ℕ → Rules → ℕ → ℕ → Cursor → Placed (List SymbolAt × Cursor)
 ids_at zero limits end count c = Ok ([], c)
 ids_at (suc most) limits end count c =
     if nat_le end c.place then Ok ([], c)
@@ -189,20 +191,20 @@ step_for frames top f annotations place (a_container k end) c =
     Gives (placed_item top f annotations place (value.begin k)) (record { frames = record { kind = k; end = end } ∷ frames; top = top; cursor = c })
 
 -- a value after its field, and after its descriptor octet
-unfoldable pub plain_at : Limits → List Frame → ℕ → Option SymbolAt → ℕ → ℕ → Cursor → Placed (Step State)
+unfoldable pub plain_at : Rules → List Frame → ℕ → Option SymbolAt → ℕ → ℕ → Cursor → Placed (Step State)
 plain_at limits frames top f place b c = do
   v ← part place (typed_value_at limits (record { wrapped = false; region = region_of frames; depth = length frames }) b c)
   Ok (step_for frames top f [] place v.0 v.1)
 
 -- the value in a wrapper that ends at a place
-unfoldable pub inner_at : Limits → List Frame → ℕ → Option SymbolAt → List SymbolAt → ℕ → Cursor → Placed (Step State)
+unfoldable pub inner_at : Rules → List Frame → ℕ → Option SymbolAt → List SymbolAt → ℕ → Cursor → Placed (Step State)
 inner_at limits frames top f annotations end c = do
   b ← part c.place (octet_at (Some end) c)
   v ← part c.place (typed_value_at limits (record { wrapped = true; region = Some end; depth = length frames }) b.0 b.1)
   Ok (step_for frames top f annotations c.place v.0 v.1)
 
 -- a wrapper and its value, after its descriptor octet
-unfoldable pub annotated_at : Limits → List Frame → ℕ → Option SymbolAt → ℕ → ℕ → Cursor → Placed (Step State)
+unfoldable pub annotated_at : Rules → List Frame → ℕ → Option SymbolAt → ℕ → ℕ → Cursor → Placed (Step State)
 annotated_at limits frames top f place length_code c = do
   w ← part place (wrapper_at (region_of frames) length_code c)
   annotations ← ids_at w.0.ids limits w.0.ids 0 w.1
@@ -218,7 +220,7 @@ wrapper_length (body type_code length_code) = None
 wrapper_length (container k length_code) = None
 wrapper_length sorted = None
 wrapper_length marker = None
-wrapper_length float = None
+wrapper_length (float length_code) = None
 wrapper_length illegal = None
 
 -- one of two, by the length code of a wrapper: the first where there is a wrapper, which gets the code, and else the second
@@ -227,7 +229,7 @@ by_wrapper None annotated plain = plain
 by_wrapper (Some length_code) annotated plain = annotated length_code
 
 -- what stands after a field, as a step: a value with or without annotations, a NOP pad, or a version marker
-unfoldable pub value_at : Limits → List Frame → ℕ → Option SymbolAt → Cursor → Placed (Step State)
+unfoldable pub value_at : Rules → List Frame → ℕ → Option SymbolAt → Cursor → Placed (Step State)
 value_at limits frames top f c = do
   b ← part c.place (octet_at (region_of frames) c)
   by_wrapper (wrapper_length (shape_of b.0)) (λ length_code. annotated_at limits frames top f c.place length_code b.1) (plain_at limits frames top f c.place b.0 b.1)
@@ -238,7 +240,7 @@ top_of [] top place = place
 top_of (f ∷ frames) top place = top
 
 -- a member of a container, or what stands at top level, as a step: its field, where it has one, and then what `value_at` reads
-unfoldable pub member_at : Limits → List Frame → ℕ → Cursor → Placed (Step State)
+unfoldable pub member_at : Rules → List Frame → ℕ → Cursor → Placed (Step State)
 member_at limits frames top c = do
   f ← part c.place (field_at frames c)
   value_at limits frames (top_of frames top c.place) f.0 f.1
@@ -251,19 +253,19 @@ step_of (Ok s) = s
 step_of (Err fault) = Stops fault.0 fault.1
 
 -- the stream ends where its bytes do
-abbrev pub top_step : Limits → ℕ → Cursor → List ℕ → Step State
+abbrev pub top_step : Rules → ℕ → Cursor → List ℕ → Step State
 top_step limits top c [] = Ends
 top_step limits top c (b ∷ bytes) = step_of (member_at limits [] top c)
 
 -- and a container where its region does
-abbrev pub step_in : Limits → List Frame → ℕ → Cursor → Step State
+abbrev pub step_in : Rules → List Frame → ℕ → Cursor → Step State
 step_in limits [] top c = top_step limits top c c.rest
 step_in limits (f ∷ frames) top c =
     if nat_le f.end c.place then Gives (placed_item top None [] c.place value.end) (record { frames = frames; top = top; cursor = c })
     else step_of (member_at limits (f ∷ frames) top c)
 
 -- what the reading does next at a state, under limits
-unfoldable pub step : Limits → State → Step State
+unfoldable pub step : Rules → State → Step State
 step limits s = step_in limits s.frames s.top s.cursor
 
 -- each step takes an octet or closes a container, and an octet opens at most one
@@ -275,7 +277,7 @@ abbrev pub start_at : Cursor → State
 start_at c = record { frames = []; top = 0; cursor = c }
 
 -- all that a reader gives from here on
-abbrev pub reading_from : Limits → Cursor → Reading
+abbrev pub reading_from : Rules → Cursor → Reading
 reading_from limits c = reading_by (step limits) size (start_at c)
 
 -- the state before the first of these bytes, at place 0
@@ -283,5 +285,5 @@ abbrev pub start : List ℕ → State
 start bytes = start_at (record { place = 0; rest = bytes })
 
 -- all that a reader gives of these bytes
-unfoldable pub reading : Limits → List ℕ → Reading
+unfoldable pub reading : Rules → List ℕ → Reading
 reading limits bytes = reading_by (step limits) size (start bytes)

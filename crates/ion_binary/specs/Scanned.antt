@@ -1,11 +1,11 @@
 -- What scanners say of octets that stand at a place of the stream, whatever octets follow them.
-use Rattle.std.specs.Prelude.{◌≡◌, ℕ, ◌+◌, ◌-◌, ◌^◌, ◌<◌, ◌≤◌, Bool, true, false, not, ◌&&◌, ◌||◌, nat_le, nat_lt, nat_eq, List, [], ◌++◌, length, Option, Some, None, Result, Ok, Err, ⊤}
+use Rattle.std.specs.Prelude.{◌≡◌, ℕ, ◌+◌, ◌-◌, ◌^◌, ◌<◌, ◌≤◌, Bool, true, false, not, ◌&&◌, ◌||◌, nat_le, nat_lt, nat_eq, if◌then◌else◌, List, [], ◌++◌, length, Option, Some, None, Result, Ok, Err, ⊤}
 use Rattle.ion_meter.specs.declared.device.Input.{Ghosts as InputOf}
 use Rattle.ion_meter.specs.declared.fault.Fault as faults
 use Rattle.ion_meter.specs.declared.fault.Fault.TheVariants.{Refused}
 use Rattle.ion_meter.specs.declared.fault.Reason.{Reason}
 use Rattle.ion_meter.specs.declared.fault.Reason.TheVariants.{Truncated, BadDescriptor, BadAnnotation, Overrun, Float, DepthLimit, ScalarLimit}
-use Rattle.ion_meter.specs.declared.limits.Limits.{Limits}
+use Rattle.ion_meter.specs.declared.profile.Rules.{Rules}
 use Rattle.ion_meter.specs.Sources.{Cursor, skip}
 use Rattle.ion_meter.specs.Windows.{Extends, Incoming, left, lent}
 use Rattle.ion_value.specs.Calls.{Reads}
@@ -78,28 +78,35 @@ IsRegion c = EndsAt (region_in c.within c.end) c.end
 abbrev pub itself_found : Found → Found
 itself_found f = f
 
--- the length code by which a shape's length goes, and 0 where it has none
-abbrev pub length_code_of : Shape → ℕ
-length_code_of (nop_pad length_code) = length_code
-length_code_of (wrapper length_code) = length_code
-length_code_of (body type_code length_code) = length_code
-length_code_of (container k length_code) = length_code
-length_code_of sorted = 14
-length_code_of (null t) = 0
-length_code_of (bool truth) = 0
-length_code_of marker = 0
-length_code_of float = 0
-length_code_of illegal = 0
+-- the length code by which a shape's length goes, and 0 where it has none, or is a float that is not read
+abbrev pub length_code_of : Rules → Shape → ℕ
+length_code_of limits (nop_pad length_code) = length_code
+length_code_of limits (wrapper length_code) = length_code
+length_code_of limits (body type_code length_code) = length_code
+length_code_of limits (container k length_code) = length_code
+length_code_of limits sorted = 14
+length_code_of limits (null t) = 0
+length_code_of limits (bool truth) = 0
+length_code_of limits marker = 0
+length_code_of limits (float length_code) = if limits.floats then length_code else 0
+length_code_of limits illegal = 0
 
 -- a container whose members have n octets, from a place on
-abbrev pub begun : Limits → Around → Kind → ℕ → ℕ → Result Found Reason
+abbrev pub begun : Rules → Around → Kind → ℕ → ℕ → Result Found Reason
 begun limits a k place n = do
   fits a place n
   refuse (nat_le limits.depth a.depth) DepthLimit
   Ok (found.Begin k (place + n))
 
+-- a scalar whose body has n octets, from a place on
+abbrev pub bodied : Rules → Around → ℕ → ℕ → ℕ → Result Found Reason
+bodied limits a type_code place n = do
+  fits a place n
+  refuse (nat_lt limits.scalar n) ScalarLimit
+  Ok (found.Body type_code n)
+
 -- what a shape begins whose length is n, which ends at a place
-abbrev pub found_by : Limits → Around → Shape → ℕ → ℕ → Result Found Reason
+abbrev pub found_by : Rules → Around → Shape → ℕ → ℕ → Result Found Reason
 found_by limits a (null t) place n = do
   fits a place n
   Ok (found.Null t)
@@ -110,10 +117,7 @@ found_by limits a (nop_pad length_code) place n = do
   refuse (passes a.region place n) Overrun
   Ok (found.NopPad n)
 found_by limits a (wrapper length_code) place n = Ok (found.Wrapper n)
-found_by limits a (body type_code length_code) place n = do
-  fits a place n
-  refuse (nat_lt limits.scalar n) ScalarLimit
-  Ok (found.Body type_code n)
+found_by limits a (body type_code length_code) place n = bodied limits a type_code place n
 found_by limits a (container k length_code) place n = begun limits a k place n
 found_by limits a sorted place n = do
   refuse (nat_eq n 0) BadDescriptor
@@ -121,7 +125,9 @@ found_by limits a sorted place n = do
 found_by limits a marker place n = do
   refuse (not (is_top a.region)) BadDescriptor
   Ok found.Marker
-found_by limits a float place n = Err Float
+found_by limits a (float length_code) place n = do
+  refuse (not limits.floats) Float
+  bodied limits a 4 place n
 found_by limits a illegal place n = Err BadDescriptor
 
 -- how many octets follow where an annotation wrapper is found
@@ -135,21 +141,21 @@ wrapping (found.Null t) = None
 wrapping (found.Bool truth) = None
 
 -- what a shape begins after its descriptor octet
-abbrev pub found_at : Limits → Around → Shape → Cursor → Result (Found × Cursor) Reason
+abbrev pub found_at : Rules → Around → Shape → Cursor → Result (Found × Cursor) Reason
 found_at limits a s c = do
-  n ← length_at (length_code_of s) a.region c
+  n ← length_at (length_code_of limits s) a.region c
   f ← found_by limits a s n.1.place n.0
   Ok (f, n.1)
 
 -- a descriptor and the length after it
-unfoldable pub part_at : Limits → Around → Cursor → Result (Found × Cursor) Reason
+unfoldable pub part_at : Rules → Around → Cursor → Result (Found × Cursor) Reason
 part_at limits a c = do
   b ← octet_at a.region c
   refuse (a.wrapped && is_unwrappable b.0) BadAnnotation
   found_at limits a (shape_of b.0) b.1
 
 -- what is found has a body within the limit, opens a container that may be opened, and is a marker at top level alone
-abbrev pub IsFound : Limits → Around → Found → Type 0
+abbrev pub IsFound : Rules → Around → Found → Type 0
 IsFound limits a (found.Body type_code n) = IsBodyTypeCode type_code × (n ≤ limits.scalar)
 IsFound limits a (found.Begin k end) = a.depth < limits.depth
 IsFound limits a found.Marker = a.region ≡ None
@@ -159,7 +165,7 @@ IsFound limits a (found.Null t) = ⊤
 IsFound limits a (found.Bool truth) = ⊤
 
 -- it was found somewhere
-abbrev pub WasFound : Limits → Found → Type 0
+abbrev pub WasFound : Rules → Found → Type 0
 WasFound limits f = (a : Around) × IsFound limits a f
 
 -- ---- what follows them
@@ -177,7 +183,7 @@ version_at c = do
   Ok (a_marker, skip 3 c)
 
 -- what is found with its octets: after a part they are what reading finds of the descriptor, and no wrapper stands in another
-unfoldable pub rest_at : Limits → Found → Cursor → Result (TypedValue × Cursor) Reason
+unfoldable pub rest_at : Rules → Found → Cursor → Result (TypedValue × Cursor) Reason
 rest_at limits (found.NopPad n) c = pad_at n c
 rest_at limits found.Marker c = version_at c
 rest_at limits (found.Null t) c = Ok (a_scalar (value.null t), c)
@@ -201,7 +207,7 @@ wrapper_after r n c = do
   Ok (w, ids.1)
 
 -- the annotations of a wrapper and the value in it
-abbrev pub noted_at : Limits → List Frame → ℕ → Option SymbolAt → Wrapped → Cursor → Placed (Step State)
+abbrev pub noted_at : Rules → List Frame → ℕ → Option SymbolAt → Wrapped → Cursor → Placed (Step State)
 noted_at limits frames top f w c = do
   annotations ← ids_at w.ids limits w.ids 0 c
   inner_at limits frames top f annotations.0 w.end annotations.1

@@ -13,5 +13,5 @@ as_shape (shape.Body type_code length_code) = body type_code length_code
 as_shape (shape.Container kind length_code) = container kind length_code
 as_shape shape.Sorted = sorted
 as_shape shape.Marker = marker
-as_shape shape.Float = float
+as_shape (shape.Float length_code) = float length_code
 as_shape shape.Illegal = illegal

@@ -1,7 +1,7 @@
 -- What a window shows of an item that lies whole in it.
 use Rattle.std.specs.Prelude.{◌≡◌, ℕ, ◌+◌, ◌<◌, ◌≤◌, List, [], ◌∷◌, length, Option, Some, None, is_some, IfSome, Ok}
 use Rattle.ion_meter.specs.Sources.{skip}
-use Rattle.ion_meter.specs.declared.limits.Limits.{Limits}
+use Rattle.ion_meter.specs.declared.profile.Rules.{Rules}
 use Rattle.ion_value.specs.Value.{SymbolAt}
 use Rattle.ion_binary.specs.declared.reader.front.ShownNote.{ShownNote}
 use Rattle.ion_binary.specs.declared.scan.Found.{Found}
@@ -26,7 +26,7 @@ pub record ShowsLength (octets : List ℕ) (length_code at after number : ℕ) :
       → length_at length_code region (skip at (window here octets more)) ≡ Ok (number, skip after (window here octets more))
 
 -- the same of a descriptor and its length, which the region holds but where they begin a wrapper
-pub record ShowsPart (limits : Limits) (octets : List ℕ) (here : ℕ) (a : Around) (at after : ℕ) (f : Found) : Type 0 where
+pub record ShowsPart (limits : Rules) (octets : List ℕ) (here : ℕ) (a : Around) (at after : ℕ) (f : Found) : Type 0 where
   pub further : at < after
   pub within : after ≤ length octets
   pub found : IsFound limits a f
@@ -35,14 +35,14 @@ pub record ShowsPart (limits : Limits) (octets : List ℕ) (here : ℕ) (a : Aro
       → part_at limits a (skip at (window here octets more)) ≡ Ok (f, skip after (window here octets more))
 
 -- and of what follows these, which is no wrapper
-pub record ShowsRest (limits : Limits) (octets : List ℕ) (here : ℕ) (f : Found) (at after : ℕ) (v : TypedValue) : Type 0 where
+pub record ShowsRest (limits : Rules) (octets : List ℕ) (here : ℕ) (f : Found) (at after : ℕ) (v : TypedValue) : Type 0 where
   pub further : at ≤ after
   pub within : after ≤ length octets
   pub plain : wrapping f ≡ None
   pub gives : (more : List ℕ) → rest_at limits f (skip at (window here octets more)) ≡ Ok (v, skip after (window here octets more))
 
 -- a value: a part, and what follows it
-pub record ShowsValue (limits : Limits) (octets : List ℕ) (here : ℕ) (a : Around) (at after : ℕ) (v : TypedValue) : Type 0 where
+pub record ShowsValue (limits : Rules) (octets : List ℕ) (here : ℕ) (a : Around) (at after : ℕ) (v : TypedValue) : Type 0 where
   pub found : Found
   pub from : ℕ
   pub part : ShowsPart limits octets here a at from found
@@ -71,7 +71,7 @@ abbrev pub noted_ids : ℕ → ShownNote → List SymbolAt
 noted_ids here n = symbol_id n.id (here + n.from) ∷ second_id here n.second
 
 -- a wrapper at a place: its own length, that of its annotations, and one annotation or two
-pub record ShowsNote (limits : Limits) (octets : List ℕ) (here : ℕ) (region : Region) (at : ℕ) (n : ShownNote) : Type 0 where
+pub record ShowsNote (limits : Rules) (octets : List ℕ) (here : ℕ) (region : Region) (at : ℕ) (n : ShownNote) : Type 0 where
   pub starts : n.from ≤ n.inner
   pub second : IfSome n.second (λ s. s.1 ≤ n.inner)
   pub within : n.inner ≤ length octets
@@ -85,7 +85,7 @@ pub record ShowsNote (limits : Limits) (octets : List ℕ) (here : ℕ) (region 
       ≡ Ok (noted_ids here n, skip n.inner (window here octets more))
 
 -- what stands after a field: a value with these annotations, whose head is at a place
-pub record ShowsItem (limits : Limits) (octets : List ℕ) (here : ℕ) (region : Region) (depth at head after : ℕ) (annotations : List SymbolAt) (v : TypedValue) : Type 0 where
+pub record ShowsItem (limits : Rules) (octets : List ℕ) (here : ℕ) (region : Region) (depth at head after : ℕ) (annotations : List SymbolAt) (v : TypedValue) : Type 0 where
   pub further : at + 1 ≤ after
   pub within : after ≤ length octets
   pub reaches : Reaches region (here + (at + 1))

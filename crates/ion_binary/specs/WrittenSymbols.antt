@@ -3,7 +3,10 @@
 use Rattle.std.specs.Prelude.{ℕ, ◌≤◌, List, [], None, ⊤}
 use Rattle.std.specs.List.{AllByRecursion}
 use Rattle.ion_meter.specs.Limits.{AreChecked}
+use Rattle.ion_meter.specs.Rules.{rules}
 use Rattle.ion_meter.specs.declared.limits.Limits.{Limits}
+use Rattle.ion_meter.specs.declared.profile.Profile.{Profile}
+use Rattle.ion_meter.specs.declared.profile.Rules.{Rules}
 use Rattle.ion_value.specs.Value.{SymbolAt, UserSymbol, Top, version, tree}
 use Rattle.ion_value.specs.Writable.{value_symbols}
 use Rattle.ion_symbols.specs.Resolved.{AreResolved}
@@ -22,12 +25,12 @@ WhatIsWrittenIsResolved =
     → AreResolved catalog limits.symbols system raw
 
 -- all symbols of a value at top level fit
-abbrev pub SymbolsFit : Limits → Top UserSymbol ℕ → Type 0
+abbrev pub SymbolsFit : Rules → Top UserSymbol ℕ → Type 0
 SymbolsFit limits (version place) = ⊤
 SymbolsFit limits (tree first annotations place x) = AllByRecursion (SymbolFits limits) (value_symbols None annotations x)
 
 -- where the limit on scalars is no lower than that on symbols, so it is of all values of which a writer refuses nothing
 abbrev pub TextsWithinFit : Type 0
 TextsWithinFit =
-    (limits : Limits) (us : List (Top UserSymbol ℕ)) → limits.symbols ≤ limits.scalar → AreWithin limits [] us
-    → AllByRecursion (SymbolsFit limits) us
+    (limits : Limits) (profile : Profile) (us : List (Top UserSymbol ℕ)) → limits.symbols ≤ limits.scalar → AreWithin limits [] us
+    → AllByRecursion (SymbolsFit (rules limits profile)) us

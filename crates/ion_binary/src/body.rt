@@ -3,9 +3,11 @@ ghost use Rattle.std.specs.Prelude.{◌≡◌, ◌*◌, ◌≢◌, ◌+◌, ◌-
 ghost use Rattle.ion_meter.specs.Windows.{left, lent};
 ghost use Rattle.ion_value.specs.Number.{uint};
 ghost use Rattle.ion_value.specs.Name.{raw_id};
+ghost use Rattle.ion_value.specs.Float.{IsFloat, value_of};
 ghost use Rattle.ion_value.specs.Int.{IsInt, int_of_bytes};
 ghost use Rattle.ion_value.specs.Scalar.{scalar_of_body};
 ghost use Rattle.ion_value.specs.Standing.{InRange};
+ghost use Rattle.ion_value.specs.Value.{float};
 ghost use Rattle.ion_meter.specs.Sources.{skip, cursor, Stands};
 ghost use Rattle.ion_binary.specs.Bodies.{as_scalar, IsBodyTypeCode};
 ghost use Rattle.ion_value.specs.Answers.{Answers};
@@ -13,13 +15,15 @@ ghost use Rattle.ion_binary.specs.Parts.{body_here};
 ghost use Rattle.ion_value.specs.Calls.{AnswersBy, CanRead, Reads, ReadsInto, passed_over};
 ghost use Rattle.ion_value.specs.Shares.{GrowsWithin};
 
+use ion_float::octets::float_from_octets;
 use ion_meter::buf::Buf;
 use ion_meter::device::Input;
 use ion_meter::fault::{Fault, Reason};
-use ion_meter::limits::Limits;
 use ion_meter::meter::Meter;
+use ion_meter::profile::Rules;
 use ion_meter::source::Source;
 use ion_value::decimal::{Decimal, decimal_from_bytes};
+use ion_value::float::Float64;
 use ion_value::int::{Int, int_from_bytes};
 use ion_value::ion_type::IonType;
 use ion_value::timestamp::{Timestamp, timestamp_from_bytes};
@@ -34,6 +38,8 @@ pub(crate) enum Body {
     Bool(bool),
     /// An int.
     Int(Int),
+    /// A float.
+    Float(Float64),
     /// A decimal.
     Decimal(Decimal),
     /// A timestamp in local time.
@@ -113,6 +119,20 @@ fn int_of(negative: bool, octets: &[u8]) -> Result<Int, Reason>
     })
 }
 
+// A float of these octets.
+#[tactic(auto, unfolding(ion_value::specs::Scalar::scalar_of_body))]
+#[inline]
+fn float_of(octets: &[u8]) -> Result<Float64, Reason>
+    ensures gives { MatchResult result (λ x. scalar_of_body 4 octets.now ≡ Ok (float (value_of x)))
+        (λ r. scalar_of_body 4 octets.now ≡ Err r) }
+    ensures range { IfOk result (λ x. IsFloat (value_of x)) }
+{
+    match float_from_octets(octets) {
+        Some(float) => Ok(float),
+        None => Err(Reason::BadDescriptor),
+    }
+}
+
 /// The scalar that octets are, by its type code.
 #[tactic(auto, unfolding(ion_value::specs::Scalar::scalar_of_body))]
 #[inline(always)]
@@ -128,6 +148,7 @@ pub(crate) fn scalar_of(type_code: u8, octets: &[u8]) -> Result<Body, Reason>
     Ok(match type_code {
         2 => Body::Int(int_of(false, octets)?),
         3 => Body::Int(int_of(true, octets)?),
+        4 => Body::Float(float_of(octets)?),
         5 => Body::Decimal(decimal_from_bytes(octets)?),
         6 => Body::Timestamp(timestamp_from_bytes(octets)?),
         7 => Body::Symbol(uint_id(octets)),
@@ -216,7 +237,7 @@ fn gather<I: Input, A: Allocator + Copy>(
     source: &mut Source<I, A>,
     text: &mut Buf<A>,
     count: usize,
-    limits: Limits,
+    limits: Rules,
     meter: &mut Meter<A>,
 ) -> Result<bool, Fault>
     requires can_read { CanRead limits limits.scalar source.old text.old meter.old }
@@ -257,7 +278,7 @@ fn number_in_window<I: Input, A: Allocator + Copy>(
     body: &mut Body,
     type_code: u8,
     count: usize,
-    limits: Limits,
+    limits: Rules,
     place: u64,
 ) -> Result<(), Fault>
     requires stands { Stands source.old }
@@ -292,7 +313,7 @@ pub(crate) fn next_body<I: Input, A: Allocator + Copy>(
     body: &mut Body,
     type_code: u8,
     count: u64,
-    limits: Limits,
+    limits: Rules,
     place: u64,
     meter: &mut Meter<A>,
 ) -> Result<(), Fault>

@@ -4,6 +4,7 @@ ghost use Rattle.ion_binary.specs.Descriptor.{shape_of, shape_by, null_shapes, s
 ghost use Rattle.ion_binary.specs.Scanned.{length_code_of};
 ghost use Rattle.ion_binary.specs.Shapes.{as_shape};
 
+use ion_meter::profile::Rules;
 use ion_value::ion_type::{IonType, Kind};
 
 /// What a descriptor octet says: `length_code` is its low four bits, L, by which a length goes.
@@ -31,7 +32,7 @@ pub(crate) enum Shape {
     /// The first octet of a version marker.
     Marker,
     /// A float that is no null.
-    Float,
+    Float(u8),
     /// Nothing.
     Illegal,
 }
@@ -50,10 +51,11 @@ impl Shape {
         }
     }
 
-    /// The length code by which its length goes, and 0 where it has none.
+    /// The length code by which its length goes, and 0 where it has none. A float that is not read has
+    /// none, so that it is refused whatever follows.
     #[inline(always)]
-    pub(crate) fn length_code(self) -> u8
-        ensures { result ≡ length_code_of (as_shape self) }
+    pub(crate) fn length_code(self, limits: Rules) -> u8
+        ensures { result ≡ length_code_of limits (as_shape self) }
     {
         match self {
             Shape::NopPad(length_code) | Shape::Wrapper(length_code) => length_code,
@@ -62,8 +64,10 @@ impl Shape {
                 type_code: _,
                 length_code,
             } => length_code,
+            Shape::Float(length_code) if limits.floats => length_code,
+            Shape::Float(_) => 0,
             Shape::Sorted => 14,
-            Shape::Null(_) | Shape::Bool(_) | Shape::Marker | Shape::Float | Shape::Illegal => 0,
+            Shape::Null(_) | Shape::Bool(_) | Shape::Marker | Shape::Illegal => 0,
         }
     }
 
@@ -101,7 +105,7 @@ impl Shape {
             1 => Shape::bool(length_code),
             2 => Shape::body(2, length_code),
             3 => Shape::body(3, length_code),
-            4 => Shape::Float,
+            4 => Shape::Float(length_code),
             5 => Shape::body(5, length_code),
             6 => Shape::body(6, length_code),
             7 => Shape::body(7, length_code),

@@ -12,6 +12,7 @@ ghost use Rattle.ion_binary.specs.ItemOctets.{head_name, head_octets, user_head}
 
 use crate::opening::{LONGEST, opening};
 use arrayvec::ArrayVec;
+use ion_float::octets::float_to_octets;
 use ion_value::decimal::decimal_to_bytes;
 use ion_value::int::{Int, int_to_bytes};
 use ion_value::ion_type::IonType;
@@ -69,6 +70,7 @@ pub(crate) fn spell<'a>(head: Head<'a>, name: u32) -> Spelled<'a>
         Head::Null(of) => one(16 * type_code(of) + 15),
         Head::Bool(truth) => one(if truth { 17 } else { 16 }),
         Head::Int(int) => spell_int(int),
+        Head::Float(float) => with_body(4, float_to_octets(float).as_slice()),
         Head::Decimal(decimal) => with_body(5, decimal_to_bytes(decimal).as_slice()),
         Head::Timestamp(timestamp) => with_body(6, timestamp_to_bytes(timestamp).as_slice()),
         Head::Symbol(_) => spell_id(name),

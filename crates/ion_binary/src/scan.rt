@@ -5,16 +5,17 @@
 //! before it: where it holds they are in the region too, and where not, one of them is the first outside.
 ghost use Rattle.std.specs.Prelude.{◌≡◌, ℕ, ◌+◌, ◌-◌, ◌^◌, ◌<◌, ◌≤◌, ◌&&◌, get_or, length, None, OnOk, IfOk, IfSome};
 ghost use Rattle.ion_value.specs.Answers.{itself};
+ghost use Rattle.ion_binary.specs.Bodies.{IsBodyTypeCode};
 ghost use Rattle.ion_binary.specs.Descriptor.{Region as region, is_unwrappable, length_at, shape_of, var_uint_at};
 ghost use Rattle.ion_binary.specs.Finds.{IsOfDescriptor};
 ghost use Rattle.ion_binary.specs.Reading.{fits};
-ghost use Rattle.ion_binary.specs.Scanned.{EndsAt, IfWhole, IsFound, IsRegion, Shows, as_around, begun, found_by, itself_found, part_at, wrapping};
+ghost use Rattle.ion_binary.specs.Scanned.{EndsAt, IfWhole, IsFound, IsRegion, Shows, as_around, begun, bodied, found_by, itself_found, part_at, wrapping};
 ghost use Rattle.ion_binary.specs.Shapes.{as_shape};
 ghost use Rattle.ion_binary.specs.Shown.{ShowsLength, ShowsPart, ShowsVar};
 
 use crate::descriptor::Shape;
 use ion_meter::fault::Reason;
-use ion_meter::limits::Limits;
+use ion_meter::profile::Rules;
 use ion_value::ion_type::{IonType, Kind};
 
 /// What octets show of the part that begins at the front of them, whatever octets follow.
@@ -204,9 +205,27 @@ impl Region {
         Ok(())
     }
 
+    // A scalar of this type code whose body has so many octets, by the place where they end.
+    #[inline(always)]
+    fn body(self, type_code: u8, end: u64, count: u64, limits: Rules) -> Result<Found, Reason>
+        requires region { IsRegion self }
+        requires small { end < 2 ^ 64 - 1 }
+        requires type_code { IsBodyTypeCode type_code }
+        ensures gives { (here : ℕ) → end ≡ here + count
+            → result ≡ bodied limits (as_around self) type_code here count }
+        ensures found { IfOk result (IsFound limits (as_around self)) }
+        ensures within { OnOk result (end ≤ self.end) }
+    {
+        match self.check_fits(end) {
+            Err(reason) => Err(reason),
+            Ok(()) if limits.scalar < count => Err(Reason::ScalarLimit),
+            Ok(()) => Ok(Found::Body(type_code, count)),
+        }
+    }
+
     // A container whose members end at a place.
     #[inline(always)]
-    fn begin(self, kind: Kind, end: u64, limits: Limits) -> Result<Found, Reason>
+    fn begin(self, kind: Kind, end: u64, limits: Rules) -> Result<Found, Reason>
         requires region { IsRegion self }
         requires small { end < 2 ^ 64 - 1 }
         ensures gives { (here count : ℕ) → end ≡ here + count
@@ -235,7 +254,7 @@ fn found_of(
     end: u64,
     count: u64,
     region: Region,
-    limits: Limits,
+    limits: Rules,
 ) -> Result<Found, Reason>
     requires region { IsRegion region }
     requires small { end < 2 ^ 64 - 1 }
@@ -251,7 +270,8 @@ fn found_of(
         Shape::Sorted if count == 0 => Err(Reason::BadDescriptor),
         Shape::Sorted => region.begin(Kind::Struct, end, limits),
         Shape::Wrapper(_) => Ok(Found::Wrapper(count)),
-        Shape::Float => Err(Reason::Float),
+        Shape::Float(_) if !limits.floats => Err(Reason::Float),
+        Shape::Float(_) => region.body(4, end, count, limits),
         Shape::Illegal => Err(Reason::BadDescriptor),
         Shape::Marker => match region.within {
             Within::Top => Ok(Found::Marker),
@@ -270,11 +290,7 @@ fn found_of(
         Shape::Body {
             type_code,
             length_code: _,
-        } => match region.check_fits(end) {
-            Err(reason) => Err(reason),
-            Ok(()) if limits.scalar < count => Err(Reason::ScalarLimit),
-            Ok(()) => Ok(Found::Body(type_code, count)),
-        },
+        } => region.body(type_code, end, count, limits),
     }
 }
 
@@ -289,7 +305,7 @@ pub(crate) fn few_part(
     at: usize,
     shape: Shape,
     region: Region,
-    limits: Limits,
+    limits: Rules,
 ) -> Option<(Found, usize)>
     requires region { IsRegion region }
     requires small { here + length octets.now < 2 ^ 63 }
@@ -301,7 +317,7 @@ pub(crate) fn few_part(
     if region.refuses(octets[at]) {
         return None;
     }
-    let Some((count, after)) = few_length(octets, at + 1, shape.length_code()) else {
+    let Some((count, after)) = few_length(octets, at + 1, shape.length_code(limits)) else {
         return None;
     };
     let end = here + (after + count as usize) as u64;
@@ -315,7 +331,7 @@ pub(crate) fn few_part(
 ///
 /// Refuses first what a wrapper may not hold, then lengths that do not end, then what `found_of` does.
 #[inline(always)]
-pub(crate) fn scan_part(octets: &[u8], place: u64, region: Region, limits: Limits) -> Scanned<Found>
+pub(crate) fn scan_part(octets: &[u8], place: u64, region: Region, limits: Rules) -> Scanned<Found>
     requires region { IsRegion region }
     requires small { place ≤ 2 ^ 48 }
     ensures shows { Shows 10 itself_found place octets.now result
@@ -335,7 +351,7 @@ pub(crate) fn scan_part(octets: &[u8], place: u64, region: Region, limits: Limit
     }
     let shape = Shape::of(octet);
     let here = place + 1;
-    match scan_length(&octets[1..], here, region.end, shape.length_code()) {
+    match scan_length(&octets[1..], here, region.end, shape.length_code(limits)) {
         Scanned::Cut => Scanned::Cut,
         Scanned::Fault(reason) => Scanned::Fault(reason),
         Scanned::Whole(count, n) => {

@@ -22,8 +22,8 @@ use crate::wrapper::{Wrapper, next_annotations, next_wrapper};
 use ion_meter::buf::Buf;
 use ion_meter::device::Input;
 use ion_meter::fault::{Fault, Reason};
-use ion_meter::limits::Limits;
 use ion_meter::meter::Meter;
+use ion_meter::profile::Rules;
 use ion_meter::source::Source;
 use ion_meter::stack::Stack;
 use ion_value::ion_type::Kind;
@@ -93,7 +93,7 @@ fn next_rest<I: Input, A: Allocator + Copy>(
     text: &mut Buf<A>,
     body: &mut Body,
     found: Found,
-    limits: Limits,
+    limits: Rules,
     place: u64,
     meter: &mut Meter<A>,
 ) -> Result<TypedValue, Fault>
@@ -140,7 +140,7 @@ fn next_inner<I: Input, A: Allocator + Copy>(
     body: &mut Body,
     end: u64,
     depth: u32,
-    limits: Limits,
+    limits: Rules,
     meter: &mut Meter<A>,
 ) -> Result<(TypedValue, u64), Fault>
     requires can_read { CanRead limits limits.scalar source.old text.old meter.old }
@@ -183,7 +183,7 @@ fn next_annotated<I: Input, A: Allocator + Copy>(
     body: &mut Body,
     wrapper: Wrapper,
     depth: u32,
-    limits: Limits,
+    limits: Rules,
     meter: &mut Meter<A>,
 ) -> Result<(TypedValue, u64), Fault>
     requires can_read { CanRead limits (2 * limits.scalar) source.old text.old meter.old }
@@ -221,7 +221,7 @@ pub(crate) fn next_value<I: Input, A: Allocator + Copy>(
     text: &mut Buf<A>,
     body: &mut Body,
     region: Region,
-    limits: Limits,
+    limits: Rules,
     meter: &mut Meter<A>,
 ) -> Result<(TypedValue, u64), Fault>
     requires can_read { CanRead limits (2 * limits.scalar) source.old text.old meter.old }

@@ -2,7 +2,7 @@
 ghost use Rattle.std.specs.Prelude.{◌≤◌, length, IfSome};
 
 use crate::scan::{Found, Region, Scanned, TOP, Within, scan_part, scan_var};
-use ion_meter::limits::Limits;
+use ion_meter::profile::Rules;
 use ion_value::ion_type::Kind;
 
 // No region is looked at here: what passes its region is refused without an octet more.
@@ -17,7 +17,7 @@ const ANYWHERE: Region = Region {
 ///
 /// False may be wrong. What is passed over before an item is read in the same call, and has to be
 /// there too.
-pub(crate) fn shows_item(inside: Option<Kind>, octets: &[u8], limits: Limits) -> bool {
+pub(crate) fn shows_item(inside: Option<Kind>, octets: &[u8], limits: Rules) -> bool {
     let mut rest = octets;
     'passed: loop {
         let Some(part) = after_field(inside, rest) else {

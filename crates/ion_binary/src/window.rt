@@ -11,7 +11,7 @@ ghost use Rattle.ion_value.specs.Calls.{AnswersBy, Reads};
 use crate::scan::{Found, Region, Scanned, scan_part, scan_var};
 use ion_meter::device::Input;
 use ion_meter::fault::{Fault, Reason};
-use ion_meter::limits::Limits;
+use ion_meter::profile::Rules;
 use ion_meter::source::Source;
 use std::alloc::Allocator;
 
@@ -64,7 +64,7 @@ pub(crate) fn next_var_uint<I: Input, A: Allocator + Copy>(
 pub(crate) fn next_part<I: Input, A: Allocator + Copy>(
     source: &mut Source<I, A>,
     region: Region,
-    limits: Limits,
+    limits: Rules,
     place: u64,
 ) -> Result<Found, Fault>
     requires stands { Stands source.old }

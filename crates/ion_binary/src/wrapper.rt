@@ -16,8 +16,8 @@ use crate::scan::Region;
 use crate::window::next_var_uint;
 use ion_meter::device::Input;
 use ion_meter::fault::{Fault, Reason};
-use ion_meter::limits::Limits;
 use ion_meter::meter::Meter;
+use ion_meter::profile::Rules;
 use ion_meter::source::Source;
 use ion_meter::stack::Stack;
 use ion_value::ion_type::Kind;
@@ -161,7 +161,7 @@ pub(crate) fn next_annotations<I: Input, A: Allocator + Copy>(
     source: &mut Source<I, A>,
     annotations: &mut Stack<Annotation, A>,
     end: u64,
-    limits: Limits,
+    limits: Rules,
     meter: &mut Meter<A>,
 ) -> Result<(), Fault>
     requires can_read { CanRead limits limits.scalar source.old [] meter.old }

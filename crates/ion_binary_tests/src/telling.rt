@@ -109,6 +109,10 @@ fn tell_head(words: &mut String, head: Head<'_>, from: u64) -> Result<(), AllocE
         }
         Head::Bool(truth) => write!(words, "{truth}"),
         Head::Int(int) => tell_number(words, "int", int.negative, int.magnitude),
+        Head::Float(float) => {
+            let bits = float.bits();
+            write!(words, "float {bits}")
+        }
         Head::Decimal(decimal) => {
             tell_number(words, "decimal", decimal.negative, decimal.coefficient)?;
             let exponent = decimal.exponent;

@@ -10,6 +10,7 @@ use crate::plainly::{is_put, plain_of};
 use crate::reading::expect_little;
 use crate::same::{holds, same};
 use ion_binary::writer::BinWriter;
+use ion_float::octets::float_from_octets;
 use ion_meter::device::Output;
 use ion_meter::fault::Fault;
 use ion_meter::limits::Limits;
@@ -34,7 +35,8 @@ pub const TEXTS: &[u8] = b"nameversion";
 /// The place of a field is its item's and this.
 pub const FIELDS: u64 = 100;
 
-/// A head, of which a number or a timestamp is given as a text that spells it.
+/// A head, of which an int, a decimal or a timestamp is given as a text that spells it, and a float by
+/// octets.
 #[derive(Clone, Copy)]
 pub enum Part<'a> {
     /// A null.
@@ -43,6 +45,8 @@ pub enum Part<'a> {
     Bool(bool),
     /// An int.
     Int(&'a [u8]),
+    /// A float.
+    Float(&'a [u8]),
     /// A decimal.
     Decimal(&'a [u8]),
     /// A timestamp.
@@ -74,6 +78,7 @@ fn head_of<'a>(part: Part<'a>, place: u64) -> Option<Head<'a>>
         Part::Null(of) => Head::Null(of),
         Part::Bool(truth) => Head::Bool(truth),
         Part::Int(text) => Head::Int(int_from_text(text).ok()?),
+        Part::Float(octets) => Head::Float(float_from_octets(octets)?),
         Part::Decimal(text) => Head::Decimal(decimal_from_text(text).ok()?),
         Part::Timestamp(text) => Head::Timestamp(timestamp_from_text(text).ok()?),
         Part::Symbol(text) => Head::Symbol(symbol(text, place)),

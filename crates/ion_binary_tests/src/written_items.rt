@@ -132,6 +132,38 @@ const SCALARS: &[Row] = &[
     (
         VALUE,
         SYMBOLS,
+        &[(None, &[], Part::Float(&[0; 8]))],
+        Ok(()),
+        "E0 01 00 EA 40",
+    ),
+    (
+        VALUE,
+        SYMBOLS,
+        &[(None, &[], Part::Float(&[0x3F, 0xF8, 0, 0, 0, 0, 0, 0]))],
+        Ok(()),
+        "E0 01 00 EA 44 3F C0 00 00",
+    ),
+    (
+        VALUE,
+        SYMBOLS,
+        &[(
+            None,
+            &[],
+            Part::Float(&[0x3F, 0xB9, 0x99, 0x99, 0x99, 0x99, 0x99, 0x9A]),
+        )],
+        Ok(()),
+        "E0 01 00 EA 48 3F B9 99 99 99 99 99 9A",
+    ),
+    (
+        VALUE,
+        SYMBOLS,
+        &[(None, &[], Part::Float(&[0xFF, 0xC0, 0, 1]))],
+        Ok(()),
+        "E0 01 00 EA 44 7F C0 00 00",
+    ),
+    (
+        VALUE,
+        SYMBOLS,
         &[(None, &[], Part::Decimal(b"-0."))],
         Ok(()),
         "E0 01 00 EA 52 80 80",

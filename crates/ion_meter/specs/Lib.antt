@@ -5,6 +5,7 @@ pub mod Entries
 pub mod Limits
 pub mod Reasons
 pub mod Room
+pub mod Rules
 pub mod Sinks
 pub mod Sources
 pub mod Windows

@@ -12,6 +12,7 @@ pub mod device;
 pub mod fault;
 pub mod limits;
 pub mod meter;
+pub mod profile;
 mod roomy;
 pub mod sink;
 pub mod source;

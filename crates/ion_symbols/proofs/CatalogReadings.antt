@@ -47,6 +47,7 @@ passed-scalar : (body : Scalar UserSymbol) (s : Loading) → passed (scalar_seen
 passed-scalar (value.null type) s = refl
 passed-scalar (value.bool truth) s = refl
 passed-scalar (value.int number) s = refl
+passed-scalar (value.float number) s = refl
 passed-scalar (value.decimal number) s = refl
 passed-scalar (value.timestamp moment) s = refl
 passed-scalar (value.symbol name) s = refl
@@ -59,6 +60,7 @@ not_end : (x : Value UserSymbol ℕ) → is_end (seen x) ≡ false
 not_end (scalar (value.null type)) = refl
 not_end (scalar (value.bool truth)) = refl
 not_end (scalar (value.int number)) = refl
+not_end (scalar (value.float number)) = refl
 not_end (scalar (value.decimal number)) = refl
 not_end (scalar (value.timestamp moment)) = refl
 not_end (scalar (value.symbol name)) = refl
@@ -143,6 +145,7 @@ symbols-read : (limit : ℕ) (d : Draft) (top : ℕ) (x : Value UserSymbol ℕ) 
 symbols-read limit d top (scalar (value.null type)) rest = refl
 symbols-read limit d top (scalar (value.bool truth)) rest = refl
 symbols-read limit d top (scalar (value.int number)) rest = refl
+symbols-read limit d top (scalar (value.float number)) rest = refl
 symbols-read limit d top (scalar (value.decimal number)) rest = refl
 symbols-read limit d top (scalar (value.timestamp moment)) rest = refl
 symbols-read limit d top (scalar (value.symbol name)) rest = refl
@@ -237,6 +240,7 @@ top-read limit d (tree first annotations place (container kind.Sexp members last
 top-read limit d (tree first annotations place (scalar (value.null type))) rest = no_struct limit first d rest (is_shared annotations)
 top-read limit d (tree first annotations place (scalar (value.bool truth))) rest = no_struct limit first d rest (is_shared annotations)
 top-read limit d (tree first annotations place (scalar (value.int number))) rest = no_struct limit first d rest (is_shared annotations)
+top-read limit d (tree first annotations place (scalar (value.float number))) rest = no_struct limit first d rest (is_shared annotations)
 top-read limit d (tree first annotations place (scalar (value.decimal number))) rest = no_struct limit first d rest (is_shared annotations)
 top-read limit d (tree first annotations place (scalar (value.timestamp moment))) rest = no_struct limit first d rest (is_shared annotations)
 top-read limit d (tree first annotations place (scalar (value.symbol name))) rest = no_struct limit first d rest (is_shared annotations)

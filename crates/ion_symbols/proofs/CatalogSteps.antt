@@ -128,6 +128,7 @@ open-seen : (kinds : List Kind) (head : Head SymbolAt) → length (open_after ki
 open-seen kinds (value.whole (value.null type)) = refl
 open-seen kinds (value.whole (value.bool truth)) = refl
 open-seen kinds (value.whole (value.int number)) = refl
+open-seen kinds (value.whole (value.float number)) = refl
 open-seen kinds (value.whole (value.decimal number)) = refl
 open-seen kinds (value.whole (value.timestamp moment)) = refl
 open-seen kinds (value.whole (value.symbol name)) = refl

@@ -60,6 +60,7 @@ head_fine : (t : Table) (head : Head SymbolAt) → IsPlainHead (map_head (named_
 head_fine t (value.whole (value.null type)) text = refl
 head_fine t (value.whole (value.bool truth)) text = refl
 head_fine t (value.whole (value.int number)) text = refl
+head_fine t (value.whole (value.float number)) text = refl
 head_fine t (value.whole (value.decimal number)) text = refl
 head_fine t (value.whole (value.timestamp moment)) text = refl
 head_fine t (value.whole (value.symbol s)) text = zero_fine t s.place s.symbol text

@@ -155,6 +155,7 @@ module _ (catalog : List Shared) (limit : ℕ) (t : Table) where
   scalar_after (value.null type) n = refl
   scalar_after (value.bool truth) n = refl
   scalar_after (value.int number) n = refl
+  scalar_after (value.float number) n = refl
   scalar_after (value.decimal number) n = refl
   scalar_after (value.timestamp moment) n = refl
   scalar_after (value.symbol s) n = refl
@@ -166,6 +167,7 @@ module _ (catalog : List Shared) (limit : ℕ) (t : Table) where
   scalar_end (value.null type) e = cc e
   scalar_end (value.bool truth) e = cc e
   scalar_end (value.int number) e = cc e
+  scalar_end (value.float number) e = cc e
   scalar_end (value.decimal number) e = cc e
   scalar_end (value.timestamp moment) e = cc e
   scalar_end (value.symbol s) e = cc e

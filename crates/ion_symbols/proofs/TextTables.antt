@@ -59,6 +59,7 @@ scalar-text (value.string t) h = h
 scalar-text (value.null type) h = tt
 scalar-text (value.bool truth) h = tt
 scalar-text (value.int number) h = tt
+scalar-text (value.float number) h = tt
 scalar-text (value.decimal number) h = tt
 scalar-text (value.timestamp moment) h = tt
 scalar-text (value.symbol name) h = tt

@@ -175,6 +175,7 @@ scalar-depth : (texts : ℕ → Option (List ℕ)) (n : ℕ) (x : Scalar SymbolA
 scalar-depth texts n (value.null type) = refl
 scalar-depth texts n (value.bool truth) = refl
 scalar-depth texts n (value.int number) = refl
+scalar-depth texts n (value.float number) = refl
 scalar-depth texts n (value.decimal number) = refl
 scalar-depth texts n (value.timestamp moment) = refl
 scalar-depth texts n (value.symbol s) = refl

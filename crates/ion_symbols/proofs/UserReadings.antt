@@ -41,6 +41,7 @@ map_scalar-twice : {A B C : Type 0} (f : B → C) (g : A → B) (body : Scalar A
 map_scalar-twice f g (value.null type) = refl
 map_scalar-twice f g (value.bool truth) = refl
 map_scalar-twice f g (value.int number) = refl
+map_scalar-twice f g (value.float number) = refl
 map_scalar-twice f g (value.decimal number) = refl
 map_scalar-twice f g (value.timestamp moment) = refl
 map_scalar-twice f g (value.symbol s) = refl

@@ -84,6 +84,7 @@ scalar_fault : (t : Table) (body : Scalar SymbolAt) → IsSymbolFault (scalar_ch
 scalar_fault t (value.null type) = tt
 scalar_fault t (value.bool truth) = tt
 scalar_fault t (value.int number) = tt
+scalar_fault t (value.float number) = tt
 scalar_fault t (value.decimal number) = tt
 scalar_fault t (value.timestamp moment) = tt
 scalar_fault t (value.symbol s) = symbol_fault t s.place s.symbol

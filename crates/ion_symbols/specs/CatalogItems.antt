@@ -50,6 +50,7 @@ abbrev pub scalar_seen : Scalar UserSymbol → FieldValue
 scalar_seen (value.null type) = other
 scalar_seen (value.bool truth) = other
 scalar_seen (value.int number) = int number.negative number.magnitude
+scalar_seen (value.float number) = other
 scalar_seen (value.decimal number) = other
 scalar_seen (value.timestamp moment) = other
 scalar_seen (value.symbol s) = other

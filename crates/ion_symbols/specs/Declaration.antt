@@ -55,6 +55,7 @@ abbrev pub scalar_view : (ℕ → Option (List ℕ)) → Scalar SymbolAt → Fie
 scalar_view texts (value.null type) = other
 scalar_view texts (value.bool truth) = other
 scalar_view texts (value.int number) = int number.negative number.magnitude
+scalar_view texts (value.float number) = other
 scalar_view texts (value.decimal number) = other
 scalar_view texts (value.timestamp moment) = other
 scalar_view texts (value.symbol s) = names (word_in texts s.symbol)

@@ -29,6 +29,7 @@ ScalarHas P (value.string bytes) = P bytes
 ScalarHas P (value.null type) = ⊤
 ScalarHas P (value.bool truth) = ⊤
 ScalarHas P (value.int number) = ⊤
+ScalarHas P (value.float number) = ⊤
 ScalarHas P (value.decimal number) = ⊤
 ScalarHas P (value.timestamp moment) = ⊤
 ScalarHas P (value.symbol name) = ⊤

@@ -62,6 +62,7 @@ abbrev pub scalar_checked : Table → Bool → Scalar SymbolAt → Checked
 scalar_checked t user (value.null type) = fine
 scalar_checked t user (value.bool truth) = fine
 scalar_checked t user (value.int number) = fine
+scalar_checked t user (value.float number) = fine
 scalar_checked t user (value.decimal number) = fine
 scalar_checked t user (value.timestamp moment) = fine
 scalar_checked t user (value.symbol s) = at_checked t user s

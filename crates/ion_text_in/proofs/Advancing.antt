@@ -3,20 +3,21 @@ use Rattle.std.proofs.Common.{◌≡◌, ℕ, suc, ◌+◌, ◌*◌, ◌<◌, �
 use Rattle.std.proofs.lemmas.List.Sums.{sum_by-append}
 use Rattle.std.proofs.lemmas.Result.{IfOk-at_ok}
 use Rattle.ion_meter.specs.Sources.{Cursor}
-use Rattle.ion_meter.specs.declared.limits.Limits.{Limits}
+use Rattle.ion_meter.specs.declared.profile.Rules.{Rules}
 use Rattle.ion_value.specs.declared.ion_type.Kind.{Kind}
-use Rattle.ion_value.specs.Path.{Path}
-use Rattle.ion_value.specs.ReadingLaws.{Allows}
+use Rattle.ion_value.specs.Path.{Path, path_items}
+use Rattle.ion_value.specs.ReadingLaws.{Allows, ArePermitted}
 use Rattle.ion_value.specs.Value as value
-use Rattle.ion_value.specs.Value.{Symbol, SymbolAt, Value, Members, Top}
+use Rattle.ion_value.specs.Value.{Symbol, SymbolAt, Value, Members, Top, top_items}
 use Rattle.ion_text_in.specs.Beginnings.{BeginsInfinity, TokenBegins}
 use Rattle.ion_text_in.specs.Grammar.{Tok, Annotations, Field, Txt, Inside, Tops, start_of}
 use Rattle.ion_text_in.specs.Meaning.{counts}
 use Rattle.ion_text_in.specs.Paths.{Spells}
-use Rattle.ion_text_in.specs.Positions.{at}
+use Rattle.ion_text_in.specs.Positions.{at, first_place}
 use Rattle.ion_text_in.specs.Reading.{cost}
 use Rattle.ion_text_in.specs.Token.{First, an_infinity, first_at, Token, name, token_of}
 use Rattle.ion_text_in.specs.Within.{TokenWithin, NamesWithin, AnnotationsWithin, FieldWithin, TxtWithin, InsideWithin, TopsWithin, PathWithin}
+use Rattle.ion_value.proofs.Permitted.{all-parts, MembersArePermitted, PathIsPermitted, TopIsPermitted, TopsArePermitted, ValueIsPermitted, open-permitted, path-permitted, tops-permitted}
 use Rattle.ion_text_in.proofs.Shrinking.{blanks-within, Long, name_length, NameTaken, TokenIs, token-is}
 use Rattle.ion_text_in.proofs.TokenBegins.{what-begins}
 use Rattle.ion_text_in.proofs.TokenLimits.{got}
@@ -70,7 +71,7 @@ cost-is : (symbol : Symbol) (p : ℕ) → cost (at symbol p) ≡ 16 + name_lengt
 cost-is (value.Text bytes) p = refl
 cost-is (value.Id id) p = refl
 
-module _ (limits : Limits) where
+module _ (limits : Rules) where
   -- whatever the bytes that are left can count
   abbrev Wide : Cursor → Type 0
   Wide c = 16 * length c.rest ≤ limits.scalar
@@ -112,46 +113,57 @@ module _ (limits : Limits) where
 
   mutual
     txt-goes : {k : Option Kind} {c d : Cursor} {annotations : List SymbolAt} {p : ℕ} {v : Value SymbolAt ℕ} (depth : ℕ) (txt : Txt k c annotations p v d)
-        → (length d.rest < length c.rest) × (Room depth c → TxtWithin limits depth txt)
-    txt-goes depth (Txt.of_plain ns tok) = let all = scalar-goes ns tok in (all.0, λ room. all.1 room.1)
-    txt-goes depth (Txt.of_text ns tok) = let all = scalar-goes ns tok in (all.0, λ room. all.1 room.1)
-    txt-goes depth (Txt.of_operator ns tok) = let all = scalar-goes ns tok in (all.0, λ room. all.1 room.1)
-    txt-goes depth (Txt.of_symbol ns tok alone no_version) = let all = scalar-goes ns tok in (all.0, λ room. all.1 room.1)
+        → (length d.rest < length c.rest) × (Room depth c → ValueIsPermitted limits v → TxtWithin limits depth txt)
+    txt-goes depth (Txt.of_plain ns tok) = let all = scalar-goes ns tok in (all.0, λ room permitted. all.1 room.1)
+    txt-goes depth (Txt.of_float ns tok) = let all = scalar-goes ns tok in (all.0, λ room permitted. let fits = all.1 room.1 in (fits.0, (fits.1, permitted)))
+    txt-goes depth (Txt.of_text ns tok) = let all = scalar-goes ns tok in (all.0, λ room permitted. all.1 room.1)
+    txt-goes depth (Txt.of_operator ns tok) = let all = scalar-goes ns tok in (all.0, λ room permitted. all.1 room.1)
+    txt-goes depth (Txt.of_symbol ns tok alone no_version) = let all = scalar-goes ns tok in (all.0, λ room permitted. all.1 room.1)
     txt-goes depth (Txt.of_members ns tok inside last) =
         let one = annotations-go ns in
         let two = tok-took _ _ _ _ _ tok in
         let three = inside-goes (suc depth) inside in
         let four = tok-took _ _ _ _ _ last in (
           omega (arith, one.0, two.less, three.0, four.less),
-          λ room. (one.1 room.1, (omega (arith, room.0, one.0, two.less), three.1 (omega (arith, room.0, one.0, two.less), omega (arith, room.1, one.0, two.less)))),
+          λ room permitted. (one.1 room.1, (omega (arith, room.0, one.0, two.less), three.1 (omega (arith, room.0, one.0, two.less), omega (arith, room.1, one.0, two.less)) permitted)),
         )
 
     inside-goes : {k : Kind} {c d : Cursor} {members : Members SymbolAt ℕ} {full : Bool} (depth : ℕ) (inside : Inside k c members full d)
-        → (length d.rest ≤ length c.rest) × (Room depth c → InsideWithin limits depth inside)
-    inside-goes depth Inside.nothing = (omega arith, λ room. tt)
+        → (length d.rest ≤ length c.rest) × (Room depth c → MembersArePermitted limits members → InsideWithin limits depth inside)
+    inside-goes depth Inside.nothing = (omega arith, λ room permitted. tt)
     inside-goes depth (Inside.with_value before own txt) =
         let one = inside-goes depth before in
         let two = field-goes own in
         let three = txt-goes depth txt in (
           omega (arith, one.0, two.0, three.0),
-          λ room. (one.1 room, (two.1 (omega (arith, room.1, one.0)), three.1 (omega (arith, room.0, one.0, two.0), omega (arith, room.1, one.0, two.0)))),
+          λ room permitted. (
+            one.1 room permitted.0,
+            (two.1 (omega (arith, room.1, one.0)), three.1 (omega (arith, room.0, one.0, two.0), omega (arith, room.1, one.0, two.0)) permitted.1),
+          ),
         )
     inside-goes depth (Inside.with_comma before comma) =
-        let one = inside-goes depth before in let two = tok-took _ _ _ _ _ comma in (omega (arith, one.0, two.less), λ room. one.1 room)
+        let one = inside-goes depth before in let two = tok-took _ _ _ _ _ comma in (omega (arith, one.0, two.less), λ room permitted. one.1 room permitted)
 
-  tops-go : {c d : Cursor} {tops : List (Top SymbolAt ℕ)} (t : Tops c tops d) → (length d.rest ≤ length c.rest) × (Room 0 c → TopsWithin limits t)
-  tops-go Tops.nothing = (omega arith, λ room. tt)
-  tops-go (Tops.marker before tok alone) =
-      let one = tops-go before in let two = tok-took _ _ _ _ _ tok in (omega (arith, one.0, two.less), λ room. (one.1 room, omega (arith, room.1, one.0, two.fits)))
-  tops-go (Tops.with_value before txt) =
+  tops-go : {c d : Cursor} {tops : List (Top SymbolAt ℕ)} (t : Tops c tops d)
+      → (length d.rest ≤ length c.rest) × (Room 0 c → TopsArePermitted limits tops → TopsWithin limits t)
+  tops-go Tops.nothing = (omega arith, λ room permitted. tt)
+  tops-go (Tops.marker {tops = tops} {p = p} before tok alone) =
       let one = tops-go before in
-      let two = txt-goes 0 txt in
-      (omega (arith, one.0, two.0), λ room. (one.1 room, two.1 (omega (arith, room.0, one.0), omega (arith, room.1, one.0))))
+      let two = tok-took _ _ _ _ _ tok in
+      (omega (arith, one.0, two.less), λ room permitted. (one.1 room (all-parts (TopIsPermitted limits) tops (value.version p ∷ []) permitted).0, omega (arith, room.1, one.0, two.fits)))
+  tops-go (Tops.with_value {tops = tops} {annotations = annotations} {p = p} {v = v} before txt) =
+      let one = tops-go before in
+      let two = txt-goes 0 txt in (
+        omega (arith, one.0, two.0),
+        λ room permitted.
+            let parts = all-parts (TopIsPermitted limits) tops (value.tree (first_place annotations p) annotations p v ∷ []) permitted in
+            (one.1 room parts.0, two.1 (omega (arith, room.0, one.0), omega (arith, room.1, one.0)) parts.1.0),
+      )
 
   -- each open container took a byte
   path-goes : {b c : Cursor} {path : Path SymbolAt ℕ} {kinds : List Kind} {full : Bool} (s : Spells b path kinds full c)
-      → (length kinds + length c.rest ≤ length b.rest) × (Room 0 b → PathWithin limits s)
-  path-goes (Spells.top t) = let all = tops-go t in (omega (arith, all.0), λ room. all.1 room)
+      → (length kinds + length c.rest ≤ length b.rest) × (Room 0 b → PathIsPermitted limits path → PathWithin limits s)
+  path-goes (Spells.top t) = let all = tops-go t in (omega (arith, all.0), λ room permitted. all.1 room permitted)
   path-goes (Spells.inside path field annotations p k members {kinds = kinds} s own ns tok inside) =
       let one = path-goes s in
       let two = field-goes own in
@@ -159,24 +171,26 @@ module _ (limits : Limits) where
       let four = tok-took _ _ _ _ _ tok in
       let five = inside-goes (suc (length kinds)) inside in (
         omega (arith, one.0, two.0, three.0, four.less, five.0),
-        λ room. (
-          one.1 room,
-          (
-            two.1 (omega (arith, room.1, one.0)),
-            (
-              three.1 (omega (arith, room.1, one.0, two.0)),
+        λ room permitted.
+            let parts = open-permitted limits path (first_place annotations p) field annotations p k members permitted in (
+              one.1 room parts.0,
               (
-                omega (arith, room.0, one.0, two.0, three.0, four.less),
-                five.1 (omega (arith, room.0, one.0, two.0, three.0, four.less), omega (arith, room.1, one.0, two.0, three.0, four.less)),
+                two.1 (omega (arith, room.1, one.0)),
+                (
+                  three.1 (omega (arith, room.1, one.0, two.0)),
+                  (
+                    omega (arith, room.0, one.0, two.0, three.0, four.less),
+                    five.1 (omega (arith, room.0, one.0, two.0, three.0, four.less), omega (arith, room.1, one.0, two.0, three.0, four.less)) parts.1,
+                  ),
+                ),
               ),
             ),
-          ),
-        ),
       )
 
   module _ (bytes : List ℕ) (allows : Allows limits bytes) where
-    pub tops-allowed : {c : Cursor} {tops : List (Top SymbolAt ℕ)} (t : Tops (start_of bytes) tops c) → TopsWithin limits t
-    tops-allowed t = (tops-go t).1 (omega (arith, allows.0), allows.1)
+    pub tops-allowed : {c : Cursor} {tops : List (Top SymbolAt ℕ)} (t : Tops (start_of bytes) tops c) → ArePermitted limits (top_items tops) → TopsWithin limits t
+    tops-allowed {tops = tops} t permitted = (tops-go t).1 (omega (arith, allows.0), allows.1) (tops-permitted limits tops permitted)
 
-    pub path-allowed : {c : Cursor} {path : Path SymbolAt ℕ} {kinds : List Kind} {full : Bool} (s : Spells (start_of bytes) path kinds full c) → PathWithin limits s
-    path-allowed s = (path-goes s).1 (omega (arith, allows.0), allows.1)
+    pub path-allowed : {c : Cursor} {path : Path SymbolAt ℕ} {kinds : List Kind} {full : Bool} (s : Spells (start_of bytes) path kinds full c) → ArePermitted limits (path_items path)
+        → PathWithin limits s
+    path-allowed {path = path} s permitted = (path-goes s).1 (omega (arith, allows.0), allows.1) (path-permitted limits path permitted)

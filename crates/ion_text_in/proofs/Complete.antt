@@ -1,10 +1,11 @@
 -- Whatever the grammar spells is read, where limits allow what stands there.
-use Rattle.std.proofs.Common.{◌≡◌, ℕ, suc, ◌≤◌, arith, Bool, true, false, nat_le, nat_lt, sum_by, List, [], ◌∷◌, ◌++◌, length, Option, None, Some, Ok, Result, if◌then◌else◌, refl, sym, ap, subst, ◌∙◌, append_assoc, append-nil}
+use Rattle.std.proofs.Common.{◌≡◌, ℕ, suc, ◌≤◌, arith, Bool, true, false, not, nat_le, nat_lt, sum_by, List, [], ◌∷◌, ◌++◌, length, Option, None, Some, Ok, Result, if◌then◌else◌, refl, sym, ap, subst, ◌∙◌, append_assoc, append-nil}
 use Rattle.std.proofs.lemmas.Bool.{le-ltb, lt-leb}
 use Rattle.std.proofs.lemmas.List.Sums.{sum_by-append}
 use Rattle.ion_meter.specs.declared.fault.Reason.{Reason}
+use Rattle.ion_meter.specs.declared.fault.Reason.TheVariants as reasons
 use Rattle.ion_meter.specs.declared.fault.Reason.TheVariants.{AnnotationLimit, DepthLimit}
-use Rattle.ion_meter.specs.declared.limits.Limits.{Limits}
+use Rattle.ion_meter.specs.declared.profile.Rules.{Rules}
 use Rattle.ion_value.specs.declared.ion_type.Kind.{Kind}
 use Rattle.ion_value.specs.declared.ion_type.Kind.TheVariants as kind
 use Rattle.ion_value.specs.Digits.{cut_at}
@@ -17,7 +18,7 @@ use Rattle.ion_value.proofs.Readings.{items_then-append, reading_by-ends, readin
 use Rattle.ion_meter.specs.Sources.{Cursor}
 use Rattle.ion_value.specs.Parts.{part, refuse, ◌>>=◌, ◌>>◌}
 use Rattle.ion_text_in.specs.Blanks.{blanks}
-use Rattle.ion_text_in.specs.Token.{Token, plain, name, text, operator, begin, end, comma, colons}
+use Rattle.ion_text_in.specs.Token.{Token, plain, float, name, text, operator, begin, end, comma, colons}
 use Rattle.ion_text_in.specs.Reading as reading
 use Rattle.ion_text_in.specs.Positions.{Wants, a_value, a_field, a_separator, State, innermost, in_sexp, has_commas, at, first_place}
 use Rattle.ion_text_in.specs.Reading.{member_of, at_member, after_member, top_of, item_of, cost, tells_version, after_colons, step, step_of, take, size, start}
@@ -34,25 +35,25 @@ use Rattle.ion_text_in.proofs.Tokens.{state, Suits, value-suits, mark-suits, end
 
 -- ---- from one state to another
 
-unfoldable pub read_from : Limits → State → Reading
+unfoldable pub read_from : Rules → State → Reading
 read_from limits s = reading_by (step limits) size s
 
 -- from a state on these items are read, and what is read after them is read from the other
-abbrev pub Reads : Limits → State → List PlacedItem → State → Type 0
+abbrev pub Reads : Rules → State → List PlacedItem → State → Type 0
 Reads limits s items t = read_from limits s ≡ items_then items (read_from limits t)
 
-pub reads-then : (limits : Limits) (s t u : State) (xs ys : List PlacedItem) → Reads limits s xs t → Reads limits t ys u → Reads limits s (xs ++ ys) u
+pub reads-then : (limits : Rules) (s t u : State) (xs ys : List PlacedItem) → Reads limits s xs t → Reads limits t ys u → Reads limits s (xs ++ ys) u
 reads-then limits s t u xs ys p q = p ∙ ap (items_then xs) q ∙ sym (items_then-append xs ys (read_from limits u))
 
-pub reads-gives : (limits : Limits) (s t : State) (item : PlacedItem) → step limits s ≡ Gives item t → Reads limits s (item ∷ []) t
+pub reads-gives : (limits : Rules) (s t : State) (item : PlacedItem) → step limits s ≡ Gives item t → Reads limits s (item ∷ []) t
 unfolding read_from
 reads-gives limits s t item e = reading_by-gives (step limits) size (each_step_falls limits) s t item e
 
-pub reads-goes_on : (limits : Limits) (s t : State) → step limits s ≡ GoesOn t → Reads limits s [] t
+pub reads-goes_on : (limits : Rules) (s t : State) → step limits s ≡ GoesOn t → Reads limits s [] t
 unfolding read_from
 reads-goes_on limits s t e = reading_by-goes_on (step limits) size (each_step_falls limits) s t e
 
-read_from-ends : (limits : Limits) (s : State) → step limits s ≡ Ends → read_from limits s ≡ Finished
+read_from-ends : (limits : Rules) (s : State) → step limits s ≡ Ends → read_from limits s ≡ Finished
 unfolding read_from
 read_from-ends limits s e = reading_by-ends (step limits) size (each_step_falls limits) s e
 
@@ -61,7 +62,7 @@ not-refused p b reason o e = ap (λ b. step_of (part p (refuse b reason >> o))) 
 
 -- ---- annotations and fields
 
-names-read : (limits : Limits) (kinds : List Kind) (top : ℕ) (field : Option SymbolAt) (sexp : Bool) (c d : Cursor) (annotations : List SymbolAt) → in_sexp (innermost kinds) ≡ sexp
+names-read : (limits : Rules) (kinds : List Kind) (top : ℕ) (field : Option SymbolAt) (sexp : Bool) (c d : Cursor) (annotations : List SymbolAt) → in_sexp (innermost kinds) ≡ sexp
     → (ns : Annotations sexp c annotations d) → sum_by cost annotations ≤ limits.scalar → NamesWithin limits ns
     → Reads limits (state kinds top (a_value field []) c) [] (state kinds top (a_value field annotations) d)
 unfolding take
@@ -76,11 +77,11 @@ names-read limits kinds top field sexp c f _ is (Annotations.then {annotations =
     ∙ not-refused p (nat_lt limits.scalar (sum_by cost (annotations ++ at symbol p ∷ []))) AnnotationLimit (Ok (GoesOn next)) (le-ltb limits.scalar (sum_by cost (annotations ++ at symbol p ∷ [])) cheap) in
     prefix ∙ reads-goes_on limits (state kinds top (a_value field annotations) d) next one
 
-pub annotations-read : (limits : Limits) (kinds : List Kind) (top : ℕ) (field : Option SymbolAt) (sexp : Bool) (c d : Cursor) (annotations : List SymbolAt) → in_sexp (innermost kinds) ≡ sexp
+pub annotations-read : (limits : Rules) (kinds : List Kind) (top : ℕ) (field : Option SymbolAt) (sexp : Bool) (c d : Cursor) (annotations : List SymbolAt) → in_sexp (innermost kinds) ≡ sexp
     → (ns : Annotations sexp c annotations d) → AnnotationsWithin limits ns → Reads limits (state kinds top (a_value field []) c) [] (state kinds top (a_value field annotations) d)
 annotations-read limits kinds top field sexp c d annotations is ns within = names-read limits kinds top field sexp c d annotations is ns within.0 within.1
 
-pub field-read : (limits : Limits) (kinds : List Kind) (top : ℕ) (k : Option Kind) (field : Option SymbolAt) (c d : Cursor) → innermost kinds ≡ k → (own : Field k c field d) → FieldWithin limits own
+pub field-read : (limits : Rules) (kinds : List Kind) (top : ℕ) (k : Option Kind) (field : Option SymbolAt) (c d : Cursor) → innermost kinds ≡ k → (own : Field k c field d) → FieldWithin limits own
     → Reads limits (state kinds top (at_member k) c) [] (state kinds top (a_value field []) d)
 unfolding take
 field-read limits kinds top _ _ c _ is Field.at_top within = refl
@@ -107,10 +108,10 @@ same-wants kind.Sexp = refl
 same-wants kind.Struct = refl
 
 -- a mark counts nothing
-pub mark-within : (limits : Limits) (t : Token) (p : ℕ) (d : Cursor) → counts t p d.place ≡ 0 → TokenWithin limits t p d
+pub mark-within : (limits : Rules) (t : Token) (p : ℕ) (d : Cursor) → counts t p d.place ≡ 0 → TokenWithin limits t p d
 mark-within limits t p d none = omega (arith, none)
 
-scalar-read : (limits : Limits) (kinds : List Kind) (top : ℕ) (field : Option SymbolAt) (annotations : List SymbolAt) (sexp : Bool) (c d e : Cursor) (p : ℕ) (t : Token) (body : Scalar SymbolAt)
+scalar-read : (limits : Rules) (kinds : List Kind) (top : ℕ) (field : Option SymbolAt) (annotations : List SymbolAt) (sexp : Bool) (c d e : Cursor) (p : ℕ) (t : Token) (body : Scalar SymbolAt)
     → in_sexp (innermost kinds) ≡ sexp → (ns : Annotations sexp c annotations d) → AnnotationsWithin limits ns → Tok sexp d t p e → TokenWithin limits t p e
     → step_of (take limits kinds top (a_value field annotations) p t e) ≡ reading.scalar_step kinds top field annotations p body e
     → Reads limits (state kinds top (a_value field []) c) (value_items (top_of kinds top annotations p) field annotations p (value.scalar body)) (state kinds (top_of kinds top annotations p) (after_member (innermost kinds)) e)
@@ -133,7 +134,7 @@ closed-is kinds top kind.List q c = refl
 closed-is kinds top kind.Sexp q c = refl
 closed-is kinds top kind.Struct q c = refl
 
-end-taken : (limits : Limits) (kinds : List Kind) (top : ℕ) (k : Kind) (full : Bool) (q : ℕ) (c : Cursor) → step_of (take limits (k ∷ kinds) top (wants_after (Some k) full) q (end k) c)
+end-taken : (limits : Rules) (kinds : List Kind) (top : ℕ) (k : Kind) (full : Bool) (q : ℕ) (c : Cursor) → step_of (take limits (k ∷ kinds) top (wants_after (Some k) full) q (end k) c)
     ≡ Gives (item_of top None [] q value.end) (state kinds top (after_member (innermost kinds)) c)
 unfolding take
 end-taken limits kinds top k true q c = closed-is kinds top k q c
@@ -141,7 +142,7 @@ end-taken limits kinds top kind.List false q c = refl
 end-taken limits kinds top kind.Sexp false q c = refl
 end-taken limits kinds top kind.Struct false q c = refl
 
-module _ (limits : Limits) where
+module _ (limits : Rules) where
   mutual
     unfolding take
 
@@ -150,6 +151,9 @@ module _ (limits : Limits) where
         → Reads limits (state kinds top (a_value field []) c) (value_items (top_of kinds top annotations p) field annotations p v) (state kinds (top_of kinds top annotations p) (after_member (innermost kinds)) e)
     value-read kinds top field _ c e _ p _ is (Txt.of_plain {k = k} {d = d} {annotations = annotations} {v = v} ns tok) within =
         scalar-read limits kinds top field annotations (in_sexp k) c d e p (plain v) v (ap in_sexp is) ns within.0 tok within.1 refl
+    value-read kinds top field _ c e _ p _ is (Txt.of_float {k = k} {d = d} {annotations = annotations} {x = x} ns tok) within =
+        scalar-read limits kinds top field annotations (in_sexp k) c d e p (float (Some x)) (value.float x) (ap in_sexp is) ns within.0 tok within.1.0
+        (not-refused p (not limits.floats) reasons.Float (Ok (reading.scalar_step kinds top field annotations p (value.float x) e)) (ap not within.1.1))
     value-read kinds top field _ c e _ p _ is (Txt.of_text {k = k} {d = d} {annotations = annotations} {bytes = bytes} ns tok) within =
         scalar-read limits kinds top field annotations (in_sexp k) c d e p (text bytes) (value.string bytes) (ap in_sexp is) ns within.0 tok within.1 refl
     value-read kinds top field _ c e _ p _ is (Txt.of_operator {k = k} {d = d} {annotations = annotations} {bytes = bytes} ns tok) within =
@@ -201,10 +205,10 @@ unfolding tells_version cut_at
 marker-taken top p e = refl
 
 -- where the top-level value began that was read last
-abbrev pub TopsRead : Limits → List ℕ → List (Top SymbolAt ℕ) → Cursor → Type 0
+abbrev pub TopsRead : Rules → List ℕ → List (Top SymbolAt ℕ) → Cursor → Type 0
 TopsRead limits bytes tops c = (top : ℕ) × Reads limits (start bytes) (top_items tops) (state [] top (a_value None []) c)
 
-module _ (limits : Limits) (bytes : List ℕ) where
+module _ (limits : Rules) (bytes : List ℕ) where
   pub tops-read : (c : Cursor) (tops : List (Top SymbolAt ℕ)) → (t : Tops (start_of bytes) tops c) → TopsWithin limits t → TopsRead limits bytes tops c
   unfolding take
   tops-read _ _ Tops.nothing within = (0, refl)
@@ -235,12 +239,12 @@ open-items (opened tops first nest) q top field annotations p k members fits =
     rw (← fits) (sym (append_assoc (top_items tops) (nest_items first nest) (begin_item first field annotations p k ∷ member_items first members)))
 
 -- where the open top-level value began, or the last
-record PathRead (limits : Limits) (bytes : List ℕ) (path : Path SymbolAt ℕ) (kinds : List Kind) (full : Bool) (c : Cursor) : Type 0 where
+record PathRead (limits : Rules) (bytes : List ℕ) (path : Path SymbolAt ℕ) (kinds : List Kind) (full : Bool) (c : Cursor) : Type 0 where
   top : ℕ
   is_top : IsTop path top
   read : Reads limits (start bytes) (path_items path) (state kinds top (wants_after (innermost kinds) full) c)
 
-module _ (limits : Limits) (bytes : List ℕ) where
+module _ (limits : Rules) (bytes : List ℕ) where
   path-read : (c : Cursor) (path : Path SymbolAt ℕ) (kinds : List Kind) (full : Bool) (s : Spells (start_of bytes) path kinds full c) → PathWithin limits s
       → PathRead limits bytes path kinds full c
   unfolding take
@@ -264,7 +268,7 @@ module _ (limits : Limits) (bytes : List ℕ) where
             (sym (open-items path (first_place annotations p) top' field annotations p k members (fits path kinds false before.top field annotations p s before.is_top own))) all;
       }
 
-pub reading-read_from : (limits : Limits) (bytes : List ℕ) → reading.reading limits bytes ≡ read_from limits (start bytes)
+pub reading-read_from : (limits : Rules) (bytes : List ℕ) → reading.reading limits bytes ≡ read_from limits (start bytes)
 unfolding read_from reading.reading
 reading-read_from limits bytes = refl
 
@@ -274,9 +278,9 @@ paths_within limits bytes q path is within =
     (read_from limits (state is.kinds all.top (wants_after (innermost is.kinds) is.full) is.after), reading-read_from limits bytes ∙ all.read)
 
 pub complete : Complete
-complete limits bytes q path allows is = paths_within limits bytes q path is (path-allowed limits bytes allows is.spells)
+complete limits bytes q path allows permitted is = paths_within limits bytes q path is (path-allowed limits bytes allows is.spells permitted)
 
-ends-step : (limits : Limits) (top : ℕ) (c e : Cursor) → blanks c ≡ Ok e → e.rest ≡ [] → step limits (state [] top (a_value None []) c) ≡ Ends
+ends-step : (limits : Rules) (top : ℕ) (c e : Cursor) → blanks c ≡ Ok e → e.rest ≡ [] → step limits (state [] top (a_value None []) c) ≡ Ends
 unfolding step reading.part_at
 ends-step limits top c e blank none =
     ap step_of (ap (λ o. o >>= (λ b. reading.part_after limits (state [] top (a_value None []) c) b b.rest)) blank ∙ ap (reading.part_after limits (state [] top (a_value None []) c) e) none)
@@ -287,4 +291,4 @@ streams_within limits bytes tops is within =
     reading-read_from limits bytes ∙ all.1 ∙ ap (items_then (top_items tops)) (read_from-ends limits (state [] all.0 (a_value None []) is.last) (ends-step limits all.0 is.last is.end is.blank is.nothing_left))
 
 pub streams_are_read : StreamsAreRead
-streams_are_read limits bytes tops allows is = streams_within limits bytes tops is (tops-allowed limits bytes allows is.spells)
+streams_are_read limits bytes tops allows permitted is = streams_within limits bytes tops is (tops-allowed limits bytes allows is.spells permitted)

@@ -4,10 +4,11 @@ use Rattle.std.proofs.lemmas.Bool.{eqb-true}
 use Rattle.std.proofs.lemmas.List.{length-take-le}
 use Rattle.std.specs.Result.{IfOk}
 use Rattle.std.specs.Str.{bytes_eq, is_utf8}
+use lib.Ieee.{inf}
 use Rattle.ion_meter.specs.declared.fault.Reason.{Reason}
 use Rattle.ion_meter.specs.declared.fault.Reason.TheVariants.{BadText, ScalarLimit}
 use Rattle.ion_meter.specs.Sources.{Cursor, skip}
-use Rattle.ion_value.specs.Digits.{first_is}
+use Rattle.ion_value.specs.Digits.{first_is, has_minus}
 use Rattle.ion_value.specs.Name.{Keyword, a_null, keyword, begins_with, is_identifier_start, is_operator_byte}
 use Rattle.ion_value.specs.Parts.{◌>>=◌}
 use Rattle.ion_value.specs.Scalar.{scalar_of_run}
@@ -27,6 +28,7 @@ use Rattle.ion_text_in.specs.declared.scanned.Scanned.TheVariants.{Whole}
 use Rattle.ion_text_in.specs.declared.word.Word.{Word}
 use Rattle.ion_text_in.specs.declared.word.Word.TheVariants as word
 use Rattle.ion_text_in.specs.Waiting.{IsOfNoTable, DeclaresNone, NoneIsDeclared}
+use Rattle.ion_text_in.proofs.RunTokens.{if-scalar}
 use Rattle.ion_text_in.proofs.SegmentTexts.{text-first}
 use Rattle.ion_text_in.proofs.WentWell.{if-any, if-passed, if-then}
 
@@ -160,11 +162,14 @@ Of c f = IfOk (token_of limit f c) (λ read. DeclaresNone read.0)
 
 kind-none : (f : First) (b : ℕ) (bytes : List ℕ) (place : ℕ) → is_dollar b ≡ false → (f ≡ a_quoted → first_is may_be_dollar bytes ≡ false) → Of (at place (b ∷ bytes)) f
 unfolding token_of
-kind-none tokens.a_run b bytes place other quotes = if-any _ (counted limit (bytes_of in_run (b ∷ bytes)) (at place (b ∷ bytes))) _ (λ r. by r.1 (scalar_of_run r.0))
+kind-none tokens.a_run b bytes place other quotes = if-any _ (counted limit (bytes_of in_run (b ∷ bytes)) (at place (b ∷ bytes))) _ (λ r. by r.1 r.0 (scalar_of_run r.0))
   where
-    by : (c : Cursor) (o : Result (Scalar SymbolAt) Reason) → IfOk ((o >>= (λ v. Ok (tokens.plain v))) >>= (λ t. Ok (t, c))) (λ (read : Token × Cursor). DeclaresNone read.0)
-    by c (Ok v) = tt
-    by c (Err reason) = tt
+    is : (o : Result (Scalar SymbolAt) Reason) → IfOk o (λ v. DeclaresNone (tokens.plain v))
+    is (Ok v) = tt
+    is (Err why) = tt
+
+    by : (c : Cursor) (run : List ℕ) (o : Result (Scalar SymbolAt) Reason) → IfOk (tokens.scalar_token run o >>= (λ t. Ok (t, c))) (λ (read : Token × Cursor). DeclaresNone read.0)
+    by c run o = if-then DeclaresNone (λ (read : Token × Cursor). DeclaresNone read.0) (tokens.scalar_token run o) _ (if-scalar DeclaresNone run o (is o) tt) (λ t h. h)
 kind-none a_word b bytes place other quotes =
     if-then (λ r. first_is is_dollar r.0 ≡ false) _ (counted limit (word_of (b ∷ bytes)) (at place (b ∷ bytes))) _
     (if-passed _ (passes limit (length (word_of (b ∷ bytes)))) ScalarLimit _ (λ _. word-first b bytes other)) (λ r first. word-none r.0 r.1 first)
@@ -173,7 +178,7 @@ kind-none tokens.a_short b bytes place other quotes = if-any _ (text_at (quoted.
 kind-none tokens.a_long b bytes place other quotes = if-any _ (text_at (quoted.long_quote false) limit (skip 3 (at place (b ∷ bytes)))) _ (λ r. tt)
 kind-none tokens.a_lob b bytes place other quotes = if-any _ (lob_at limit (skip 2 (at place (b ∷ bytes)))) _ (λ r. tt)
 kind-none tokens.an_operator b bytes place other quotes = if-any _ (counted limit (bytes_of in_operator (b ∷ bytes)) (at place (b ∷ bytes))) _ (λ r. tt)
-kind-none tokens.an_infinity b bytes place other quotes = if-passed (λ (read : Token × Cursor). DeclaresNone read.0) (passes limit 4) ScalarLimit (tokens.mark tokens.no_number 4 (at place (b ∷ bytes))) (λ _. tt)
+kind-none tokens.an_infinity b bytes place other quotes = if-passed (λ (read : Token × Cursor). DeclaresNone read.0) (passes limit 4) ScalarLimit (tokens.mark (tokens.float (Some (inf (has_minus (b ∷ bytes))))) 4 (at place (b ∷ bytes))) (λ _. tt)
 kind-none tokens.no_token b bytes place other quotes = tt
 kind-none mark b bytes place other quotes = tt
 

@@ -3,7 +3,7 @@ use Rattle.std.proofs.Common.{◌≡◌, ℕ, ◌+◌, ◌-◌, ◌<◌, ◌≤�
 use Rattle.std.proofs.lemmas.Bool.{and_parts}
 use Rattle.std.proofs.lemmas.List.{length-drop}
 use Rattle.ion_meter.specs.Sources.{Cursor, skip}
-use Rattle.ion_meter.specs.declared.limits.Limits.{Limits}
+use Rattle.ion_meter.specs.declared.profile.Rules.{Rules}
 use Rattle.ion_meter.specs.declared.fault.Reason.{Reason}
 use Rattle.ion_value.specs.declared.ion_type.Kind.{Kind}
 use Rattle.ion_value.specs.Digits.{first_is}
@@ -44,7 +44,7 @@ use Rattle.ion_text_in.proofs.ShownFurther.{shown-some}
 -- ---- scalars that are no text and no symbol
 
 -- a null or a bool, as the code reads it of a word
-pub head-keyword : {limits : Limits} {place n : ℕ} {x known : Word} {body : Scalar SymbolAt} {bytes rest : List ℕ} → x ≡ known → word_token_of (take n bytes) known ≡ tokens.plain body → IsPlainScalar body → InRange body
+pub head-keyword : {limits : Rules} {place n : ℕ} {x known : Word} {body : Scalar SymbolAt} {bytes rest : List ℕ} → x ≡ known → word_token_of (take n bytes) known ≡ tokens.plain body → IsPlainScalar body → InRange body
     → rest ≡ drop n bytes → Shows (word_token_of (take n bytes)) bytes (Whole x n) (token_of (Some limits.scalar) tokens.a_word) → BeginsAs tokens.a_word bytes → IsHead limits place bytes (value.whole body) rest
 head-keyword {limits} {place} {n} {x} {body} {bytes} {rest} is says known range after shows begins =
     let counts = shown-some (word_token_of (take n bytes)) bytes x n (Some limits.scalar) tokens.a_word shows begins.some in
@@ -54,7 +54,7 @@ head-keyword {limits} {place} {n} {x} {body} {bytes} {rest} is says known range 
 
 -- ---- texts between quotes
 
-text-taken : (limits : Limits) (kinds : List Kind) (top place q : ℕ) (field : Option SymbolAt) (annotations : List SymbolAt) (bytes rest : List ℕ)
+text-taken : (limits : Rules) (kinds : List Kind) (top place q : ℕ) (field : Option SymbolAt) (annotations : List SymbolAt) (bytes rest : List ℕ)
     → comes limits (taken limits kinds top (a_value field annotations) place (tokens.text bytes) (at q rest))
     ≡ More (item_in kinds top field annotations place (value.whole (value.string bytes))) (later limits (state kinds (top_of kinds top annotations place) (after_member (innermost kinds)) q rest))
 unfolding taken
@@ -107,7 +107,7 @@ token-quoted {limit} {place} {bytes} {found} is begins = record {
   shown = λ q more e. quoted-token (Some limit) (at place (bytes ++ more)) (at q (found.rest.now ++ more)) found.text.now (is.shown place q more e);
 }
 
-pub head-string : {limits : Limits} {place : ℕ} {bytes : List ℕ} {found : Between} → IsBetween (short_quote false) limits.scalar bytes found → BeginsAs tokens.a_short bytes
+pub head-string : {limits : Rules} {place : ℕ} {bytes : List ℕ} {found : Between} → IsBetween (short_quote false) limits.scalar bytes found → BeginsAs tokens.a_short bytes
     → IsHead limits place bytes (value.whole (value.string found.text.now)) found.rest.now
 head-string {limits} {place} {bytes} {found} is begins =
     head-token (value.string found.text.now) (value.string found.text.now) tt tt (token-short is begins) (λ kinds top q field annotations more. text-taken limits kinds top place q field annotations found.text.now (found.rest.now ++ more))
@@ -143,7 +143,7 @@ quoted-marker None [] word = refl
 quoted-marker None (a ∷ annotations) word = refl
 quoted-marker (Some k) annotations word = refl
 
-name-taken : (limits : Limits) (kinds : List Kind) (top place q : ℕ) (field : Option SymbolAt) (annotations : List SymbolAt) (quoted : Bool) (symbol : Symbol) (rest : List ℕ)
+name-taken : (limits : Rules) (kinds : List Kind) (top place q : ℕ) (field : Option SymbolAt) (annotations : List SymbolAt) (quoted : Bool) (symbol : Symbol) (rest : List ℕ)
     → after_colons (in_sexp (innermost kinds)) (at q rest) ≡ None → tells_version (innermost kinds) annotations quoted symbol ≡ false
     → comes limits (taken limits kinds top (a_value field annotations) place (tokens.name quoted symbol) (at q rest))
     ≡ More (item_in kinds top field annotations place (value.whole (value.symbol (positions.at symbol place)))) (later limits (state kinds (top_of kinds top annotations place) (after_member (innermost kinds)) q rest))
@@ -163,7 +163,7 @@ told-none sexp q rest more next is told =
     ∙ (ap (λ (f : First). colons_at f (at next_place (next.rest.now ++ more))) (is.tells told sexp more) ∙ no-colons next.told (at next_place (next.rest.now ++ more)))
 
 -- a symbol, which is read as `symbol` and seen as `seen`, after which such a token is told
-pub head-word : {limits : Limits} {place : ℕ} {first : First} {bytes rest : List ℕ} (quoted : Bool) (symbol seen : Symbol) (next : Next) → IsToken limits.scalar first (tokens.name quoted symbol) place bytes rest
+pub head-word : {limits : Rules} {place : ℕ} {first : First} {bytes rest : List ℕ} (quoted : Bool) (symbol seen : Symbol) (next : Next) → IsToken limits.scalar first (tokens.name quoted symbol) place bytes rest
     → IsKnownOrZero seen → ((k : Option Kind) (annotations : List SymbolAt) → tells_version k annotations quoted symbol ≡ false) → IsNext rest next → (next.told ≡ 0 → ⊥)
     → IsHeadAs (value.whole (value.symbol (positions.at symbol place))) limits place bytes (value.whole (value.symbol (positions.at seen place))) rest
 head-word {limits} {place} {first} {bytes} {rest} quoted symbol seen next is known version after told =
@@ -200,7 +200,7 @@ quote-begins (a ∷ b ∷ bytes) two first other = record {
 
 -- ---- texts that name fields
 
-pub name-between : {limits : Limits} {place : ℕ} {bytes : List ℕ} {found : Between} (name : TextAt) (quote : CodeQuote) → name.place ≡ place → name.text.now ≡ found.text.now
+pub name-between : {limits : Rules} {place : ℕ} {bytes : List ℕ} {found : Between} (name : TextAt) (quote : CodeQuote) → name.place ≡ place → name.text.now ≡ found.text.now
     → IsBetween (quote_of quote) limits.scalar bytes found → BeginsText quote bytes → IsName limits place bytes (placed_text name) found.rest.now × (0 < length bytes)
 name-between {limits} {place} {found} name quotes.Symbol here text is begins =
     (name-token (token-quoted is begins) may-quoted (symbol-names limits place true name found.text.now here text), begins.some)

@@ -2,7 +2,7 @@
 use Rattle.std.proofs.Common.{◌≡◌, ℕ, ◌+◌, ◌<◌, ◌≤◌, Bool, true, false, ◌==◌, get_or, List, [], ◌∷◌, ◌++◌, length, take, drop, Option, Some, None, IfSome, Ok, refl, sym, ap, subst, ◌∙◌, arith}
 use Rattle.std.specs.Prelude.{option_map}
 use Rattle.ion_meter.specs.Sources.{Cursor}
-use Rattle.ion_meter.specs.declared.limits.Limits.{Limits}
+use Rattle.ion_meter.specs.declared.profile.Rules.{Rules}
 use Rattle.ion_value.specs.declared.ion_type.Kind.{Kind}
 use Rattle.ion_value.specs.declared.plain_item.TextAt.{TextAt}
 use Rattle.ion_value.specs.declared.writer.ValueWriter.{Ghosts as WriterOf}
@@ -105,7 +105,7 @@ id-seen texts id place text has = ap (λ (o : Option (List ℕ)). positions.at (
 
 -- ---- the name of a field
 
-id-names : (limits : Limits) (place id : ℕ) (kinds : List Kind) (top : ℕ) (c : Cursor)
+id-names : (limits : Rules) (place id : ℕ) (kinds : List Kind) (top : ℕ) (c : Cursor)
     → comes limits (taken limits kinds top a_field place (tokens.name false (value.Id id)) c) ≡ comes limits (field_step kinds top (positions.at (value.Id id) place) c)
 unfolding taken
 id-names limits place id kinds top c = refl
@@ -116,7 +116,7 @@ token-id : {texts : ℕ → Option (List ℕ)} {limit place n : ℕ} {bytes text
 token-id {bytes} is after dollar = token-front after is.some is.within is.shown (dollar-begins bytes dollar)
 
 -- a value begins after an id that is its name
-pub named-id : (texts : ℕ → Option (List ℕ)) (limits : Limits) (place n : ℕ) (name : TextAt) (bytes rest : List ℕ) (start : Option Start) → name.place ≡ place → IsRightlyQuoted name → IsIdOf texts limits.scalar bytes name.text.now n
+pub named-id : (texts : ℕ → Option (List ℕ)) (limits : Rules) (place n : ℕ) (name : TextAt) (bytes rest : List ℕ) (start : Option Start) → name.place ≡ place → IsRightlyQuoted name → IsIdOf texts limits.scalar bytes name.text.now n
     → rest ≡ drop n bytes → first_is (λ b. b == 36) bytes ≡ true → IfSome start (IsAfterName name rest) → IfSome start (IsNamedBy texts limits place bytes)
 named-id texts limits place n name bytes rest None here says is after dollar h = tt
 named-id texts limits place n name bytes rest (Some s) here says is after dollar h =
@@ -150,12 +150,12 @@ id-marker id None (a ∷ annotations) = refl
 id-marker id (Some k) annotations = refl
 
 -- an id after which a token is told that is no two colons
-pub head-id : {texts : ℕ → Option (List ℕ)} {limits : Limits} {place n : ℕ} {bytes text rest : List ℕ} (next : Next) (is : IsIdOf texts limits.scalar bytes text n) → rest ≡ drop n bytes → IsNext rest next → (next.told ≡ 0 → ⊥)
+pub head-id : {texts : ℕ → Option (List ℕ)} {limits : Rules} {place n : ℕ} {bytes text rest : List ℕ} (next : Next) (is : IsIdOf texts limits.scalar bytes text n) → rest ≡ drop n bytes → IsNext rest next → (next.told ≡ 0 → ⊥)
     → first_is (λ b. b == 36) bytes ≡ true → IsHeadAs (value.whole (value.symbol (positions.at (value.Id is.id) place))) limits place bytes (value.whole (value.symbol (positions.at (value.Text text) place))) rest
 head-id {text} next is after told_next told dollar = head-word false (value.Id is.id) (value.Text text) next (token-id is after dollar) tt (id-marker is.id) told_next told
 
 -- `$0`, after which such a token is told
-pub head-zero : {limits : Limits} {place : ℕ} {bytes rest : List ℕ} (next : Next) → IsZeroId limits.scalar bytes → rest ≡ drop 2 bytes → IsNext rest next → (next.told ≡ 0 → ⊥)
+pub head-zero : {limits : Rules} {place : ℕ} {bytes rest : List ℕ} (next : Next) → IsZeroId limits.scalar bytes → rest ≡ drop 2 bytes → IsNext rest next → (next.told ≡ 0 → ⊥)
     → IsHead limits place bytes (value.whole (value.symbol (positions.at (value.Id 0) place))) rest
 head-zero {bytes} next is after told_next told =
     head-word false (value.Id 0) (value.Id 0) next (token-front after (omega arith) is.within is.shown (dollar-begins bytes is.dollar)) refl (id-marker 0) told_next told
@@ -165,7 +165,7 @@ pub head-id-seen : (texts : ℕ → Option (List ℕ)) (id place : ℕ) (text : 
 head-id-seen texts id place text has = ap (λ (a : SymbolAt). value.whole (value.symbol a)) (id-seen texts id place text has)
 
 -- a head that is no id
-pub found-text : (texts : ℕ → Option (List ℕ)) {limits : Limits} {place : ℕ} {bytes : List ℕ} {found : Found} → texts 0 ≡ None → IsFound limits place bytes found → IsFoundBy texts limits place bytes found
+pub found-text : (texts : ℕ → Option (List ℕ)) {limits : Rules} {place : ℕ} {bytes : List ℕ} {found : Found} → texts 0 ≡ None → IsFound limits place bytes found → IsFoundBy texts limits place bytes found
 found-text texts {found} none h = record { raw = raw_head found.head; seen = head-seen texts (raw_head found.head) none h.head.known; head = h.head; spelled = h.spelled }
 
 -- ---- by the texts that ids have
@@ -174,7 +174,7 @@ pub start-seen : {texts : ℕ → Option (List ℕ)} {second : Option TextAt} {b
     → option_map (named_at t) s.raw ≡ option_map placed_text start.field
 start-seen {start} s t is = subst (λ (x : ℕ → Option (List ℕ)). option_map (named_at x) s.raw ≡ option_map placed_text start.field) (sym is) s.seen
 
-pub found-seen : {texts : ℕ → Option (List ℕ)} {limits : Limits} {place : ℕ} {bytes : List ℕ} {found : Found} (f : IsFoundBy texts limits place bytes found) (t : ℕ → Option (List ℕ)) → t ≡ texts
+pub found-seen : {texts : ℕ → Option (List ℕ)} {limits : Rules} {place : ℕ} {bytes : List ℕ} {found : Found} (f : IsFoundBy texts limits place bytes found) (t : ℕ → Option (List ℕ)) → t ≡ texts
     → map_head (named_at t) f.raw ≡ raw_head found.head
 found-seen {found} f t is = subst (λ (x : ℕ → Option (List ℕ)). map_head (named_at x) f.raw ≡ raw_head found.head) (sym is) f.seen
 
@@ -183,7 +183,7 @@ found-seen {found} f t is = subst (λ (x : ℕ → Option (List ℕ)). map_head 
 pub start-read : {second : Option TextAt} {bounds : Bounds} {spot : Spot} {start : Start} → IsFurther second bounds spot start → IsStartRead second bounds spot start
 start-read {start} h = record { raw = option_map placed_text start.field; read = h }
 
-pub found-read : {limits : Limits} {place : ℕ} {bytes : List ℕ} {found : Found} → IsFound limits place bytes found → IsFoundRead limits place bytes found
+pub found-read : {limits : Rules} {place : ℕ} {bytes : List ℕ} {found : Found} → IsFound limits place bytes found → IsFoundRead limits place bytes found
 found-read {found} h = record { raw = raw_head found.head; head = h.head; spelled = h.spelled }
 
 -- what a turn moves by any texts it moves whatever they are

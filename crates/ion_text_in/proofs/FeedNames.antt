@@ -4,7 +4,7 @@ use Rattle.std.specs.Prelude.{option_map}
 use Rattle.std.specs.Str.{bytes_eq}
 use Rattle.std.proofs.lemmas.List.{length-drop}
 use Rattle.ion_meter.specs.Sources.{Cursor}
-use Rattle.ion_meter.specs.declared.limits.Limits.{Limits}
+use Rattle.ion_meter.specs.declared.profile.Rules.{Rules}
 use Rattle.ion_value.specs.declared.ion_type.Kind.{Kind}
 use Rattle.ion_value.specs.declared.ion_type.Kind.TheVariants as a_kind
 use Rattle.ion_value.specs.declared.ion_type.IonType.TheVariants as type
@@ -156,14 +156,14 @@ begun-shown limit n bytes begun none =
 pub begun-name : (limit n : ℕ) (bytes : List ℕ) (w : Word) → IsBegun limit bytes n → word_token (take n bytes) ≡ Ok (word_token_of (take n bytes) w) → IfName (IsSimpleWord limit bytes) (Whole w n)
 begun-name limit n bytes (word.Null type) begun token = tt
 begun-name limit n bytes (word.Bool truth) begun token = tt
-begun-name limit n bytes word.NoNumber begun token = tt
+begun-name limit n bytes word.Nan begun token = tt
 begun-name limit n bytes (word.Id id) begun token = tt
 begun-name limit n bytes word.Name begun token = begun-simple limit n bytes begun token
 
 -- ---- names of fields
 
 -- a name stands at the front of some bytes, and these after it
-pub record IsName (limits : Limits) (place : ℕ) (bytes : List ℕ) (name : SymbolAt) (rest : List ℕ) : Type 0 where
+pub record IsName (limits : Rules) (place : ℕ) (bytes : List ℕ) (name : SymbolAt) (rest : List ℕ) : Type 0 where
   pub after : IsAfter bytes rest
   pub fewer : length rest ≤ length bytes
   pub same : (kinds : List Kind) (top q : ℕ) (more : List ℕ) → place + length bytes ≡ q + length rest
@@ -175,7 +175,7 @@ read-text text place word here is =
     ap (λ (l : List ℕ). positions.at (value.Text l) place) (sym is) ∙ ap (λ (p : ℕ). positions.at (value.Text text.text.now) p) (sym here)
 
 -- a token that names a field
-pub name-token : {limits : Limits} {place : ℕ} {first : First} {token : Token} {name : SymbolAt} {bytes rest : List ℕ} → IsToken limits.scalar first token place bytes rest → may_come a_field first ≡ true
+pub name-token : {limits : Rules} {place : ℕ} {first : First} {token : Token} {name : SymbolAt} {bytes rest : List ℕ} → IsToken limits.scalar first token place bytes rest → may_come a_field first ≡ true
     → ((kinds : List Kind) (top : ℕ) (c : Cursor) → comes limits (taken limits kinds top a_field place token c) ≡ comes limits (field_step kinds top name c)) → IsName limits place bytes name rest
 name-token {limits} {place} {first} {token} {name} {bytes} {rest} is may names =
     let fewer = is.fewer in
@@ -186,13 +186,13 @@ name-token {limits} {place} {first} {token} {name} {bytes} {rest} is may names =
     }
 
 -- a symbol names one
-pub symbol-names : (limits : Limits) (place : ℕ) (quoted : Bool) (name : TextAt) (word : List ℕ) → name.place ≡ place → name.text.now ≡ word → (kinds : List Kind) (top : ℕ) (c : Cursor)
+pub symbol-names : (limits : Rules) (place : ℕ) (quoted : Bool) (name : TextAt) (word : List ℕ) → name.place ≡ place → name.text.now ≡ word → (kinds : List Kind) (top : ℕ) (c : Cursor)
     → comes limits (taken limits kinds top a_field place (tokens.name quoted (value.Text word)) c) ≡ comes limits (field_step kinds top (placed_text name) c)
 unfolding taken
 symbol-names limits place quoted name word here is kinds top c = ap (λ (a : SymbolAt). comes limits (field_step kinds top a c)) (read-text name place word here is)
 
 -- so does a string
-pub string-names : (limits : Limits) (place : ℕ) (name : TextAt) (bytes : List ℕ) → name.place ≡ place → name.text.now ≡ bytes → (kinds : List Kind) (top : ℕ) (c : Cursor)
+pub string-names : (limits : Rules) (place : ℕ) (name : TextAt) (bytes : List ℕ) → name.place ≡ place → name.text.now ≡ bytes → (kinds : List Kind) (top : ℕ) (c : Cursor)
     → comes limits (taken limits kinds top a_field place (tokens.text bytes) c) ≡ comes limits (field_step kinds top (placed_text name) c)
 unfolding taken
 string-names limits place name bytes here is kinds top c = ap (λ (a : SymbolAt). comes limits (field_step kinds top a c)) (read-text name place bytes here is)
@@ -215,7 +215,7 @@ colon-there kinds top a c [] more some first = absurd (omega (arith, some))
 colon-there kinds top a c (b ∷ rest) more some first = ap (colon_of kinds top a c) first
 
 -- the name, the colon and the blanks after it
-onward-name : (limits : Limits) (kinds : List Kind) (top place : ℕ) (name : SymbolAt) (bytes after colon rest : List ℕ) → IsName limits place bytes name after → ToColon after colon → PassesBlanks (drop 1 colon) rest
+onward-name : (limits : Rules) (kinds : List Kind) (top place : ℕ) (name : SymbolAt) (bytes after colon rest : List ℕ) → IsName limits place bytes name after → ToColon after colon → PassesBlanks (drop 1 colon) rest
     → Onward limits kinds top place a_field bytes (a_value (Some name) []) rest
 onward-name limits kinds top place name bytes after colon rest is to_colon passes =
     let first = is.fewer in
@@ -240,7 +240,7 @@ onward-name limits kinds top place name bytes after colon rest is to_colon passe
     }
 
 -- a value begins after the name that was read
-pub named-as : (limits : Limits) (place : ℕ) (name : TextAt) (raw : SymbolAt) (bytes after : List ℕ) (start : Start) → IsName limits place bytes raw after → IsRightlyQuoted name → 0 < length bytes
+pub named-as : (limits : Rules) (place : ℕ) (name : TextAt) (raw : SymbolAt) (bytes after : List ℕ) (start : Start) → IsName limits place bytes raw after → IsRightlyQuoted name → 0 < length bytes
     → IsAfterName name after start → IsNamedAs name raw limits place bytes start
 named-as limits place name raw bytes after start is says some h = record {
   is = h.is;
@@ -251,7 +251,7 @@ named-as limits place name raw bytes after start is says some h = record {
   begins = h.begins;
 }
 
-pub named-start : {limits : Limits} {place : ℕ} {bytes after : List ℕ} (name : TextAt) (start : Option Start) → IsName limits place bytes (placed_text name) after → IsRightlyQuoted name → 0 < length bytes
+pub named-start : {limits : Rules} {place : ℕ} {bytes after : List ℕ} (name : TextAt) (start : Option Start) → IsName limits place bytes (placed_text name) after → IsRightlyQuoted name → 0 < length bytes
     → IfSome start (IsAfterName name after) → IfSome start (IsNamed limits place bytes)
 named-start name None is says some h = tt
 named-start {limits} {place} {bytes} {after} name (Some s) is says some h = record { text = name; name = named-as limits place name (placed_text name) bytes after s is says some h }
@@ -306,6 +306,6 @@ not-empty [] e = absurd (cc e)
 not-empty (b ∷ bytes) e = omega arith
 
 -- no annotation was read there
-pub named-bare : (limits : Limits) (place : ℕ) (bytes : List ℕ) (start : Option Start) → IfSome start (IsNamed limits place bytes) → IfSome start (λ s. s.note ≡ None)
+pub named-bare : (limits : Rules) (place : ℕ) (bytes : List ℕ) (start : Option Start) → IfSome start (IsNamed limits place bytes) → IfSome start (λ s. s.note ≡ None)
 named-bare limits place bytes None h = tt
 named-bare limits place bytes (Some s) h = h.name.bare

@@ -3,7 +3,7 @@ use Rattle.std.proofs.Common.{◌≡◌, ℕ, ◌+◌, ◌-◌, ◌≤◌, Bool,
 use Rattle.std.specs.Prelude.{is_none, option_map, sum_by}
 use Rattle.std.proofs.lemmas.List.{length-drop}
 use Rattle.ion_meter.specs.Sources.{Cursor, skip}
-use Rattle.ion_meter.specs.declared.limits.Limits.{Limits}
+use Rattle.ion_meter.specs.declared.profile.Rules.{Rules}
 use Rattle.ion_meter.specs.declared.fault.Reason.TheVariants.{AnnotationLimit}
 use Rattle.ion_value.specs.declared.ion_type.Kind.{Kind}
 use Rattle.ion_value.specs.declared.ion_type.Kind.TheVariants as a_kind
@@ -41,7 +41,7 @@ room-costs limit None note fits = omega (arith, fits)
 room-costs limit (Some first) note fits = omega (arith, fits)
 
 -- a symbol after which two colons stand is an annotation after those before it
-note-stepped : (limits : Limits) (kinds : List Kind) (top place : ℕ) (field : Option SymbolAt) (before : List SymbolAt) (quoted : Bool) (note : TextAt) (c d : Cursor) → after_colons (in_sexp (innermost kinds)) c ≡ Some d
+note-stepped : (limits : Rules) (kinds : List Kind) (top place : ℕ) (field : Option SymbolAt) (before : List SymbolAt) (quoted : Bool) (note : TextAt) (c d : Cursor) → after_colons (in_sexp (innermost kinds)) c ≡ Some d
     → sum_by cost (before ++ placed_text note ∷ []) ≤ limits.scalar
     → comes limits (part place (symbol_step limits kinds top field before quoted (placed_text note) c (after_colons (in_sexp (innermost kinds)) c)))
     ≡ later limits (record { kinds = kinds; top = top; wants = a_value field (before ++ placed_text note ∷ []); cursor = d })
@@ -72,7 +72,7 @@ two-after (a ∷ []) more p two = absurd (omega (arith, two))
 two-after (a ∷ b ∷ bytes) more p two = refl
 
 -- a symbol stands at the front of some bytes where a value may begin, after any annotations, and these after it
-pub record IsSymbol (limits : Limits) (place : ℕ) (bytes : List ℕ) (text : TextAt) (rest : List ℕ) : Type 0 where
+pub record IsSymbol (limits : Rules) (place : ℕ) (bytes : List ℕ) (text : TextAt) (rest : List ℕ) : Type 0 where
   pub after : IsAfter bytes rest
   pub fewer : length rest ≤ length bytes
   pub quoted : Bool
@@ -80,14 +80,14 @@ pub record IsSymbol (limits : Limits) (place : ℕ) (bytes : List ℕ) (text : T
       → later limits (state kinds top (a_value field before) place (bytes ++ more))
       ≡ comes limits (part place (symbol_step limits kinds top field before quoted (placed_text text) (at q (rest ++ more)) (after_colons (in_sexp (innermost kinds)) (at q (rest ++ more)))))
 
-symbol-taken : (limits : Limits) (place : ℕ) (quoted : Bool) (text : TextAt) (word : List ℕ) → text.place ≡ place → text.text.now ≡ word → (kinds : List Kind) (top : ℕ) (field : Option SymbolAt) (before : List SymbolAt) (c : Cursor)
+symbol-taken : (limits : Rules) (place : ℕ) (quoted : Bool) (text : TextAt) (word : List ℕ) → text.place ≡ place → text.text.now ≡ word → (kinds : List Kind) (top : ℕ) (field : Option SymbolAt) (before : List SymbolAt) (c : Cursor)
     → comes limits (taken limits kinds top (a_value field before) place (tokens.name quoted (value.Text word)) c)
     ≡ comes limits (part place (symbol_step limits kinds top field before quoted (placed_text text) c (after_colons (in_sexp (innermost kinds)) c)))
 unfolding taken
 symbol-taken limits place quoted text word here is kinds top field before c =
     ap (λ (a : SymbolAt). comes limits (part place (symbol_step limits kinds top field before quoted a c (after_colons (in_sexp (innermost kinds)) c)))) (read-text text place word here is)
 
-pub symbol-token : {limits : Limits} {place : ℕ} {first : First} {word bytes rest : List ℕ} (quoted : Bool) (text : TextAt) → text.place ≡ place → text.text.now ≡ word
+pub symbol-token : {limits : Rules} {place : ℕ} {first : First} {word bytes rest : List ℕ} (quoted : Bool) (text : TextAt) → text.place ≡ place → text.text.now ≡ word
     → IsToken limits.scalar first (tokens.name quoted (value.Text word)) place bytes rest → IsSymbol limits place bytes text rest
 symbol-token {limits} {place} {first} {word} {bytes} {rest} quoted text here is token =
     let fewer = token.fewer in
@@ -101,7 +101,7 @@ symbol-token {limits} {place} {first} {word} {bytes} {rest} quoted text here is 
     }
 
 -- an annotation after others, the two colons and the blanks after them
-pub onward-note : (limits : Limits) (kinds : List Kind) (top place : ℕ) (field : Option SymbolAt) (before : List SymbolAt) (note : TextAt) (bytes colon : List ℕ) (next : Next) → IsSymbol limits place bytes note colon
+pub onward-note : (limits : Rules) (kinds : List Kind) (top place : ℕ) (field : Option SymbolAt) (before : List SymbolAt) (note : TextAt) (bytes colon : List ℕ) (next : Next) → IsSymbol limits place bytes note colon
     → sum_by cost (before ++ placed_text note ∷ []) ≤ limits.scalar → IsAfterColons colon next
     → Onward limits kinds top place (a_value field before) bytes (a_value field (before ++ placed_text note ∷ [])) next.rest.now
 onward-note limits kinds top place field before note bytes colon next is costs h =
@@ -138,7 +138,7 @@ pub start-part : {raw : Option SymbolAt} {second : Option TextAt} {bounds : Boun
 start-part {bounds} {spot} is = let opened = some-opened (expected_of spot) in let onward = is.onward opened.0 opened.1 in (onward.part, onward.fewer)
 
 -- a value begins after the annotation that was read
-pub note-after : {limits : Limits} {place : ℕ} {note : TextAt} {colon : List ℕ} (start : Start) (noted : Option Start) → IsSymbol limits place start.next.rest.now note colon → IsRightlyQuoted note
+pub note-after : {limits : Rules} {place : ℕ} {note : TextAt} {colon : List ℕ} (start : Start) (noted : Option Start) → IsSymbol limits place start.next.rest.now note colon → IsRightlyQuoted note
     → first_is (λ b. b == 36) note.text.now ≡ false → IfSome noted (IsAfterNote limits start note colon) → IfSome noted (IsNoted limits place start)
 note-after start None is says free h = tt
 note-after {limits} {place} {note} {colon} start (Some s) is says free h = record {

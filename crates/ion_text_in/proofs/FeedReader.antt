@@ -4,7 +4,7 @@ use Rattle.std.proofs.lemmas.List.{drop-append-le, drop-take, length-drop}
 use Rattle.ion_meter.specs.Counts.{Counts}
 use Rattle.ion_meter.specs.declared.device.Input.{Ghosts as InputOf}
 use Rattle.ion_meter.specs.declared.fault.Fault.{Fault}
-use Rattle.ion_meter.specs.declared.limits.Limits.{Limits}
+use Rattle.ion_meter.specs.declared.profile.Rules.{Rules}
 use Rattle.ion_meter.specs.Sources.{cursor, Stands}
 use Rattle.ion_meter.specs.Windows.{Incoming, Outgoing, left, lent, lent_by, IsPassed}
 use Rattle.ion_meter.proofs.Lent.{lent-CanPass, IsPassed-left}
@@ -67,11 +67,11 @@ lane-of r spot values writer sink m rest top counts expected kind = rw (rest, to
 -- ---- what is to come of the reader
 
 -- between two items, with what stands after the window
-came : {I A : Type 0} (device : InputOf I) (r : TextReader I A) (limits : Limits) (more : List ℕ) (place : ℕ) → r.limits ≡ limits → r.unfinished ≡ None → left device.rest r.source ≡ lent r.source ++ more → r.source.place ≡ place
+came : {I A : Type 0} (device : InputOf I) (r : TextReader I A) (limits : Rules) (more : List ℕ) (place : ℕ) → r.limits ≡ limits → r.unfinished ≡ None → left device.rest r.source ≡ lent r.source ++ more → r.source.place ≡ place
     → later limits (state (opened_in r) r.top (wanted r.expected None []) place (lent r.source ++ more)) ≡ to_come_by device r
 came device r limits more place same finished all here =
     sym (ap (λ (u : Option ℕ). unless_unfinished u (later r.limits (state_after (cursor device r.source) r))) finished
-    ∙ (ap (λ (l : Limits). later l (state_after (cursor device r.source) r)) same
+    ∙ (ap (λ (l : Rules). later l (state_after (cursor device r.source) r)) same
     ∙ (ap (λ (x : List ℕ). later limits (state (opened_in r) r.top (wanted r.expected None []) r.source.place x)) all
     ∙ ap (λ (p : ℕ). later limits (state (opened_in r) r.top (wanted r.expected None []) p (lent r.source ++ more))) here)))
 

@@ -1,8 +1,10 @@
 -- What the bytes of a window show of the next token, as reading has it.
 use Rattle.std.proofs.Common.{◌≡◌, ℕ, zero, suc, ◌+◌, ◌-◌, ◌<◌, ◌≤◌, Bool, true, false, not, nat_le, ◌==◌, List, [], ◌∷◌, ◌++◌, length, take, drop, get_or, Option, Some, None, IfSome, Ok, refl, sym, ap, subst, ◌∙◌, arith, append_assoc}
 use Rattle.std.proofs.lemmas.List.{take-append-drop, drop-drop, length-drop, length-take-le}
+use lib.Ieee.{Float}
 use Rattle.ion_meter.specs.Sources.{Cursor, skip}
-use Rattle.ion_meter.specs.declared.limits.Limits.{Limits}
+use Rattle.ion_meter.specs.declared.profile.Rules.{Rules}
+use Rattle.ion_meter.specs.declared.fault.Reason.TheVariants as reason
 use Rattle.ion_meter.specs.declared.fault.Reason.TheVariants.{BadToken, DepthLimit}
 use Rattle.ion_value.specs.declared.ion_type.Kind.{Kind}
 use Rattle.ion_value.specs.Digits.{all_are, first_is}
@@ -19,20 +21,23 @@ use Rattle.ion_text_in.specs.declared.feed.spot.Start.{Start}
 use Rattle.ion_text_in.specs.declared.expected.Expected.{Expected}
 use Rattle.ion_text_in.specs.declared.expected.Expected.TheVariants as codes
 use Rattle.ion_text_in.specs.declared.number.Number.{Number}
+use Rattle.ion_text_in.specs.declared.number.Numeral.TheVariants as numerals
 use Rattle.ion_text_in.specs.declared.number.Number.TheVariants as numbers
 use Rattle.ion_text_in.specs.declared.quick.Quick.{Quick}
 use Rattle.ion_text_in.specs.declared.scanned.Scanned.TheVariants.{Whole}
 use Rattle.ion_text_in.specs.Expecting.{wanted, MayExpect}
 use Rattle.ion_text_in.specs.Quick.{as_quick}
 use Rattle.ion_text_in.specs.Scanners.{Shows}
-use Rattle.ion_text_in.specs.Views.{as_number, number_token}
+use Rattle.ion_text_in.specs.Views.{as_number, number_token, numeral_token}
+use Rattle.ion_value.specs.Float.{IsFloat, value_of}
+use Rattle.ion_value.specs.declared.float.Float64.{Float64}
 use Rattle.ion_value.specs.Items.{raw_head}
 use Rattle.ion_value.specs.PlainItems.{IsPlainScalar, IsTextOf}
 use Rattle.ion_value.specs.Standing.{InRange}
 use Rattle.ion_text_in.specs.Feeding.{expected_of, item_in, place_in, state, Begins, BeginsAs, IsAfter, IsFound, IsHead, IsHeadAs, IsNext, IsStart, Onward, PassesBlanks}
 use Rattle.ion_text_in.specs.Meaning.{at}
 use Rattle.ion_text_in.specs.Positions.{Wants, a_value, a_field, a_separator, innermost, in_sexp}
-use Rattle.ion_text_in.specs.Reading.{take as taken, may_come, at_member, after_member, is_same, item_step, item_of, member_of, top_of}
+use Rattle.ion_text_in.specs.Reading.{take as taken, may_come, at_member, after_member, is_same, item_step, scalar_step, item_of, member_of, top_of}
 use Rattle.ion_text_in.specs.Scanning.{moved_to}
 use Rattle.ion_text_in.specs.Steps.{comes, later}
 use Rattle.ion_text_in.specs.Token as tokens
@@ -103,11 +108,11 @@ other-there (x ∷ bytes) (suc n) b there other = other-there bytes n b (omega (
 -- ---- a token
 
 -- blanks are passed over
-later-blanks : (limits : Limits) (kinds : List Kind) (top : ℕ) (wants : Wants) (c d : Cursor) → blanks c ≡ Ok d
+later-blanks : (limits : Rules) (kinds : List Kind) (top : ℕ) (wants : Wants) (c d : Cursor) → blanks c ≡ Ok d
     → later limits (record { kinds = kinds; top = top; wants = wants; cursor = c }) ≡ later limits (record { kinds = kinds; top = top; wants = wants; cursor = d })
 later-blanks limits kinds top wants c d e = later-moved limits (record { kinds = kinds; top = top; wants = wants; cursor = c }) c d None (blanks-going c d e)
 
-pub onward-blanks : (limits : Limits) (kinds : List Kind) (top place : ℕ) (wants : Wants) (bytes rest : List ℕ) → PassesBlanks bytes rest → Onward limits kinds top place wants bytes wants rest
+pub onward-blanks : (limits : Rules) (kinds : List Kind) (top place : ℕ) (wants : Wants) (bytes rest : List ℕ) → PassesBlanks bytes rest → Onward limits kinds top place wants bytes wants rest
 onward-blanks limits kinds top place wants bytes rest passes = record {
   part = passes.part;
   fewer = passes.fewer;
@@ -119,7 +124,7 @@ some-longer [] more some = absurd (omega (arith, some))
 some-longer (b ∷ bytes) more some = omega arith
 
 -- a token that begins here and is taken
-pub later-token : (limits : Limits) (kinds : List Kind) (top place q : ℕ) (wants : Wants) (bytes rest more : List ℕ) (first : First) (token : Token)
+pub later-token : (limits : Rules) (kinds : List Kind) (top place q : ℕ) (wants : Wants) (bytes rest more : List ℕ) (first : First) (token : Token)
     → BeginsAs first bytes → may_come wants first ≡ true
     → token_of (Some limits.scalar) first (at place (bytes ++ more)) ≡ Ok (token, at q (rest ++ more))
     → later limits (state kinds top wants place (bytes ++ more)) ≡ comes limits (taken limits kinds top wants place token (at q (rest ++ more)))
@@ -168,7 +173,7 @@ end-token : (limit : Option ℕ) (k : Kind) (c : Cursor) → token_of limit (tok
 unfolding token_of
 end-token limit k c = refl
 
-comma-taken : (limits : Limits) (kinds : List Kind) (top place : ℕ) (c : Cursor) → comes limits (taken limits kinds top a_separator place tokens.comma c) ≡ later limits (record { kinds = kinds; top = top; wants = at_member (innermost kinds); cursor = c })
+comma-taken : (limits : Rules) (kinds : List Kind) (top place : ℕ) (c : Cursor) → comes limits (taken limits kinds top a_separator place tokens.comma c) ≡ later limits (record { kinds = kinds; top = top; wants = at_member (innermost kinds); cursor = c })
 unfolding taken
 comma-taken limits kinds top place c = refl
 
@@ -184,7 +189,7 @@ may-end kind (a_value field annotations) = refl
 may-end kind a_field = refl
 may-end kind a_separator = refl
 
-onward-comma : (limits : Limits) (kinds : List Kind) (top place : ℕ) (bytes : List ℕ) → BeginsAs tokens.a_comma bytes → Onward limits kinds top place a_separator bytes (at_member (innermost kinds)) (drop 1 bytes)
+onward-comma : (limits : Rules) (kinds : List Kind) (top place : ℕ) (bytes : List ℕ) → BeginsAs tokens.a_comma bytes → Onward limits kinds top place a_separator bytes (at_member (innermost kinds)) (drop 1 bytes)
 onward-comma limits kinds top place bytes begins =
     let some = begins.some in
     let long = length-drop 1 bytes in
@@ -198,7 +203,7 @@ onward-comma limits kinds top place bytes begins =
     }
 
 -- one after the other
-pub onward-then : (limits : Limits) (kinds : List Kind) (top p q : ℕ) (a b c : Wants) (x y z : List ℕ) → p + length x ≡ q + length y → Onward limits kinds top p a x b y → Onward limits kinds top q b y c z
+pub onward-then : (limits : Rules) (kinds : List Kind) (top p q : ℕ) (a b c : Wants) (x y z : List ℕ) → p + length x ≡ q + length y → Onward limits kinds top p a x b y → Onward limits kinds top q b y c z
     → Onward limits kinds top p a x c z
 onward-then limits kinds top p q a b c x y z e f g = record {
   part = after-then x y z f.part g.part;
@@ -208,14 +213,14 @@ onward-then limits kinds top p q a b c x y z e f g = record {
 
 -- ---- heads
 
-begin-taken : (limits : Limits) (kinds : List Kind) (top place : ℕ) (field : Option SymbolAt) (annotations : List SymbolAt) (k : Kind) (c : Cursor) → nat_le limits.depth (length kinds) ≡ false
+begin-taken : (limits : Rules) (kinds : List Kind) (top place : ℕ) (field : Option SymbolAt) (annotations : List SymbolAt) (k : Kind) (c : Cursor) → nat_le limits.depth (length kinds) ≡ false
     → comes limits (taken limits kinds top (a_value field annotations) place (tokens.begin k) c)
     ≡ More (item_in kinds top field annotations place (value.begin k)) (later limits (record { kinds = k ∷ kinds; top = top_of kinds top annotations place; wants = member_of k; cursor = c }))
 unfolding taken
 begin-taken limits kinds top place field annotations k c few =
     ap (λ (b : Bool). comes limits (part place (refuse b DepthLimit >> Ok (item_step kinds top field annotations place (value.begin k) (k ∷ kinds) (member_of k) c)))) few
 
-pub plain-taken : (limits : Limits) (kinds : List Kind) (top place q : ℕ) (field : Option SymbolAt) (annotations : List SymbolAt) (body : Scalar SymbolAt) (rest : List ℕ)
+pub plain-taken : (limits : Rules) (kinds : List Kind) (top place q : ℕ) (field : Option SymbolAt) (annotations : List SymbolAt) (body : Scalar SymbolAt) (rest : List ℕ)
     → comes limits (taken limits kinds top (a_value field annotations) place (tokens.plain body) (at q rest))
     ≡ More (item_in kinds top field annotations place (value.whole body)) (later limits (state kinds (top_of kinds top annotations place) (after_member (innermost kinds)) q rest))
 unfolding taken
@@ -229,7 +234,7 @@ not_as_many : (n m : ℕ) → m < n → nat_le n m ≡ false
 not_as_many n m h = grind (arith, h)
 
 -- a scalar that is read as `raw`
-pub head-token : {limits : Limits} {place : ℕ} {first : First} {token : Token} {bytes rest : List ℕ} (raw head : Scalar SymbolAt) → IsPlainScalar head → InRange head → IsToken limits.scalar first token place bytes rest
+pub head-token : {limits : Rules} {place : ℕ} {first : First} {token : Token} {bytes rest : List ℕ} (raw head : Scalar SymbolAt) → IsPlainScalar head → InRange head → IsToken limits.scalar first token place bytes rest
     → ((kinds : List Kind) (top q : ℕ) (field : Option SymbolAt) (annotations : List SymbolAt) (more : List ℕ)
     → comes limits (taken limits kinds top (a_value field annotations) place token (at q (rest ++ more)))
     ≡ More (item_in kinds top field annotations place (value.whole raw)) (later limits (state kinds (top_of kinds top annotations place) (after_member (innermost kinds)) q (rest ++ more))))
@@ -254,7 +259,7 @@ pub data MayEnd : Wants → Type 0 where
   at_field : MayEnd a_field
   at_separator : MayEnd a_separator
 
-end-taken : (limits : Limits) (j k : Kind) (kinds : List Kind) (top place : ℕ) (wants : Wants) (c : Cursor) → MayEnd wants → is_same j k ≡ true
+end-taken : (limits : Rules) (j k : Kind) (kinds : List Kind) (top place : ℕ) (wants : Wants) (c : Cursor) → MayEnd wants → is_same j k ≡ true
     → comes limits (taken limits (j ∷ kinds) top wants place (tokens.end k) c)
     ≡ More (item_of top None [] place value.end) (later limits (record { kinds = kinds; top = top; wants = after_member (innermost kinds); cursor = c }))
 unfolding taken
@@ -265,7 +270,7 @@ end-taken limits j k kinds top place _ c at_field same =
 end-taken limits j k kinds top place _ c at_separator same =
     ap (λ (b : Bool). comes limits (part place (refuse (not b) BadToken >> Ok (Gives (item_of top None [] place value.end) (record { kinds = kinds; top = top; wants = after_member (innermost kinds); cursor = c }))))) same
 
-pub end-gives : (limits : Limits) (j k : Kind) (kinds : List Kind) (top place q : ℕ) (wants : Wants) (bytes more : List ℕ) → MayEnd wants → is_same j k ≡ true → BeginsAs (tokens.an_end k) bytes → place + length bytes ≡ q + length (drop 1 bytes)
+pub end-gives : (limits : Rules) (j k : Kind) (kinds : List Kind) (top place q : ℕ) (wants : Wants) (bytes more : List ℕ) → MayEnd wants → is_same j k ≡ true → BeginsAs (tokens.an_end k) bytes → place + length bytes ≡ q + length (drop 1 bytes)
     → later limits (state (j ∷ kinds) top wants place (bytes ++ more))
     ≡ More (item_of top None [] place value.end) (later limits (state kinds top (after_member (innermost kinds)) q (drop 1 bytes ++ more)))
 end-gives limits j k kinds top place q wants bytes more may same begins e =
@@ -276,7 +281,7 @@ end-gives limits j k kinds top place q wants bytes more may same begins e =
 
 -- ---- what is found
 
-pub head-begin : (limits : Limits) (place : ℕ) (k : Kind) (bytes rest : List ℕ) → rest ≡ drop 1 bytes → BeginsAs (tokens.a_begin k) bytes → IsHead limits place bytes (value.begin k) rest
+pub head-begin : (limits : Rules) (place : ℕ) (k : Kind) (bytes rest : List ℕ) → rest ≡ drop 1 bytes → BeginsAs (tokens.a_begin k) bytes → IsHead limits place bytes (value.begin k) rest
 head-begin limits place k bytes rest after begins =
     let some = begins.some in
     let long = length-drop 1 bytes in
@@ -298,13 +303,27 @@ number-simple (numbers.Int i) = tt
 number-simple (numbers.Decimal d) = tt
 number-simple (numbers.Timestamp t) = tt
 
-pub head-number : {limits : Limits} {place n : ℕ} {bytes rest : List ℕ} (x : Number) → rest ≡ drop n bytes → 0 < n → Shows number_token bytes (Whole x n) (token_of (Some limits.scalar) tokens.a_run)
+pub head-number : {limits : Rules} {place n : ℕ} {bytes rest : List ℕ} (x : Number) → rest ≡ drop n bytes → 0 < n → Shows number_token bytes (Whole x n) (token_of (Some limits.scalar) tokens.a_run)
     → InRange (as_number x) → BeginsAs tokens.a_run bytes → IsHead limits place bytes (value.whole (as_number x)) rest
 head-number {limits} {place} {n} {bytes} {rest} x after counts shows range begins =
     head-token (as_number x) (as_number x) (number-simple x) range (token-front after counts shows.0 shows.1 begins) (λ kinds top q field annotations more. plain-taken limits kinds top place q field annotations (as_number x) (rest ++ more))
 
+float-taken : (limits : Rules) (kinds : List Kind) (top place q : ℕ) (field : Option SymbolAt) (annotations : List SymbolAt) (x : Float) (rest : List ℕ) → limits.floats ≡ true
+    → comes limits (taken limits kinds top (a_value field annotations) place (tokens.float (Some x)) (at q rest))
+    ≡ More (item_in kinds top field annotations place (value.whole (value.float x))) (later limits (state kinds (top_of kinds top annotations place) (after_member (innermost kinds)) q rest))
+unfolding taken
+float-taken limits kinds top place q field annotations x rest on =
+    ap (λ (b : Bool). comes limits (part place (refuse (not b) reason.Float >> Ok (scalar_step kinds top field annotations place (value.float x) (at q rest))))) on
+
+pub head-float : {limits : Rules} {place n : ℕ} {bytes rest : List ℕ} (x : Float64) → limits.floats ≡ true → rest ≡ drop n bytes → 0 < n
+    → Shows numeral_token bytes (Whole (numerals.Float (Some x)) n) (token_of (Some limits.scalar) tokens.a_run) → IsFloat (value_of x) → BeginsAs tokens.a_run bytes
+    → IsHead limits place bytes (value.whole (value.float (value_of x))) rest
+head-float {limits} {place} {n} {bytes} {rest} x on after counts shows range begins =
+    let body : Scalar SymbolAt = value.float (value_of x) in
+    head-token body body tt range (token-front after counts shows.0 shows.1 begins) (λ kinds top q field annotations more. float-taken limits kinds top place q field annotations (value_of x) (rest ++ more) on)
+
 -- the code found a number that it read in one pass
-pub found-number : {limits : Limits} {place : ℕ} {bytes : List ℕ} {found : Found} (x : Quick) → raw_head found.head ≡ value.whole (as_number (as_quick x)) → found.rest.now ≡ drop x.count bytes → 0 < x.count
+pub found-number : {limits : Rules} {place : ℕ} {bytes : List ℕ} {found : Found} (x : Quick) → raw_head found.head ≡ value.whole (as_number (as_quick x)) → found.rest.now ≡ drop x.count bytes → 0 < x.count
     → IfSome found.spelled (λ text. IsTextOf text.now (value.whole (as_number (as_quick x)))) → Shows number_token bytes (Whole (as_quick x) x.count) (token_of (Some limits.scalar) tokens.a_run) → InRange (as_number (as_quick x))
     → BeginsAs tokens.a_run bytes → IsFound limits place bytes found
 found-number {limits} {place} {bytes} {found} x is after counts spelled shows range begins = record {
@@ -313,12 +332,12 @@ found-number {limits} {place} {bytes} {found} x is after counts spelled shows ra
 }
 
 -- a head whose text is not known
-pub found-as : {limits : Limits} {place : ℕ} {bytes : List ℕ} {found made : Found} → found ≡ made → made.spelled ≡ None → IsHead limits place bytes (raw_head made.head) made.rest.now → IsFound limits place bytes found
+pub found-as : {limits : Rules} {place : ℕ} {bytes : List ℕ} {found made : Found} → found ≡ made → made.spelled ≡ None → IsHead limits place bytes (raw_head made.head) made.rest.now → IsFound limits place bytes found
 found-as {limits} {place} {bytes} is none head = subst (λ (f : Found). IsFound limits place bytes f) (sym is) (record { head = head; spelled = rw none tt })
 
 -- ---- where a value begins
 
-pub onward-separator : (limits : Limits) (opened : List Kind) (top place : ℕ) (expected next : Expected) (bytes rest after : List ℕ) → expected ≡ codes.Separator → PassesBlanks bytes rest → 0 < length rest
+pub onward-separator : (limits : Rules) (opened : List Kind) (top place : ℕ) (expected next : Expected) (bytes rest after : List ℕ) → expected ≡ codes.Separator → PassesBlanks bytes rest → 0 < length rest
     → ((in_sexp : Bool) (more : List ℕ) → first_at in_sexp (rest ++ more) ≡ tokens.a_comma) → after ≡ drop 1 rest → wanted next None [] ≡ at_member (innermost opened)
     → Onward limits opened top place (wanted expected None []) bytes (wanted next None []) after
 onward-separator limits opened top place expected next bytes rest after separator passes some comma is wants =

@@ -7,17 +7,20 @@ mod WentWell
 mod TokenLimits
 mod Tokens
 mod Advancing
+mod ClosingUp
 mod Complete
 mod ReadWithin
 mod TokenCuts
 mod One
 mod Meaning
+mod FloatTexts
 mod Blobs
 mod Strings
 mod DecodedBytes
 mod DigitNumbers
 mod LobBytes
 mod RawTokens
+mod ReadPermitted
 mod ValuesWithin
 mod Narrow
 mod Refused
@@ -57,10 +60,12 @@ pub mod ReaderAnnotations
 pub mod ReaderCalls
 pub mod ShownFurther
 pub mod ReaderSymbols
+pub mod ReaderFloats
 pub mod LobTurns
 mod RunCuts
 mod Prepaid
 mod Rows
+mod FloatRows
 mod QuickNumbers
 mod SpelledNumbers
 mod QuotedRows

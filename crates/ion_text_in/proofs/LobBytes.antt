@@ -132,8 +132,8 @@ clob-piece true rest = piece-bytes (39 ∷ 39 ∷ 39 ∷ []) true rest
 clob-piece false rest = piece-bytes (34 ∷ []) false rest
 
 lob-raw_of : (v : Scalar SymbolAt) → LobOf AreBytes v → IsRawScalar v
-lob-raw_of (value.clob bytes) h = record { in_range = tt; text = tt; bytes = h; no_symbol = refl }
-lob-raw_of (value.blob bytes) h = record { in_range = tt; text = tt; bytes = h; no_symbol = refl }
+lob-raw_of (value.clob bytes) h = record { in_range = tt; text = tt; bytes = h; no_symbol = refl; no_float = λ rules. tt }
+lob-raw_of (value.blob bytes) h = record { in_range = tt; text = tt; bytes = h; no_symbol = refl; no_float = λ rules. tt }
 lob-raw_of v h = absurd h
 
 pub lob-raw : (limit : Option ℕ) (c : Cursor) → IfOk (lob_at limit c) (λ x. IsRawScalar x.0)

@@ -38,6 +38,7 @@ use Rattle.ion_text_in.specs.Token as tokens
 use Rattle.ion_text_in.specs.Token.{First, a_run, a_word, first_at, begins_run, in_run, in_word, bytes_of, with_type, word_of, word_token, counted, run_token, Token, plain, token_of}
 use Rattle.ion_text_in.specs.Beginnings.{EndsIdentifier, EndsNumber}
 use Rattle.ion_text_in.specs.Meaning.{Limit, Allows, at, Means, EndsNull, NullTextIsRead, BoolTextIsRead, PlainSymbolIsRead, IdWordIsRead, IdIsRead, IntTextIsRead, DecimalTextIsRead, TimestampTextIsRead}
+use Rattle.ion_text_in.proofs.RunTokens.{number-token}
 use Rattle.ion_text_in.proofs.NumberEnds.{numbers-end}
 use Rattle.ion_text_in.proofs.TokenBegins.{ends-from, no-first}
 
@@ -58,7 +59,7 @@ skip-prefix place text rest = ap (λ (xs : List ℕ). at (place + length text) x
 
 -- digits, and what stands between those of a number or timestamp
 abbrev pub is_run_byte : ℕ → Bool
-is_run_byte b = is_digit b || is_one_of (codes "-+.:dTZ") b
+is_run_byte b = is_digit b || is_one_of (codes "-+.:deTZ") b
 
 run-byte : (b : ℕ) (bytes : List ℕ) → is_run_byte b ≡ true → in_run (b ∷ bytes) ≡ true
 run-byte b bytes e =
@@ -125,12 +126,15 @@ counted-means : (limit : Limit) (place : ℕ) (text bytes rest : List ℕ) (mean
     → (counted limit bytes (at place (text ++ rest)) >>= (λ r. means r.0 >>= (λ t. token_after t r.1))) ≡ Ok (t, at (place + length text) rest)
 counted-means limit place text bytes rest means t is fits e = rw (is, fits, e, skip-prefix place text rest) refl
 
-pub run-means : (text : List ℕ) (v : Scalar SymbolAt) → IsRun text → scalar_of_run text ≡ Ok v → Means (length text) EndsNumber text (plain v)
+pub token-means : (text : List ℕ) (t : Token) → IsRun text → run_token text ≡ Ok t → Means (length text) EndsNumber text t
 unfolding token_of
-run-means text v run means limit sexp place rest allows ends =
+token-means text t run means limit sexp place rest allows ends =
     ap (λ (f : First). token_of limit f (at place (text ++ rest))) (run-first sexp text rest run)
-    ∙ counted-means limit place text (bytes_of in_run (text ++ rest)) rest run_token (plain v) (run-bytes text rest run ((numbers-end rest).1 ends)) (allowed limit (length text) allows)
-    (ap (λ (o : Result (Scalar SymbolAt) Reason). o >>= (λ v. Ok (plain v))) means)
+    ∙ counted-means limit place text (bytes_of in_run (text ++ rest)) rest run_token t (run-bytes text rest run ((numbers-end rest).1 ends)) (allowed limit (length text) allows)
+    means
+
+pub run-means : (text : List ℕ) (v : Scalar SymbolAt) → IsRun text → scalar_of_run text ≡ Ok v → Means (length text) EndsNumber text (plain v)
+run-means text v run means = token-means text (plain v) run (number-token text v means)
 
 -- ---- digits and what stands between them
 
@@ -143,18 +147,18 @@ all-append test (x ∷ xs) ys e f =
 digit-run_byte : (b : ℕ) → is_digit b ≡ true → is_run_byte b ≡ true
 digit-run_byte b e = rw e refl
 
-digits-run_bytes : (ds : List ℕ) → all_are is_digit ds ≡ true → all_are is_run_byte ds ≡ true
+pub digits-run_bytes : (ds : List ℕ) → all_are is_digit ds ≡ true → all_are is_run_byte ds ≡ true
 digits-run_bytes [] e = refl
 digits-run_bytes (d ∷ ds) e =
     let parts = and_parts (is_digit d) (all_are is_digit ds) e in
     and_from (is_run_byte d) (all_are is_run_byte ds) (digit-run_byte d parts.0) (digits-run_bytes ds parts.1)
 
 -- digits, and bytes of a run after them
-record Runs (text : List ℕ) : Type 0 where
-  first : first_is is_digit text ≡ true
-  all : all_are is_run_byte text ≡ true
+pub record Runs (text : List ℕ) : Type 0 where
+  pub first : first_is is_digit text ≡ true
+  pub all : all_are is_run_byte text ≡ true
 
-digits-after : (ds text : List ℕ) → 0 < length ds → all_are is_digit ds ≡ true → all_are is_run_byte text ≡ true → Runs (ds ++ text)
+pub digits-after : (ds text : List ℕ) → 0 < length ds → all_are is_digit ds ≡ true → all_are is_run_byte text ≡ true → Runs (ds ++ text)
 digits-after [] text some digits after = absurd (omega arith)
 digits-after (d ∷ ds) text some digits after = record {
   first = (and_parts (is_digit d) (all_are is_digit ds) digits).0;
@@ -171,7 +175,7 @@ run-of_digits (b ∷ text) runs = record {
   goes_on = (and_parts (is_run_byte b) (all_are is_run_byte text) runs.all).1;
 }
 
-sign-run : (negative : Bool) (text : List ℕ) → Runs text → IsRun ((if negative then 45 ∷ [] else []) ++ text)
+pub sign-run : (negative : Bool) (text : List ℕ) → Runs text → IsRun ((if negative then 45 ∷ [] else []) ++ text)
 sign-run true text runs = record { first = 45; others = text; text_is = refl; begins = runs.first; goes_on = runs.all }
 sign-run false text runs = run-of_digits text runs
 
@@ -201,7 +205,7 @@ scalar-decimal run d e = elim (one-shape run) [
 decimal-digits : (n : ℕ) → n < 10 ^ 64 → all_are is_run_byte (decimal n) ≡ true
 decimal-digits n small = digits-run_bytes (decimal n) (spells n small).digits
 
-exponent-bytes : (e : ℤ) → IsExponent e → all_are is_run_byte (integer_text e) ≡ true
+pub exponent-bytes : (e : ℤ) → IsExponent e → all_are is_run_byte (integer_text e) ≡ true
 exponent-bytes (pos n) within = decimal-digits n (omega (arith, ints))
 exponent-bytes (negsuc n) within = decimal-digits (1 + n) (omega (arith, ints))
 
@@ -289,10 +293,10 @@ timestamp-means t valid =
 
 -- ---- words
 
-word-ends : (rest : List ℕ) → EndsIdentifier rest → in_word rest ≡ false
+pub word-ends : (rest : List ℕ) → EndsIdentifier rest → in_word rest ≡ false
 word-ends rest ends = not-true (first_is is_identifier_byte rest) (ends-from ends)
 
-word-means : (Ends : List ℕ → Type 0) (text : List ℕ) (t : Token) → ((rest : List ℕ) → Ends rest → word_of (text ++ rest) ≡ text)
+pub word-means : (Ends : List ℕ → Type 0) (text : List ℕ) (t : Token) → ((rest : List ℕ) → Ends rest → word_of (text ++ rest) ≡ text)
     → ((sexp : Bool) (rest : List ℕ) → first_at sexp (text ++ rest) ≡ a_word) → word_token text ≡ Ok t → Means (length text) Ends text t
 unfolding token_of
 word-means Ends text t word first means limit sexp place rest allows ends =
@@ -303,7 +307,7 @@ word-all : (text rest : List ℕ) → all_are is_identifier_byte text ≡ true �
 word-all text rest all ends = run-all is_identifier_byte in_word (λ b bytes e. e) text rest all ends
 
 -- a word that is not `null`, or has no point after it
-whole-word : (b : ℕ) (text rest : List ℕ) → all_are is_identifier_byte text ≡ true → in_word rest ≡ false
+pub whole-word : (b : ℕ) (text rest : List ℕ) → all_are is_identifier_byte text ≡ true → in_word rest ≡ false
     → (bytes_eq (codes "null") (b ∷ text) && first_is (λ b. b == 46) rest) ≡ false → word_of (b ∷ (text ++ rest)) ≡ b ∷ text
 whole-word b text rest all ends alone =
     ap (λ (z : List ℕ × List ℕ). with_type (b ∷ z.0) z.1) (word-all text rest all ends)

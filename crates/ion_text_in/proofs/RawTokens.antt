@@ -3,6 +3,7 @@ use Rattle.std.proofs.Common.{◌≡◌, ◌⊎◌, inl, inr, ℕ, zero, suc, �
 use Rattle.std.specs.List.{AllByRecursion}
 use Rattle.std.specs.Result.{IfOk}
 use Rattle.std.specs.Str.{is_utf8, bytes_eq}
+use lib.Ieee.{Float, nan, inf, fits}
 use Rattle.std.proofs.lemmas.Bool.{false≢true, and_parts, ltb-true, not-false}
 use Rattle.std.proofs.lemmas.Bool.Decides.{nat_tests}
 use Rattle.std.proofs.lemmas.Result.{IfOk-at_ok}
@@ -16,6 +17,8 @@ use Rattle.ion_value.specs.declared.timestamp.Timestamp.{Timestamp}
 use Rattle.ion_value.specs.Decimal.{IsDecimal, decimal_of_text, decimal_in_range, is_decimal, is_float, parts_of, fraction_digits, power_value}
 use Rattle.ion_value.proofs.DecimalOctets.{decimal_in_range-Made, Made-IsDecimal}
 use Rattle.ion_value.specs.Digits.{first_is, is_digit, is_hex_digit, is_binary_digit, digits_value, is_whole, has_minus, without_minus}
+use Rattle.ion_value.specs.Float.{IsFloat}
+use Rattle.ion_value.specs.FloatText.{float_of_text}
 use Rattle.ion_value.specs.Int.{IsInt, int_of_text, int_in_range, is_based}
 use Rattle.ion_value.specs.Name.{Keyword, a_null, a_bool, a_nan, keyword, is_id, id_of, is_operator_byte}
 use Rattle.ion_value.specs.Scalar.{scalar_of_run, scalar_of_readings}
@@ -23,6 +26,7 @@ use Rattle.ion_value.specs.Timestamp.{IsTimestamp, timestamp_of_text}
 use Rattle.ion_value.specs.Value as value
 use Rattle.ion_value.specs.Value.{SymbolAt, Scalar}
 use Rattle.ion_value.proofs.TextReadings.{text-valid}
+use Rattle.ion_float.proofs.TextReading.{text-is-read}
 use Rattle.ion_text_in.specs.Beginnings.{BeginsIdentifier, TokenBegins}
 use Rattle.ion_text_in.specs.Blanks.{begins_comment}
 use Rattle.ion_text_in.specs.Limit.{passes}
@@ -30,9 +34,10 @@ use Rattle.ion_text_in.specs.Lob.{lob_at}
 use Rattle.ion_text_in.specs.Meaning.{IsRawScalar, IsRawToken, TokensAreRaw}
 use Rattle.ion_text_in.specs.Places.{run_of}
 use Rattle.ion_text_in.specs.Quoted.{Quote, symbol_quote, short_quote, long_quote, pieces_for, segment_at, text_at}
-use Rattle.ion_text_in.specs.Token.{First, a_run, a_word, a_quoted, a_short, a_long, a_lob, an_operator, an_infinity, first_at, Token, name, counted, bytes_of, in_run, in_word, in_operator, with_type, word_of, word_token, run_token, by_keyword, token_of}
+use Rattle.ion_text_in.specs.Token.{First, a_run, a_word, a_quoted, a_short, a_long, a_lob, an_operator, an_infinity, first_at, Token, float, name, found_float, counted, bytes_of, in_run, in_word, in_operator, with_type, word_of, word_token, run_token, by_keyword, token_of}
 use Rattle.ion_text_in.proofs.LobBytes.{all-append, lob-raw}
 use Rattle.ion_text_in.proofs.NumberEnds.{one_of-from}
+use Rattle.ion_text_in.proofs.RunTokens.{if-scalar}
 use Rattle.ion_text_in.proofs.Shrinking.{Any, SizedAt, Sized, any-pieces, text-sized}
 use Rattle.ion_text_in.proofs.TokenBegins.{what-begins}
 use Rattle.ion_text_in.proofs.Tokens.{tok-stands}
@@ -76,17 +81,21 @@ decimal-valid run =
 readings-raw : (i : Result Int Reason) (d : Result Decimal Reason) (t : Result Timestamp Reason) → IfOk i IsInt → IfOk d IsDecimal
     → IfOk t IsTimestamp
     → IfOk (scalar_of_readings {S = SymbolAt} i d t) IsRawScalar
-readings-raw (Ok i) d t h k l = record { in_range = h; text = tt; bytes = tt; no_symbol = refl }
-readings-raw (Err BadToken) (Ok d) t h k l = record { in_range = k; text = tt; bytes = tt; no_symbol = refl }
-readings-raw (Err BadToken) (Err BadToken) (Ok t) h k l = record { in_range = l; text = tt; bytes = tt; no_symbol = refl }
+readings-raw (Ok i) d t h k l = record { in_range = h; text = tt; bytes = tt; no_symbol = refl; no_float = λ rules. tt }
+readings-raw (Err BadToken) (Ok d) t h k l = record { in_range = k; text = tt; bytes = tt; no_symbol = refl; no_float = λ rules. tt }
+readings-raw (Err BadToken) (Err BadToken) (Ok t) h k l = record { in_range = l; text = tt; bytes = tt; no_symbol = refl; no_float = λ rules. tt }
 readings-raw i d t h k l = tt
+
+found-raw : (r : Result Float Reason) → IfOk r IsFloat → IsRawToken (float (found_float r))
+found-raw (Ok x) h = h
+found-raw (Err why) h = tt
 
 run-raw : (run : List ℕ) → IfOk (run_token run) IsRawToken
 unfolding scalar_of_run
 run-raw run =
-    if-then IsRawScalar IsRawToken (scalar_of_run run) _
+    if-scalar IsRawToken run (scalar_of_run run)
     (readings-raw (int_of_text run) (decimal_of_text run) (timestamp_of_text run) (int-valid run) (decimal-valid run)
-    (text-valid run (timestamp_of_text run) refl).0) (λ v h. h)
+    (text-valid run (timestamp_of_text run) refl).0) (found-raw (float_of_text run) (text-is-read run).0)
 
 -- ---- bytes of words and operators
 
@@ -153,11 +162,19 @@ operator-ascii : (rest : List ℕ) → FirstSmall rest → Ascii (bytes_of in_op
 operator-ascii [] small = tt
 operator-ascii (b ∷ bytes) small = (small, run-ascii in_operator operator-small bytes)
 
+nan-raw : IsRawToken (float (Some nan))
+unfolding fits
+nan-raw = tt
+
+infinity-raw : (negative : Bool) → IsRawToken (float (Some (inf negative)))
+unfolding fits
+infinity-raw negative = tt
+
 keyword-raw : (k : Option Keyword) (word : List ℕ) → Ascii word → IfOk (by_keyword k word) IsRawToken
-keyword-raw (Some (a_null (Some n))) word h = record { in_range = tt; text = tt; bytes = tt; no_symbol = refl }
+keyword-raw (Some (a_null (Some n))) word h = record { in_range = tt; text = tt; bytes = tt; no_symbol = refl; no_float = λ rules. tt }
 keyword-raw (Some (a_null None)) word h = tt
-keyword-raw (Some (a_bool truth)) word h = record { in_range = tt; text = tt; bytes = tt; no_symbol = refl }
-keyword-raw (Some a_nan) word h = tt
+keyword-raw (Some (a_bool truth)) word h = record { in_range = tt; text = tt; bytes = tt; no_symbol = refl; no_float = λ rules. tt }
+keyword-raw (Some a_nan) word h = nan-raw
 keyword-raw None word h = by (is_id word)
   where
     by : (b : Bool) → IsRawToken (name false (if b then value.Id (id_of word) else value.Text word))
@@ -212,7 +229,7 @@ token-raw limit an_operator c small =
     if-then (λ r. Ascii r.0) _ (counted limit (bytes_of in_operator c.rest) c) _
     (counted-is Ascii limit (bytes_of in_operator c.rest) c (operator-ascii c.rest (small (inr refl))))
     (λ r h. ascii-utf8 r.0 h)
-token-raw limit an_infinity c small = if-passed _ (passes limit 4) ScalarLimit _ (λ _. tt)
+token-raw limit an_infinity c small = if-passed _ (passes limit 4) ScalarLimit _ (λ _. infinity-raw (has_minus c.rest))
 token-raw limit mark c small = tt
 
 first-small : (sexp : Bool) (rest : List ℕ) → first_at sexp rest ≡ a_word ⊎ first_at sexp rest ≡ an_operator → FirstSmall rest

@@ -1,9 +1,11 @@
 -- Where a stream is read to its end, the limits allow what stands in it: else the reading stops at the first that they do not allow.
-use Rattle.std.proofs.Common.{◌≡◌, ◌⊎◌, inl, inr, ℕ, suc, arith, Bool, true, false, nat_le, nat_lt, sum_by, List, [], ◌∷◌, ◌++◌, length, Option, None, Some, Ok, Result, refl, sym, ap, subst, ◌∙◌}
+use Rattle.std.proofs.Common.{◌≡◌, ◌⊎◌, inl, inr, ℕ, suc, arith, Bool, true, false, not, nat_le, nat_lt, sum_by, List, [], ◌∷◌, ◌++◌, length, Option, None, Some, Ok, Result, refl, sym, ap, subst, ◌∙◌}
 use Rattle.std.proofs.lemmas.Bool.{cases_lt, lt-ltb, lt-leb, le-leb}
+use lib.Ieee.{Float}
 use Rattle.ion_meter.specs.declared.fault.Reason.{Reason}
+use Rattle.ion_meter.specs.declared.fault.Reason.TheVariants as reasons
 use Rattle.ion_meter.specs.declared.fault.Reason.TheVariants.{AnnotationLimit, DepthLimit, ScalarLimit}
-use Rattle.ion_meter.specs.declared.limits.Limits.{Limits}
+use Rattle.ion_meter.specs.declared.profile.Rules.{Rules}
 use Rattle.ion_meter.specs.Sources.{Cursor}
 use Rattle.ion_value.specs.declared.ion_type.Kind.{Kind}
 use Rattle.ion_value.specs.Name.{version_word}
@@ -21,7 +23,7 @@ use Rattle.ion_text_in.specs.Positions.{Wants, a_value, a_field, State, innermos
 use Rattle.ion_text_in.specs.Reading as reading
 use Rattle.ion_text_in.specs.Reading.{at_member, cost, may_come, member_of, item_of, part_at, size, start, step, step_of, take, top_of}
 use Rattle.ion_text_in.specs.ReadWithin.{WhatIsReadIsWithin}
-use Rattle.ion_text_in.specs.Token.{Token, plain, name, text, operator, begin, colons}
+use Rattle.ion_text_in.specs.Token.{Token, plain, float, name, text, operator, begin, colons}
 use Rattle.ion_text_in.specs.Within.{TokenWithin, AnnotationsWithin, FieldWithin, TxtWithin, InsideWithin, TopsWithin}
 use Rattle.ion_text_in.proofs.Complete.{Reads, read_from, reading-read_from, reads-gives, annotations-read, field-read, members-read, mark-within, not-refused, tops-read}
 use Rattle.ion_text_in.proofs.Falling.{each_step_falls}
@@ -30,13 +32,13 @@ use Rattle.ion_text_in.proofs.Tokens.{state, Suits, step-token, token-stops, val
 -- ---- a reading that stops
 
 -- from a state on it gives items, and stops
-record Halts (limits : Limits) (s : State) : Type 0 where
+record Halts (limits : Rules) (s : State) : Type 0 where
   items : List PlacedItem
   reason : Reason
   place : ℕ
   stops : read_from limits s ≡ items_then items (Stopped reason place)
 
-halts-here : (limits : Limits) (s : State) (reason : Reason) (place : ℕ) → step limits s ≡ Stops reason place → Halts limits s
+halts-here : (limits : Rules) (s : State) (reason : Reason) (place : ℕ) → step limits s ≡ Stops reason place → Halts limits s
 unfolding read_from
 halts-here limits s reason place e = record {
   items = [];
@@ -45,7 +47,7 @@ halts-here limits s reason place e = record {
   stops = reading_by-step (step limits) size (each_step_falls limits) s ∙ ap (next_reading (reading_by (step limits) size)) e;
 }
 
-halts-later : (limits : Limits) (s t : State) (items : List PlacedItem) → Reads limits s items t → Halts limits t → Halts limits s
+halts-later : (limits : Rules) (s t : State) (items : List PlacedItem) → Reads limits s items t → Halts limits t → Halts limits s
 halts-later limits s t items read h = record {
   items = items ++ h.items;
   reason = h.reason;
@@ -59,11 +61,11 @@ or-then (inl a) f = f a
 or-then (inr h) f = inr h
 
 -- from a state that is read later
-or-later : {A : Type 0} (limits : Limits) (s t : State) (items : List PlacedItem) → Reads limits s items t → A ⊎ Halts limits t → A ⊎ Halts limits s
+or-later : {A : Type 0} (limits : Rules) (s t : State) (items : List PlacedItem) → Reads limits s items t → A ⊎ Halts limits t → A ⊎ Halts limits s
 or-later limits s t items read (inl a) = inl a
 or-later limits s t items read (inr h) = inr (halts-later limits s t items read h)
 
-token-or : (limits : Limits) (kinds : List Kind) (top : ℕ) (wants : Wants) (c : Cursor) (t : Token) (p : ℕ) (d : Cursor) → Suits wants t
+token-or : (limits : Rules) (kinds : List Kind) (top : ℕ) (wants : Wants) (c : Cursor) (t : Token) (p : ℕ) (d : Cursor) → Suits wants t
     → Tok (in_sexp (innermost kinds)) c t p d → TokenWithin limits t p d ⊎ Halts limits (state kinds top wants c)
 token-or limits kinds top wants c t p d suits tok =
     elim (cases_lt limits.scalar (counts t p d.place)) [
@@ -76,7 +78,7 @@ token-or limits kinds top wants c t p d suits tok =
 refused : (p : ℕ) (b : Bool) (reason : Reason) (o : Result (Step State) Reason) → b ≡ true → step_of (part p (refuse b reason >> o)) ≡ Stops reason p
 refused p b reason o e = ap (λ b. step_of (part p (refuse b reason >> o))) e
 
-annotations-or : (limits : Limits) (kinds : List Kind) (top : ℕ) (field : Option SymbolAt) (sexp : Bool) (c d : Cursor) (annotations : List SymbolAt) → in_sexp (innermost kinds) ≡ sexp
+annotations-or : (limits : Rules) (kinds : List Kind) (top : ℕ) (field : Option SymbolAt) (sexp : Bool) (c d : Cursor) (annotations : List SymbolAt) → in_sexp (innermost kinds) ≡ sexp
     → (ns : Annotations sexp c annotations d) → AnnotationsWithin limits ns ⊎ Halts limits (state kinds top (a_value field []) c)
 unfolding take
 annotations-or limits kinds top field sexp c _ _ is Annotations.nothing = inl (omega arith, tt)
@@ -101,7 +103,7 @@ annotations-or limits kinds top field sexp c f _ is (Annotations.then {annotatio
       | inr le ↦ inl (le, (w.1, fits))
     ]))
 
-field-or : (limits : Limits) (kinds : List Kind) (top : ℕ) (k : Option Kind) (field : Option SymbolAt) (c d : Cursor) → innermost kinds ≡ k → (own : Field k c field d)
+field-or : (limits : Rules) (kinds : List Kind) (top : ℕ) (k : Option Kind) (field : Option SymbolAt) (c d : Cursor) → innermost kinds ≡ k → (own : Field k c field d)
     → FieldWithin limits own ⊎ Halts limits (state kinds top (at_member k) c)
 field-or limits kinds top _ _ c _ is Field.at_top = inl tt
 field-or limits kinds top _ _ c _ is Field.in_list = inl tt
@@ -113,7 +115,7 @@ field-or limits kinds top _ _ c e is (Field.in_quotes {d = d} {p = p} {bytes = b
 
 -- ---- values and members
 
-scalar-or : (limits : Limits) (kinds : List Kind) (top : ℕ) (field : Option SymbolAt) (annotations : List SymbolAt) (sexp : Bool) (c d e : Cursor) (p : ℕ) (t : Token)
+scalar-or : (limits : Rules) (kinds : List Kind) (top : ℕ) (field : Option SymbolAt) (annotations : List SymbolAt) (sexp : Bool) (c d e : Cursor) (p : ℕ) (t : Token)
     → in_sexp (innermost kinds) ≡ sexp → (ns : Annotations sexp c annotations d) → Tok sexp d t p e
     → (AnnotationsWithin limits ns × TokenWithin limits t p e) ⊎ Halts limits (state kinds top (a_value field []) c)
 scalar-or limits kinds top field annotations sexp c d e p t is ns tok =
@@ -121,7 +123,22 @@ scalar-or limits kinds top field annotations sexp c d e p t is ns tok =
     or-then (or-later limits (state kinds top (a_value field []) c) (state kinds top (a_value field annotations) d) [] (annotations-read limits kinds top field sexp c d annotations is ns w)
     (token-or limits kinds top (a_value field annotations) d t p e (value-suits field annotations t) (subst (λ sexp. Tok sexp d t p e) (sym is) tok))) (λ fits. inl (w, fits)))
 
-module _ (limits : Limits) where
+module _ (limits : Rules) where
+  -- a float is read, or the reading stops at it
+  float-or : (kinds : List Kind) (top : ℕ) (field : Option SymbolAt) (annotations : List SymbolAt) (sexp : Bool) (c d e : Cursor) (p : ℕ) (x : Float)
+      → in_sexp (innermost kinds) ≡ sexp → (ns : Annotations sexp c annotations d) → Tok sexp d (float (Some x)) p e
+      → AnnotationsWithin limits ns × TokenWithin limits (float (Some x)) p e → (b : Bool) → limits.floats ≡ b
+      → (AnnotationsWithin limits ns × (TokenWithin limits (float (Some x)) p e × (limits.floats ≡ true))) ⊎ Halts limits (state kinds top (a_value field []) c)
+  unfolding take
+  float-or kinds top field annotations sexp c d e p x is ns tok w true on = inl (w.0, (w.1, on))
+  float-or kinds top field annotations sexp c d e p x is ns tok w false off =
+      let here : State = state kinds top (a_value field annotations) d in
+      let stops : step limits here ≡ Stops reasons.Float p =
+      step-token limits kinds top (a_value field annotations) d (float (Some x)) p e (value-suits field annotations (float (Some x))) w.1 (subst (λ sexp. Tok sexp d (float (Some x)) p e) (sym is) tok)
+      ∙ refused p (not limits.floats) reasons.Float (Ok (reading.scalar_step kinds top field annotations p (value.float x) e)) (ap not off)
+      in
+      inr (halts-later limits (state kinds top (a_value field []) c) here [] (annotations-read limits kinds top field sexp c d annotations is ns w.0) (halts-here limits here reasons.Float p stops))
+
   mutual
     unfolding take
 
@@ -129,6 +146,9 @@ module _ (limits : Limits) where
         → (txt : Txt k c annotations p v e) → TxtWithin limits (length kinds) txt ⊎ Halts limits (state kinds top (a_value field []) c)
     value-or kinds top field _ c e _ p _ is (Txt.of_plain {k = k} {d = d} {annotations = annotations} {v = v} ns tok) =
         scalar-or limits kinds top field annotations (in_sexp k) c d e p (plain v) (ap in_sexp is) ns tok
+    value-or kinds top field _ c e _ p _ is (Txt.of_float {k = k} {d = d} {annotations = annotations} {x = x} ns tok) =
+        or-then (scalar-or limits kinds top field annotations (in_sexp k) c d e p (float (Some x)) (ap in_sexp is) ns tok) (λ w.
+        float-or kinds top field annotations (in_sexp k) c d e p x (ap in_sexp is) ns tok w limits.floats refl)
     value-or kinds top field _ c e _ p _ is (Txt.of_text {k = k} {d = d} {annotations = annotations} {bytes = bytes} ns tok) =
         scalar-or limits kinds top field annotations (in_sexp k) c d e p (text bytes) (ap in_sexp is) ns tok
     value-or kinds top field _ c e _ p _ is (Txt.of_operator {k = k} {d = d} {annotations = annotations} {bytes = bytes} ns tok) =
@@ -174,7 +194,7 @@ module _ (limits : Limits) where
 
 -- ---- the top level
 
-tops-or : (limits : Limits) (bytes : List ℕ) (c : Cursor) (tops : List (Top SymbolAt ℕ)) → (t : Tops (start_of bytes) tops c) → TopsWithin limits t ⊎ Halts limits (start bytes)
+tops-or : (limits : Rules) (bytes : List ℕ) (c : Cursor) (tops : List (Top SymbolAt ℕ)) → (t : Tops (start_of bytes) tops c) → TopsWithin limits t ⊎ Halts limits (start bytes)
 tops-or limits bytes _ _ Tops.nothing = inl tt
 tops-or limits bytes e _ (Tops.marker {tops = tops} {d = d} {p = p} before tok alone) =
     or-then (tops-or limits bytes d tops before) (λ w.

@@ -5,7 +5,7 @@ use Rattle.ion_meter.specs.declared.device.Input.{Ghosts as InputOf}
 use Rattle.ion_meter.specs.declared.fault.Fault.{Fault}
 use Rattle.ion_meter.specs.declared.fault.Fault.TheVariants.{Refused}
 use Rattle.ion_meter.specs.declared.fault.Reason.{Reason}
-use Rattle.ion_meter.specs.declared.limits.Limits.{Limits}
+use Rattle.ion_meter.specs.declared.profile.Rules.{Rules}
 use Rattle.ion_meter.specs.Windows.{Incoming}
 use Rattle.ion_meter.specs.Sources.{Cursor, cursor, Exceeds, Moves}
 use Rattle.ion_value.specs.declared.ion_type.Kind.{Kind}
@@ -48,13 +48,13 @@ module _ {I A : Type 0} (device : InputOf I) where
   -- a call after what was read
   pub stepped-then : (took : Type 0) (fault : Option Fault) (p q r : TextReader I A) (a b c : Counts) → held_by p ≤ a.held → Reached p q a b → Stepped device took fault q r b c → Stepped device took fault p r a c
   stepped-then took fault p q r a b c there x y =
-      let share : share_of q ≡ share_of p = ap (λ (l : Limits). 4096 + 16 * l.depth + 3 * l.scalar) x.limits in
+      let share : share_of q ≡ share_of p = ap (λ (l : Rules). 4096 + 16 * l.depth + 3 * l.scalar) x.limits in
       let kinds : q.kinds ≡ p.kinds = x.stays (λ e. e) in
       let opened : opened_in q ≡ opened_in p = ap (λ (l : List Kind). reverse l) kinds in
       record {
         opens = λ e. y.opens e ∙ ap (λ (l : List Kind). open_after l (lent_by r).head) opened;
         stays = λ e. y.stays e ∙ kinds;
-        fits = λ e. subst (λ (l : List Kind). Fits p.limits.depth l (lent_by r)) opened (subst (λ (l : Limits). Fits l.depth (opened_in q) (lent_by r)) x.limits (y.fits e));
+        fits = λ e. subst (λ (l : List Kind). Fits p.limits.depth l (lent_by r)) opened (subst (λ (l : Rules). Fits l.depth (opened_in q) (lent_by r)) x.limits (y.fits e));
         limits = y.limits ∙ x.limits;
         done = y.done ∙ x.done;
         failed = y.failed ∙ x.failed;

@@ -8,7 +8,7 @@ use Rattle.ion_meter.specs.declared.device.Input.{Ghosts as InputOf}
 use Rattle.ion_meter.specs.declared.fault.Fault.TheVariants.{Refused}
 use Rattle.ion_meter.specs.declared.fault.Reason.{Reason}
 use Rattle.ion_meter.specs.declared.fault.Reason.TheVariants.{BadToken, BadVersion, DepthLimit, Truncated}
-use Rattle.ion_meter.specs.declared.limits.Limits.{Limits}
+use Rattle.ion_meter.specs.declared.profile.Rules.{Rules}
 use Rattle.ion_meter.specs.Windows.{Incoming, left, lent}
 use Rattle.ion_meter.specs.Sources.{Cursor, cursor, skip}
 use Rattle.ion_value.specs.declared.ion_type.Kind.{Kind}
@@ -54,23 +54,23 @@ use Rattle.ion_text_in.proofs.ReaderCalls.{held-share, stepped-by, steps-refused
 
 -- ---- what is to come
 
-pub later-step : (limits : Limits) (s : State) → later limits s ≡ next_reading (later limits) (step limits s)
+pub later-step : (limits : Rules) (s : State) → later limits s ≡ next_reading (later limits) (step limits s)
 later-step limits s = reading_by-step (step limits) size (each_step_falls limits) s
 
 -- blanks that were passed over
 pub blanks-going : (d c : Cursor) → blanks d ≡ Ok c → blanks d ≡ going None c
 blanks-going d c e = e ∙ sym (blanks-again d c e)
 
-step-same : (limits : Limits) (s : State) (d c : Cursor) → blanks d ≡ blanks c → step limits (moved_to d s) ≡ step limits (moved_to c s)
+step-same : (limits : Rules) (s : State) (d c : Cursor) → blanks d ≡ blanks c → step limits (moved_to d s) ≡ step limits (moved_to c s)
 unfolding step part_at
 step-same limits s d c e = rw e refl
 
-step-stops : (limits : Limits) (s : State) (d : Cursor) (start : ℕ) → blanks d ≡ Err (Truncated, start) → step limits (moved_to d s) ≡ Stops Truncated start
+step-stops : (limits : Rules) (s : State) (d : Cursor) (start : ℕ) → blanks d ≡ Err (Truncated, start) → step limits (moved_to d s) ≡ Stops Truncated start
 unfolding step part_at
 step-stops limits s d start e = rw e refl
 
 -- a reading from before blanks that were passed over
-pub later-moved : (limits : Limits) (s : State) (d c : Cursor) (start : Option ℕ) → blanks d ≡ going start c → later limits (moved_to d s) ≡ unless_unfinished start (later limits (moved_to c s))
+pub later-moved : (limits : Rules) (s : State) (d c : Cursor) (start : Option ℕ) → blanks d ≡ going start c → later limits (moved_to d s) ≡ unless_unfinished start (later limits (moved_to c s))
 later-moved limits s d c None e = later-step limits (moved_to d s) ∙ (ap (next_reading (later limits)) (step-same limits s d c e) ∙ sym (later-step limits (moved_to c s)))
 later-moved limits s d c (Some start) e = later-step limits (moved_to d s) ∙ ap (next_reading (later limits)) (step-stops limits s d start e)
 
@@ -185,28 +185,28 @@ module _ {I A : Type 0} where
 
 -- ---- a token, and what comes where there is none
 
-after-some : (limits : Limits) (s : State) (c : Cursor) (rest : List ℕ) (first : First) → 0 < length rest → first_at (in_sexp (innermost s.kinds)) rest ≡ first
+after-some : (limits : Rules) (s : State) (c : Cursor) (rest : List ℕ) (first : First) → 0 < length rest → first_at (in_sexp (innermost s.kinds)) rest ≡ first
     → part_after limits s c rest ≡ part_from limits s c first
 after-some limits s c [] first some e = absurd (omega (arith, some))
 after-some limits s c (b ∷ rest) first some e = ap (part_from limits s c) e
 
-step-some : (limits : Limits) (s : State) (c : Cursor) (first : First) → blanks s.cursor ≡ Ok c → 0 < length c.rest → first_at (in_sexp (innermost s.kinds)) c.rest ≡ first
+step-some : (limits : Rules) (s : State) (c : Cursor) (first : First) → blanks s.cursor ≡ Ok c → 0 < length c.rest → first_at (in_sexp (innermost s.kinds)) c.rest ≡ first
     → step limits s ≡ step_of (part_from limits s c first)
 unfolding step part_at
 step-some limits s c first blank some e = rw blank (ap step_of (after-some limits s c c.rest first some e))
 
-pub step-part : (limits : Limits) (s : State) (c : Cursor) (first : First) → blanks s.cursor ≡ Ok c → 0 < length c.rest → first_at (in_sexp (innermost s.kinds)) c.rest ≡ first
+pub step-part : (limits : Rules) (s : State) (c : Cursor) (first : First) → blanks s.cursor ≡ Ok c → 0 < length c.rest → first_at (in_sexp (innermost s.kinds)) c.rest ≡ first
     → later limits s ≡ comes limits (part_from limits (moved_to c s) c first)
 step-part limits s c first blank some e = later-step limits s ∙ ap (next_reading (later limits)) (step-some limits s c first blank some e)
 
-step-none : (limits : Limits) (s : State) (c : Cursor) → blanks s.cursor ≡ Ok c → c.rest ≡ [] → step limits s ≡ step_of (final_step s.kinds s.wants c.place)
+step-none : (limits : Rules) (s : State) (c : Cursor) → blanks s.cursor ≡ Ok c → c.rest ≡ [] → step limits s ≡ step_of (final_step s.kinds s.wants c.place)
 unfolding step part_at
 step-none limits s c blank none = rw (blank, none) refl
 
-pub step-ended : (limits : Limits) (s : State) (c : Cursor) → blanks s.cursor ≡ Ok c → c.rest ≡ [] → later limits s ≡ comes limits (final_step s.kinds s.wants c.place)
+pub step-ended : (limits : Rules) (s : State) (c : Cursor) → blanks s.cursor ≡ Ok c → c.rest ≡ [] → later limits s ≡ comes limits (final_step s.kinds s.wants c.place)
 step-ended limits s c blank none = later-step limits s ∙ ap (next_reading (later limits)) (step-none limits s c blank none)
 
-pub step-unfinished : (limits : Limits) (s : State) (start : ℕ) → blanks s.cursor ≡ Err (Truncated, start) → later limits s ≡ Stopped Truncated start
+pub step-unfinished : (limits : Rules) (s : State) (start : ℕ) → blanks s.cursor ≡ Err (Truncated, start) → later limits s ≡ Stopped Truncated start
 step-unfinished limits s start blank = later-step limits s ∙ ap (next_reading (later limits)) (step-stops limits s s.cursor start blank)
 
 -- the input's end has no blanks before it
@@ -214,7 +214,7 @@ pub no-blanks : (c : Cursor) → c.rest ≡ [] → blanks c ≡ Ok c
 unfolding blanks_at
 no-blanks c none = rw none refl
 
-pub part-token : (limits : Limits) (s : State) (c d : Cursor) (first : First) (token : Token) → may_come s.wants first ≡ true → token_of (Some limits.scalar) first c ≡ Ok (token, d)
+pub part-token : (limits : Rules) (s : State) (c d : Cursor) (first : First) (token : Token) → may_come s.wants first ≡ true → token_of (Some limits.scalar) first c ≡ Ok (token, d)
     → comes limits (part_from limits s c first) ≡ comes limits (take limits s.kinds s.top s.wants c.place token d)
 part-token limits s c d first token may e =
     ap (λ (b : Bool). comes limits (next_part limits s c first b)) may
@@ -242,7 +242,7 @@ closed-cost : (kinds left : List Kind) (popped : Option Kind) (a b : Counts) (j 
 closed-cost kinds left popped a b j opened e cost = grind arith
 
 -- a closing bracket, whatever is expected
-end-of : (limits : Limits) (kinds : List Kind) (top : ℕ) (e : Expected) (name : List ℕ) (field : Option FieldName) (texts : List ℕ) (annotations : List Annotation) (place : ℕ) (k : Kind) (d : Cursor)
+end-of : (limits : Rules) (kinds : List Kind) (top : ℕ) (e : Expected) (name : List ℕ) (field : Option FieldName) (texts : List ℕ) (annotations : List Annotation) (place : ℕ) (k : Kind) (d : Cursor)
     → MayExpect e kinds field annotations
     → take limits kinds top (wanted e (as_field name field) (as_annotations texts annotations)) place (tokens.end k) d
     ≡ part place (bare_end_step (as_field name field) (as_annotations texts annotations) kinds top k place d)
@@ -365,7 +365,7 @@ module _ {I A : Type 0} (device : InputOf I) where
 
 -- ---- the end of the input
 
-ended-is : (limits : Limits) (kinds : List Kind) (e : Expected) (field : Option SymbolAt) (annotations : List SymbolAt) (place : ℕ) → kinds ≡ [] → e ≡ expected.Value → field ≡ None → annotations ≡ []
+ended-is : (limits : Rules) (kinds : List Kind) (e : Expected) (field : Option SymbolAt) (annotations : List SymbolAt) (place : ℕ) → kinds ≡ [] → e ≡ expected.Value → field ≡ None → annotations ≡ []
     → comes limits (final_step kinds (wanted e field annotations) place) ≡ Finished
 ended-is limits kinds e field annotations place top value none bare = rw (top, value, none, bare) refl
 
@@ -404,7 +404,7 @@ wide-ahead : (found : Option code_first.First) (f : code_first.First) (n : ℕ) 
 wide-ahead found f n wide is = grind arith
 
 -- or the input's end
-end-ahead : (limits : Limits) (s : State) (d : Cursor) (start : Option ℕ) → blanks s.cursor ≡ overrun start d → d.rest ≡ [] → later limits s ≡ unless_unfinished start (comes limits (final_step s.kinds s.wants d.place))
+end-ahead : (limits : Rules) (s : State) (d : Cursor) (start : Option ℕ) → blanks s.cursor ≡ overrun start d → d.rest ≡ [] → later limits s ≡ unless_unfinished start (comes limits (final_step s.kinds s.wants d.place))
 end-ahead limits s d None blank none = step-ended limits s d blank none
 end-ahead limits s d (Some p) blank none = step-unfinished limits s p blank
 

@@ -1,23 +1,26 @@
 -- A reading as text, in which worked rows show it: the items, and how they end. An item has its place, after a slash that of
 -- its top-level value where this is another one, its field, its annotations and its head. A symbol has its place after an `@`.
 -- A byte that is no printable character, a quote or a backslash is two hex digits after a backslash.
-use Rattle.std.specs.Prelude.{◌≡◌, map, codes, decimal, ℕ, ◌+◌, ◌/◌, ◌%◌, not, ◌&&◌, ◌==◌, nat_lt, if◌then◌else◌, List, [], ◌∷◌, ◌++◌, Option, Some, None}
+use Rattle.std.specs.Prelude.{◌≡◌, map, codes, decimal, ℕ, ◌+◌, ◌/◌, ◌%◌, Bool, true, false, not, ◌&&◌, ◌==◌, nat_lt, if◌then◌else◌, List, [], ◌∷◌, ◌++◌, Option, Some, None}
 use Rattle.std.specs.List.{flat_map}
 use Rattle.std.specs.Str.{is_utf8, chars}
 use Rattle.std.specs.Fmt.{digits}
 use Prim.Native.String.{String}
+use lib.Ieee.{round, to_bits, of_bits}
 use lib.Utf8.{encode}
 use Rattle.base64.specs.GeneralPurpose.{decoded_of}
 use Rattle.base64.specs.Rfc4648.{encode_symbols}
 use Rattle.base64.specs.Decode.{groups_error, scan_steps, groups_bytes}
 use Rattle.ion_meter.specs.Reasons.{name_of}
-use Rattle.ion_meter.specs.declared.limits.Limits.{Limits}
+use Rattle.ion_meter.specs.declared.profile.Rules.{Rules}
 use Rattle.ion_value.specs.declared.ion_type.Kind.{Kind}
 use Rattle.ion_value.specs.declared.ion_type.Kind.TheVariants as kind
 use Rattle.ion_value.specs.Digits.{is_between, cut_at, fixed_digits}
 use Rattle.ion_value.specs.Name.{null_text, bool_text, is_one_of}
 use Rattle.ion_value.specs.Number.{digits_within}
 use Rattle.ion_value.specs.Int.{int_of_text, int_text}
+use Rattle.ion_value.specs.FloatText.{float_text, float_of_text}
+use Rattle.ion_value.specs.Shortest.{shortest, search, reads_as}
 use Rattle.ion_value.specs.Decimal.{decimal_of_text, decimal_text, parts_of}
 use Rattle.ion_value.specs.Timestamp.{timestamp_of_text, timestamp_text, minute_number, utc_of, local_of}
 use Rattle.ion_value.specs.Scalar.{scalar_of_run}
@@ -55,6 +58,7 @@ abbrev pub scalar_shown : Scalar SymbolAt → List ℕ
 scalar_shown (value.null type) = null_text type
 scalar_shown (value.bool truth) = bool_text truth
 scalar_shown (value.int number) = int_text number
+scalar_shown (value.float number) = float_text number
 scalar_shown (value.decimal number) = decimal_text number
 scalar_shown (value.timestamp moment) = timestamp_text moment
 scalar_shown (value.symbol s) = placed s
@@ -90,21 +94,27 @@ reading_shown Finished = codes "done"
 reading_shown (Stopped reason place) = name_of reason ++ (codes " at " ++ decimal place)
 reading_shown (More item rest) = item_shown item ++ (codes "; " ++ reading_shown rest)
 
-abbrev pub limits_of : ℕ → ℕ → Limits
-limits_of depth scalar =
-    record { depth = depth; scalar = scalar; symbols = 1048576; value = 16777216; input = 281474976710656 }
+abbrev pub rules_of : ℕ → ℕ → Bool → Rules
+rules_of depth scalar floats = record { depth = depth; scalar = scalar; floats = floats }
 
--- what is read with so many containers open at most, and scalars of so many bytes
-unfoldable pub read_within : ℕ → ℕ → String → List ℕ
-unfolding encode_symbols groups_error scan_steps groups_bytes is_utf8 chars digits encode decoded_of cut_at fixed_digits digits_within int_of_text decimal_of_text parts_of timestamp_of_text timestamp_text minute_number utc_of local_of scalar_of_run run_of blanks_at in_line opening in_block closing hex_after piece_at pieces_for segment_at segments_for group_of groups_for lob_at first_at word_token token_of may_come tells_version take part_at step reading
-read_within depth scalar text =
-    reading_shown (reading (limits_of depth scalar) (codes text))
+-- what is read with so many containers open at most, and scalars of so many bytes, where floats are read or not
+unfoldable pub read_within : ℕ → ℕ → Bool → String → List ℕ
+unfolding encode_symbols groups_error scan_steps groups_bytes is_utf8 chars digits encode decoded_of cut_at fixed_digits digits_within int_of_text decimal_of_text parts_of timestamp_of_text timestamp_text minute_number utc_of local_of scalar_of_run float_of_text round to_bits of_bits shortest search reads_as run_of blanks_at in_line opening in_block closing hex_after piece_at pieces_for segment_at segments_for group_of groups_for lob_at first_at word_token token_of may_come tells_version take part_at step reading
+read_within depth scalar floats text =
+    reading_shown (reading (rules_of depth scalar floats) (codes text))
 
 -- ---- rows
 
 -- under these limits, by a name, a text, what is read of it, and what this is to be
 abbrev pub row_within : ℕ → ℕ → String → String → String → List ℕ × List ℕ
-row_within depth scalar name text shown = (read_within depth scalar text, codes shown)
+row_within depth scalar name text shown = (read_within depth scalar false text, codes shown)
+
+-- where floats are read
+abbrev pub float_row_within : ℕ → ℕ → String → String → String → List ℕ × List ℕ
+float_row_within depth scalar name text shown = (read_within depth scalar true text, codes shown)
+
+abbrev pub float_row : String → String → String → List ℕ × List ℕ
+float_row name text shown = float_row_within 64 1048576 name text shown
 
 abbrev pub row : String → String → String → List ℕ × List ℕ
 row name text shown = row_within 64 1048576 name text shown

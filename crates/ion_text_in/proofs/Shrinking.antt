@@ -31,6 +31,7 @@ use Rattle.ion_text_in.specs.Lob.{group_of, group_bytes, groups_for, lob_at}
 use Rattle.ion_text_in.specs.Scanning.{Takes}
 use Rattle.ion_text_in.specs.Token as tokens
 use Rattle.ion_text_in.specs.Token.{First, a_word, a_quoted, a_short, a_long, a_run, a_lob, an_operator, an_infinity, two_colons, no_token, Token, plain, name, text, operator, token_of, in_run, in_word, in_operator, bytes_of, word_of, counted, run_token, word_token}
+use Rattle.ion_text_in.proofs.RunTokens.{if-scalar}
 use Rattle.ion_text_in.proofs.TokenLimits.{CountsAll, run_token-counts, word_token-counts}
 use Rattle.ion_text_in.proofs.WentWell.{any-ok, if-then, if-passed, if-either, if-more, if-both}
 
@@ -547,11 +548,11 @@ counted-is limit first bytes c means front all within =
     }
 
 run-named : (run : List ℕ) → IfOk (run_token run) (NameWithin (length run))
-run-named run = by (scalar_of_run run)
+run-named run = if-scalar (NameWithin (length run)) run (scalar_of_run run) (by (scalar_of_run run)) tt
   where
-    by : (o : Result (Scalar SymbolAt) Reason) → IfOk (o >>= (λ v. Ok (plain v))) (NameWithin (length run))
+    by : (o : Result (Scalar SymbolAt) Reason) → IfOk o (λ v. NameWithin (length run) (plain v))
     by (Ok v) = tt
-    by (Err reason) = tt
+    by (Err why) = tt
 
 word-named : (word : List ℕ) → IfOk (word_token word) (NameWithin (length word))
 unfolding word_token

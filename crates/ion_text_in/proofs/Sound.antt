@@ -1,7 +1,7 @@
 -- A reading goes along paths of the bytes to a step that ends or stops it, and so does another with it, whose limits are wider.
 -- So what is read is a path, and a stream where reading finishes.
 use Rattle.std.proofs.Common.{◌≡◌, ℕ, zero, suc, ◌<◌, Bool, false, List, [], ◌∷◌, ◌++◌, None, refl, sym, ap, subst, ◌∙◌, append-nil, arith}
-use Rattle.ion_meter.specs.declared.limits.Limits.{Limits}
+use Rattle.ion_meter.specs.declared.profile.Rules.{Rules}
 use Rattle.ion_value.specs.declared.ion_type.Kind.{Kind}
 use Rattle.ion_value.specs.Value.{SymbolAt, Top}
 use Rattle.ion_value.specs.Path.{Path, closed, path_items}
@@ -15,6 +15,7 @@ use Rattle.ion_text_in.specs.Grammar.{Field, Annotations, Tops, Stream, start_of
 use Rattle.ion_text_in.specs.Paths.{Spells, IsPath, Begun, at_separator, at_field, in_item, At, Follows}
 use Rattle.ion_value.specs.ReadingLaws.{ending_of, AreWithin}
 use Rattle.ion_text_in.specs.Laws.{Sound}
+use Rattle.ion_text_in.proofs.ReadPermitted.{read-permitted}
 use Rattle.ion_text_in.proofs.Steps.{annotations-none, field-none, step-follows}
 use Rattle.ion_text_in.proofs.Falling.{StepCut, same_step, step-Cut, each_step_falls}
 
@@ -66,7 +67,7 @@ IsLast (GoesOn after) = ⊥
 IsLast o = Unit {0}
 
 -- two readings come to one state with the same items, where a step of the first is its last
-pub record Walked (limits wide : Limits) (bytes : List ℕ) : Type 0 where
+pub record Walked (limits wide : Rules) (bytes : List ℕ) : Type 0 where
   pub path : Path SymbolAt ℕ
   pub state : State
   pub stands : At bytes path state
@@ -74,13 +75,13 @@ pub record Walked (limits wide : Limits) (bytes : List ℕ) : Type 0 where
   pub short : reading limits bytes ≡ items_then (path_items path) (reading_by (step limits) size state)
   pub long : reading wide bytes ≡ items_then (path_items path) (reading_by (step wide) size state)
 
-module _ (limits wide : Limits) (within : AreWithin limits wide) (bytes : List ℕ) where
+module _ (limits wide : Rules) (within : AreWithin limits wide) (bytes : List ℕ) where
   -- from a state after a path on
   abbrev WalksFrom : Path SymbolAt ℕ → State → Type 0
   WalksFrom path s = reading limits bytes ≡ items_then (path_items path) (reading_by (step limits) size s) → reading wide bytes ≡ items_then (path_items path) (reading_by (step wide) size s)
       → Walked limits wide bytes
 
-  next-walks : (path : Path SymbolAt ℕ) (s : State) (x y : Step State) → At bytes path s → step limits s ≡ x → step wide s ≡ y → StepCut limits s x y → Follows bytes path s x
+  next-walks : (path : Path SymbolAt ℕ) (s : State) (x y : Step State) → At bytes path s → step limits s ≡ x → step wide s ≡ y → StepCut limits wide s x y → Follows bytes path s x
       → ((next : Path SymbolAt ℕ) (after : State) → At bytes next after → size after < size s → WalksFrom next after) → WalksFrom path s
   next-walks path s Ends y stands e g cut follows h r w = record { path = path; state = s; stands = stands; last = subst IsLast (sym e) tt; short = r; long = w }
   next-walks path s (Stops why place) y stands e g cut follows h r w = record { path = path; state = s; stands = stands; last = subst IsLast (sym e) tt; short = r; long = w }
@@ -109,12 +110,12 @@ module _ (limits wide : Limits) (within : AreWithin limits wide) (bytes : List �
 -- ---- so
 
 -- what is read from where a step ends or stops it
-pub last-read : (limits : Limits) (s : State) → reading_by (step limits) size s ≡ next_reading (reading_by (step limits) size) (step limits s)
+pub last-read : (limits : Rules) (s : State) → reading_by (step limits) size s ≡ next_reading (reading_by (step limits) size) (step limits s)
 last-read limits s = reading_by-step (step limits) size (each_step_falls limits) s
 
 pub sound : Sound
 sound limits bytes =
-    let w = walk limits limits (record { depth = omega arith; scalar = omega arith }) bytes in
+    let w = walk limits limits (record { depth = omega arith; scalar = omega arith; floats = λ on. on }) bytes in
     let read : reading limits bytes ≡ items_then (path_items w.path) (next_reading (reading_by (step limits) size) (step limits w.state)) = w.short ∙ ap (items_then (path_items w.path)) (last-read limits w.state) in
     let all = by w.path w.state w.stands (step limits w.state) w.last (step-follows limits bytes w.path w.state w.stands) in
     record {
@@ -122,6 +123,7 @@ sound limits bytes =
       place = w.stands.after.place;
       is_path = at-path bytes w.path w.state w.stands;
       items = ap items_of read ∙ items_of-items_then (path_items w.path) _ ∙ ap (λ items. path_items w.path ++ items) all.0 ∙ append-nil (path_items w.path);
+      permitted = read-permitted limits bytes;
       whole = λ e. all.1 (sym (ending_of-items_then (path_items w.path) _) ∙ sym (ap ending_of read) ∙ e);
     }
   where

@@ -3,8 +3,9 @@ use Rattle.std.proofs.Common.{◌≡◌, ℕ, Bool, true, false, not, List, [], 
 use Rattle.std.proofs.lemmas.Bool.{false≢true}
 use Rattle.std.proofs.lemmas.Slice.Eq.{bytes_eq-Decides}
 use Rattle.ion_meter.specs.declared.fault.Reason.{Reason}
+use Rattle.ion_meter.specs.declared.fault.Reason.TheVariants as reasons
 use Rattle.ion_meter.specs.declared.fault.Reason.TheVariants.{BadVersion, DepthLimit, AnnotationLimit}
-use Rattle.ion_meter.specs.declared.limits.Limits.{Limits}
+use Rattle.ion_meter.specs.declared.profile.Rules.{Rules}
 use Rattle.ion_value.specs.declared.ion_type.Kind.{Kind}
 use Rattle.ion_value.specs.declared.ion_type.Kind.TheVariants as kind
 use Rattle.ion_value.specs.Name.{is_version, version_word}
@@ -15,7 +16,7 @@ use Rattle.ion_value.specs.Reading.{Step, Gives, GoesOn}
 use Rattle.ion_meter.specs.Sources.{Cursor, skip}
 use Rattle.ion_value.specs.Parts.{Placed, part, refuse, ◌>>=◌, ◌>>◌}
 use Rattle.ion_text_in.specs.Blanks.{blanks}
-use Rattle.ion_text_in.specs.Token.{First, a_colon, two_colons, first_at, Token, plain, name, text, operator, begin, end, comma, colon, colons, token_of, next_token}
+use Rattle.ion_text_in.specs.Token.{First, a_colon, two_colons, first_at, Token, plain, float, name, text, operator, begin, end, comma, colon, colons, token_of, next_token}
 use Rattle.ion_text_in.specs.Reading as reading
 use Rattle.ion_text_in.specs.Positions.{Wants, a_value, a_field, a_separator, State, innermost, in_sexp, has_commas, at, first_place}
 use Rattle.ion_text_in.specs.Reading.{at_member, after_member, may_come, top_of, item_of, tells_version, is_marker, after_colons, step, step_of, take, part_at}
@@ -168,7 +169,7 @@ refused-goes bytes path s p false reason o goes = goes
 abbrev state : List Kind → ℕ → Wants → Cursor → State
 state kinds top wants c = record { kinds = kinds; top = top; wants = wants; cursor = c }
 
-module _ (limits : Limits) (bytes : List ℕ) (path : Path SymbolAt ℕ) (top : ℕ) (is_top : IsTop path top) (p : ℕ) (d : Cursor) where
+module _ (limits : Rules) (bytes : List ℕ) (path : Path SymbolAt ℕ) (top : ℕ) (is_top : IsTop path top) (p : ℕ) (d : Cursor) where
   -- a bracket that closes
   end-goes : (j : Kind) (js : List Kind) (wants : Wants) (full : Bool) (after : Cursor) → Spells (start_of bytes) path (j ∷ js) full after
       → Tok (in_sexp (Some j)) after (end j) p d → (s : State)
@@ -248,7 +249,7 @@ marker-word : (symbol : Symbol) → is_marker symbol ≡ true → symbol ≡ val
 marker-word (value.Text word) e = ap value.Text (sym ((bytes_eq-Decides version_word word).0 e))
 marker-word (value.Id id) e = absurd (false≢true e)
 
-module _ (limits : Limits) (bytes : List ℕ) (path : Path SymbolAt ℕ) (top : ℕ) (is_top : IsTop path top) (p : ℕ) (d : Cursor) where
+module _ (limits : Rules) (bytes : List ℕ) (path : Path SymbolAt ℕ) (top : ℕ) (is_top : IsTop path top) (p : ℕ) (d : Cursor) where
   marker-goes : (symbol : Symbol) (after : Cursor) → Spells (start_of bytes) path [] false after → Tok false after (name false symbol) p d
       → after_colons false d ≡ None → (m : Bool) → is_marker symbol ≡ m → (s : State)
       → Goes bytes path s (part p (refuse (not m) BadVersion >> Ok (reading.item_step [] top None [] p value.marker [] (after_member None) d)))
@@ -359,6 +360,11 @@ module _ (limits : Limits) (bytes : List ℕ) (path : Path SymbolAt ℕ) (top : 
   take-goes _ _ after _ _ t spells at_field tok s = tt
   take-goes kinds _ after c _ (end k) spells (in_item {d = b} {field = field} {annotations = annotations} f ns) tok s = bare-goes limits bytes path top is_top p d kinds k field annotations after b c spells f ns tok s
   take-goes kinds _ after c _ (plain v) spells (in_item {d = b} {field = field} {annotations = annotations} f ns) tok s = value-goes limits bytes path top is_top p d kinds field annotations v after b spells f (Txt.of_plain ns tok) s
+  take-goes kinds _ after c _ (float None) spells (in_item {d = b} {field = field} {annotations = annotations} f ns) tok s =
+      refused-goes bytes path s p (not limits.floats) reasons.Float (Err reasons.Range) tt
+  take-goes kinds _ after c _ (float (Some x)) spells (in_item {d = b} {field = field} {annotations = annotations} f ns) tok s =
+      refused-goes bytes path s p (not limits.floats) reasons.Float (Ok (reading.scalar_step kinds top field annotations p (value.float x) d))
+      (value-goes limits bytes path top is_top p d kinds field annotations (value.float x) after b spells f (Txt.of_float ns tok) s)
   take-goes kinds _ after c _ (text t) spells (in_item {d = b} {field = field} {annotations = annotations} f ns) tok s = value-goes limits bytes path top is_top p d kinds field annotations (value.string t) after b spells f (Txt.of_text ns tok) s
   take-goes kinds _ after c _ (operator t) spells (in_item {d = b} {field = field} {annotations = annotations} f ns) tok s =
       value-goes limits bytes path top is_top p d kinds field annotations (value.symbol (at (value.Text t) p)) after b spells f (Txt.of_operator ns tok) s
@@ -370,7 +376,7 @@ module _ (limits : Limits) (bytes : List ℕ) (path : Path SymbolAt ℕ) (top : 
 -- ---- a step
 
 -- a token of the kind that its first bytes tell, or a fault
-cut-goes : (limits : Limits) (bytes : List ℕ) (path : Path SymbolAt ℕ) (s : State) (b : Cursor) → At bytes path s → blanks s.cursor ≡ Ok b
+cut-goes : (limits : Rules) (bytes : List ℕ) (path : Path SymbolAt ℕ) (s : State) (b : Cursor) → At bytes path s → blanks s.cursor ≡ Ok b
     → (o : Result (Token × Cursor) Reason) → token_of (Some limits.scalar) (first_at (in_sexp (innermost s.kinds)) b.rest) b ≡ o
     → Goes bytes path s (part b.place o >>= (λ t. take limits s.kinds s.top s.wants b.place t.0 t.1))
 cut-goes limits bytes path s b stands blank (Err reason) token = tt
@@ -378,29 +384,29 @@ cut-goes limits bytes path s b stands blank (Ok t) token =
     take-goes limits bytes path s.top stands.top b.place t.1 s.kinds stands.full stands.after s.cursor s.wants t.0 stands.spells stands.begun
     (tok-read (Some limits.scalar) (in_sexp (innermost s.kinds)) s.cursor b t.1 t.0 blank token) s
 
-coming-goes : (limits : Limits) (bytes : List ℕ) (path : Path SymbolAt ℕ) (s : State) (b : Cursor) → At bytes path s → blanks s.cursor ≡ Ok b
+coming-goes : (limits : Rules) (bytes : List ℕ) (path : Path SymbolAt ℕ) (s : State) (b : Cursor) → At bytes path s → blanks s.cursor ≡ Ok b
     → (first : First) → first_at (in_sexp (innermost s.kinds)) b.rest ≡ first → (may : Bool) → Goes bytes path s (reading.next_part limits s b first may)
 coming-goes limits bytes path s b stands blank first is false = tt
 coming-goes limits bytes path s b stands blank first is true =
     cut-goes limits bytes path s b stands blank (token_of (Some limits.scalar) first b) (ap (λ first. token_of (Some limits.scalar) first b) is)
 
-ended-goes : (limits : Limits) (bytes : List ℕ) (path : Path SymbolAt ℕ) (s : State) (b : Cursor) → blanks s.cursor ≡ Ok b → b.rest ≡ []
+ended-goes : (limits : Rules) (bytes : List ℕ) (path : Path SymbolAt ℕ) (s : State) (b : Cursor) → blanks s.cursor ≡ Ok b → b.rest ≡ []
     → (kinds : List Kind) (wants : Wants) → s.kinds ≡ kinds → s.wants ≡ wants → Goes bytes path s (reading.final_step kinds wants b.place)
 ended-goes limits bytes path s b blank none [] (a_value None []) kinds_are wants_are = (kinds_are, wants_are, b, blank, none)
 ended-goes limits bytes path s b blank none kinds wants kinds_are wants_are = tt
 
-after-goes : (limits : Limits) (bytes : List ℕ) (path : Path SymbolAt ℕ) (s : State) (b : Cursor) → At bytes path s → blanks s.cursor ≡ Ok b
+after-goes : (limits : Rules) (bytes : List ℕ) (path : Path SymbolAt ℕ) (s : State) (b : Cursor) → At bytes path s → blanks s.cursor ≡ Ok b
     → (rest : List ℕ) → b.rest ≡ rest → Goes bytes path s (reading.part_after limits s b rest)
 after-goes limits bytes path s b stands blank [] is = ended-goes limits bytes path s b blank is s.kinds s.wants refl refl
 after-goes limits bytes path s b stands blank (x ∷ rest) is =
     coming-goes limits bytes path s b stands blank (first_at (in_sexp (innermost s.kinds)) (x ∷ rest)) (ap (first_at (in_sexp (innermost s.kinds))) is)
     (may_come s.wants (first_at (in_sexp (innermost s.kinds)) (x ∷ rest)))
 
-part-goes : (limits : Limits) (bytes : List ℕ) (path : Path SymbolAt ℕ) (s : State) → At bytes path s → (o : Placed Cursor) → blanks s.cursor ≡ o
+part-goes : (limits : Rules) (bytes : List ℕ) (path : Path SymbolAt ℕ) (s : State) → At bytes path s → (o : Placed Cursor) → blanks s.cursor ≡ o
     → Goes bytes path s (o >>= (λ c. reading.part_after limits s c c.rest))
 part-goes limits bytes path s stands (Err fault) blank = tt
 part-goes limits bytes path s stands (Ok b) blank = after-goes limits bytes path s b stands blank b.rest refl
 
-pub step-follows : (limits : Limits) (bytes : List ℕ) (path : Path SymbolAt ℕ) (s : State) → At bytes path s → Follows bytes path s (step limits s)
+pub step-follows : (limits : Rules) (bytes : List ℕ) (path : Path SymbolAt ℕ) (s : State) → At bytes path s → Follows bytes path s (step limits s)
 unfolding step part_at
 step-follows limits bytes path s stands = part-goes limits bytes path s stands (blanks s.cursor) refl

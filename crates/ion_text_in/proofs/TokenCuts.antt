@@ -22,7 +22,7 @@ use Rattle.ion_value.specs.Timestamp as timestamps
 use Rattle.ion_value.specs.Timestamp.{is_moment, utc_of, timestamp_of_text}
 use Rattle.ion_value.specs.Value as value
 use Rattle.ion_value.specs.Value.{SymbolAt, Scalar}
-use Rattle.ion_value.proofs.Faults.{Blames, bind_blames, then_blames, if_blames, is_limit, Free, free, fault_free, refuse_free, either-free, years-free}
+use Rattle.ion_value.proofs.Faults.{Blames, then_blames, if_blames, is_limit, Free, free, fault_free, refuse_free, either-free, years-free}
 use Rattle.ion_meter.specs.Sources.{Cursor, skip}
 use Rattle.ion_value.specs.Parts.{refuse, ◌>>=◌, ◌>>◌}
 use Rattle.ion_text_in.specs.Places.{after_run}
@@ -34,6 +34,7 @@ use Rattle.ion_text_in.specs.Lob.{group_of, groups_for, lob_at}
 use Rattle.ion_text_in.specs.Meaning.{counts}
 use Rattle.ion_text_in.specs.Token as tokens
 use Rattle.ion_text_in.specs.Token.{First, a_word, a_quoted, a_short, a_long, a_run, a_lob, an_operator, an_infinity, no_token, Token, plain, name, text, operator, bytes_of, in_run, in_operator, word_of, counted, token_of, run_token, word_token}
+use Rattle.ion_text_in.proofs.RunTokens.{scalar_token-blames}
 use Rattle.ion_text_in.proofs.TokenLimits.{got, CountsAll, run_token-counts, word_token-counts}
 use Rattle.ion_text_in.proofs.WentWell.{if-any, if-passed, if-more}
 
@@ -359,7 +360,7 @@ module _ (limits wide : Option ℕ) (within : (n : ℕ) → passes wide n ≡ tr
   unfolding token_of
   token-cut a_run c =
       counted-cut (bytes_of in_run c.rest) c run_token (run_token-counts (bytes_of in_run c.rest))
-      (bind_blames Free (scalar_of_run (bytes_of in_run c.rest)) _ (run-free (bytes_of in_run c.rest)) (λ v _. record { so = tt }))
+      (scalar_token-blames Free (bytes_of in_run c.rest) (scalar_of_run (bytes_of in_run c.rest)) (run-free (bytes_of in_run c.rest)))
   token-cut a_word c = counted-cut (word_of c.rest) c word_token (word_token-counts (word_of c.rest)) (word_token-free (word_of c.rest))
   token-cut a_quoted c =
       map-cut (after 0) (token_counts c.place) (text_at symbol_quote limits (skip 1 c)) (text_at symbol_quote wide (skip 1 c)) (λ t. (name true (value.Text t.0), t.1)) (λ t. omega arith)

@@ -10,11 +10,11 @@ use Rattle.ion_value.specs.declared.timestamp.Timestamp.{Timestamp}
 use Rattle.ion_value.specs.Decimal.{decimal_of_text}
 use Rattle.ion_value.specs.Int.{int_of_text}
 use Rattle.ion_value.specs.Name.{Keyword, a_null, keyword}
-use Rattle.ion_value.specs.Parts.{◌>>=◌}
 use Rattle.ion_value.specs.Scalar.{scalar_of_run, scalar_of_readings}
 use Rattle.ion_value.specs.Timestamp.{timestamp_of_text}
-use Rattle.ion_value.specs.Value.{SymbolAt, Scalar}
+use Rattle.ion_value.specs.Value.{SymbolAt}
 use Rattle.ion_text_in.specs.Meaning.{counts}
+use Rattle.ion_text_in.proofs.RunTokens.{if-scalar}
 use Rattle.ion_text_in.specs.Token.{Token, plain, word_token, run_token, by_keyword}
 
 -- a token and what stands after it
@@ -35,12 +35,8 @@ readings-count i d t = tt
 
 pub run_token-counts : (run : List ℕ) → IfOk (run_token run) CountsAll
 unfolding scalar_of_run
-run_token-counts run = by (scalar_of_readings (int_of_text run) (decimal_of_text run) (timestamp_of_text run))
-    (readings-count (int_of_text run) (decimal_of_text run) (timestamp_of_text run))
-  where
-    by : (o : Result (Scalar SymbolAt) Reason) → IfOk o (λ v. CountsAll (plain v)) → IfOk (o >>= (λ v. Ok (plain v))) CountsAll
-    by (Ok v) h = h
-    by (Err reason) h = tt
+run_token-counts run =
+    if-scalar CountsAll run (scalar_of_run run) (readings-count (int_of_text run) (decimal_of_text run) (timestamp_of_text run)) (λ p q. refl)
 
 keyword-counts : (k : Option Keyword) (word : List ℕ) → IfOk (by_keyword k word) CountsAll
 keyword-counts (Some (a_null None)) word = tt

@@ -5,7 +5,7 @@ use Rattle.std.proofs.lemmas.Result.{IfOk-at_ok}
 use Rattle.std.specs.Result.{IfOk}
 use Rattle.ion_meter.specs.declared.fault.Reason.{Reason}
 use Rattle.ion_meter.specs.declared.fault.Reason.TheVariants.{ScalarLimit}
-use Rattle.ion_meter.specs.declared.limits.Limits.{Limits}
+use Rattle.ion_meter.specs.declared.profile.Rules.{Rules}
 use Rattle.ion_value.specs.declared.ion_type.Kind.{Kind}
 use Rattle.ion_value.specs.Name.{Keyword, a_null, keyword}
 use Rattle.ion_value.specs.Reading.{Stops}
@@ -21,14 +21,15 @@ use Rattle.ion_text_in.specs.Quoted as quoted
 use Rattle.ion_text_in.specs.Quoted.{text_at}
 use Rattle.ion_text_in.specs.Lob.{lob_at}
 use Rattle.ion_text_in.specs.Token as tokens
-use Rattle.ion_text_in.specs.Token.{First, a_word, a_quoted, a_short, a_long, a_run, a_lob, an_operator, an_infinity, a_begin, an_end, a_comma, a_colon, two_colons, no_token, first_at, Token, plain, name, text, operator, no_number, begin, end, comma, colon, colons, token_of, token_at, next_token, word_token, run_token, counted, bytes_of, word_of, in_run, in_operator}
+use Rattle.ion_text_in.specs.Token.{First, a_word, a_quoted, a_short, a_long, a_run, a_lob, an_operator, an_infinity, a_begin, an_end, a_comma, a_colon, two_colons, no_token, first_at, Token, plain, name, text, operator, begin, end, comma, colon, colons, token_of, token_at, next_token, word_token, scalar_token, counted, bytes_of, word_of, in_run, in_operator}
 use Rattle.ion_text_in.specs.Reading as reading
 use Rattle.ion_text_in.specs.Positions.{Wants, a_value, a_field, a_separator, State, innermost, in_sexp}
 use Rattle.ion_text_in.specs.Reading.{is_punctuation, names_field, may_come, step, step_of, take, part_at}
 use Rattle.ion_text_in.specs.Grammar.{Tok}
+use Rattle.ion_text_in.proofs.RunTokens.{if-scalar}
 use Rattle.ion_text_in.proofs.TokenCuts.{token-exact}
 use Rattle.ion_text_in.proofs.TokenLimits.{got}
-use Rattle.ion_text_in.proofs.WentWell.{went, part-known, if-any, if-passed}
+use Rattle.ion_text_in.proofs.WentWell.{if-then, went, part-known, if-any, if-passed}
 
 -- ---- what a token's first bytes told
 
@@ -65,13 +66,17 @@ word-told c word = by (keyword word)
     by (Some (a_null (Some type))) = bare a_word _ refl refl
     by k = bare a_word _ refl refl
 
-run-told : (c : Cursor) (o : Result (Scalar SymbolAt) Reason) → IfOk ((o >>= (λ v. Ok (plain v))) >>= (λ t. got t c)) (λ x. Told a_run x.0)
-run-told c (Ok v) = bare a_run _ refl refl
-run-told c (Err reason) = tt
+run-told : (c : Cursor) (run : List ℕ) (o : Result (Scalar SymbolAt) Reason) → IfOk (scalar_token run o >>= (λ t. got t c)) (λ x. Told a_run x.0)
+run-told c run o =
+    if-then (Told a_run) (λ x. Told a_run x.0) (scalar_token run o) _ (if-scalar (Told a_run) run o (by o) (bare a_run _ refl refl)) (λ t h. h)
+  where
+    by : (o : Result (Scalar SymbolAt) Reason) → IfOk o (λ v. Told a_run (plain v))
+    by (Ok v) = bare a_run _ refl refl
+    by (Err why) = tt
 
 if-told : (limit : Option ℕ) (first : First) (c : Cursor) → IfOk (token_of limit first c) (λ x. Told first x.0)
 unfolding token_of
-if-told limit a_run c = if-any _ (counted limit (bytes_of in_run c.rest) c) _ (λ r. run-told r.1 (scalar_of_run r.0))
+if-told limit a_run c = if-any _ (counted limit (bytes_of in_run c.rest) c) _ (λ r. run-told r.1 r.0 (scalar_of_run r.0))
 if-told limit a_word c = if-any _ (counted limit (word_of c.rest) c) _ (λ r. word-told r.1 r.0)
 if-told limit a_quoted c = if-any _ (text_at quoted.symbol_quote limit (skip 1 c)) _ (λ r. names a_quoted _ refl refl)
 if-told limit a_short c = if-any _ (text_at (quoted.short_quote false) limit (skip 1 c)) _ (λ r. names a_short _ refl refl)
@@ -153,7 +158,7 @@ pub naming-suits : (t : Token) → is_mark t ≡ false → is_naming t ≡ true 
 unfolding may_come
 naming-suits t bare naming first told = ap (λ b. b || names_field first) (sym told.mark ∙ bare) ∙ told.naming naming
 
-module _ (limits : Limits) (kinds : List Kind) (top : ℕ) (wants : Wants) (c : Cursor) (t : Token) (d : Cursor) (suits : Suits wants t) (b : Cursor) where
+module _ (limits : Rules) (kinds : List Kind) (top : ℕ) (wants : Wants) (c : Cursor) (t : Token) (d : Cursor) (suits : Suits wants t) (b : Cursor) where
   rest-token : (rest : List ℕ) → b.rest ≡ rest → token_of None (first_at (in_sexp (innermost kinds)) b.rest) b ≡ got t d
       → reading.part_after limits (state kinds top wants c) b rest
       ≡ (part b.place (if nat_lt limits.scalar (counts t b.place d.place) then Err ScalarLimit else got t d) >>= (λ t. take limits kinds top wants b.place t.0 t.1))
@@ -169,7 +174,7 @@ module _ (limits : Limits) (kinds : List Kind) (top : ℕ) (wants : Wants) (c : 
       ∙ ap (λ (o : Result (Token × Cursor) Reason). part b.place o >>= (λ t. take limits kinds top wants b.place t.0 t.1)) (token-exact limits.scalar first b t d e')
 
 -- where it counts no more than the limit, and else the reading stops
-step-by : (limits : Limits) (kinds : List Kind) (top : ℕ) (wants : Wants) (c : Cursor) (t : Token) (p : ℕ) (d : Cursor) → Suits wants t → Tok (in_sexp (innermost kinds)) c t p d
+step-by : (limits : Rules) (kinds : List Kind) (top : ℕ) (wants : Wants) (c : Cursor) (t : Token) (p : ℕ) (d : Cursor) → Suits wants t → Tok (in_sexp (innermost kinds)) c t p d
     → step limits (state kinds top wants c) ≡ (if nat_lt limits.scalar (counts t p d.place) then Stops ScalarLimit p else step_of (take limits kinds top wants p t d))
 unfolding step part_at
 step-by limits kinds top wants c t p d suits tok =
@@ -184,7 +189,7 @@ step-by limits kinds top wants c t p d suits tok =
     placed p true = refl
     placed p false = refl
 
-pub step-token : (limits : Limits) (kinds : List Kind) (top : ℕ) (wants : Wants) (c : Cursor) (t : Token) (p : ℕ) (d : Cursor) → Suits wants t
+pub step-token : (limits : Rules) (kinds : List Kind) (top : ℕ) (wants : Wants) (c : Cursor) (t : Token) (p : ℕ) (d : Cursor) → Suits wants t
     → TokenWithin limits t p d → Tok (in_sexp (innermost kinds)) c t p d
     → step limits (state kinds top wants c) ≡ step_of (take limits kinds top wants p t d)
 step-token limits kinds top wants c t p d suits within tok =
@@ -192,7 +197,7 @@ step-token limits kinds top wants c t p d suits within tok =
     ∙ ap (λ (long : Bool). if long then Stops ScalarLimit p else step_of (take limits kinds top wants p t d)) (le-ltb limits.scalar (counts t p d.place) within)
 
 -- a token that counts more than the limit is refused
-pub token-stops : (limits : Limits) (kinds : List Kind) (top : ℕ) (wants : Wants) (c : Cursor) (t : Token) (p : ℕ) (d : Cursor) → Suits wants t
+pub token-stops : (limits : Rules) (kinds : List Kind) (top : ℕ) (wants : Wants) (c : Cursor) (t : Token) (p : ℕ) (d : Cursor) → Suits wants t
     → Tok (in_sexp (innermost kinds)) c t p d → limits.scalar < counts t p d.place → step limits (state kinds top wants c) ≡ Stops ScalarLimit p
 token-stops limits kinds top wants c t p d suits tok over =
     step-by limits kinds top wants c t p d suits tok

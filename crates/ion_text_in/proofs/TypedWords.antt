@@ -21,7 +21,7 @@ use Rattle.ion_text_in.proofs.Gathered.{counted-on, joined-on}
 pub no_text : (a b : List ℕ) (w : Word) → w ≢ word.Name → word_token_of a w ≡ word_token_of b w
 no_text a b (word.Null t) other = refl
 no_text a b (word.Bool truth) other = refl
-no_text a b word.NoNumber other = refl
+no_text a b word.Nan other = refl
 no_text a b (word.Id id) other = refl
 no_text a b word.Name other = absurd (other refl)
 

@@ -1,26 +1,33 @@
 -- What a stream has at top level is raw, and where limits allow what stands in it, within them.
-use Rattle.std.proofs.Common.{◌≡◌, ℕ, suc, ◌+◌, ◌*◌, ◌≤◌, arith, Bool, true, false, if◌then◌else◌, List, [], ◌∷◌, ◌++◌, length, Option, None, Some, is_some, Result, Ok, Err, refl, sym, subst}
+use Rattle.std.proofs.Common.{◌≡◌, ℕ, suc, ◌+◌, ◌*◌, ◌≤◌, arith, Bool, true, false, if◌then◌else◌, List, [], ◌∷◌, ◌++◌, length, drop, codes, Option, None, Some, is_some, Result, Ok, Err, refl, sym, subst}
 use Rattle.std.specs.List.{AllByRecursion}
 use Rattle.std.specs.Result.{IfOk}
 use Rattle.std.proofs.lemmas.Result.{IfOk-at_ok}
+use Rattle.std.specs.Str.{bytes_eq}
+use Rattle.std.proofs.lemmas.Slice.Eq.{bytes_eq-Decides}
+use lib.Ieee.{Float, nan, inf}
 use Rattle.ion_meter.specs.declared.fault.Reason.{Reason}
 use Rattle.ion_meter.specs.declared.fault.Reason.TheVariants.{BadToken}
-use Rattle.ion_meter.specs.declared.limits.Limits.{Limits}
+use Rattle.ion_meter.specs.declared.profile.Rules.{Rules}
 use Rattle.ion_meter.specs.Sources.{Cursor, skip}
 use Rattle.ion_value.specs.declared.decimal.Decimal.{Decimal}
 use Rattle.ion_value.specs.declared.int.Int.{Int}
+use Rattle.ion_value.specs.declared.ion_type.IonType.{IonType}
+use Rattle.ion_value.specs.declared.ion_type.IonType.TheVariants as type
 use Rattle.ion_value.specs.declared.ion_type.Kind.{Kind}
 use Rattle.ion_value.specs.declared.ion_type.Kind.TheVariants as kind
 use Rattle.ion_value.specs.declared.timestamp.Timestamp.{Timestamp}
 use Rattle.ion_value.specs.Decimal.{decimal_of_text}
+use Rattle.ion_value.specs.Digits.{has_minus}
+use Rattle.ion_value.specs.FloatText.{float_of_text}
 use Rattle.ion_value.specs.Int.{int_of_text}
-use Rattle.ion_value.specs.Name.{Keyword, a_null, keyword, is_id, id_of}
+use Rattle.ion_value.specs.Name.{Keyword, a_null, a_bool, a_nan, begins_with, keyword, type_named, is_id, id_of}
 use Rattle.ion_value.specs.Parts.{◌>>=◌}
 use Rattle.ion_value.specs.Scalar.{scalar_of_run, scalar_of_readings}
 use Rattle.ion_value.specs.Standing.{in_struct}
 use Rattle.ion_value.specs.Timestamp.{timestamp_of_text}
 use Rattle.ion_value.specs.Value as value
-use Rattle.ion_value.specs.Value.{Symbol, SymbolAt, Scalar, Value, Members, scalar, Top, version, tree}
+use Rattle.ion_value.specs.Value.{Symbol, SymbolAt, Scalar, Value, Members, scalar, Top, version, tree, top_items}
 use Rattle.ion_value.specs.Writable.{field_symbols, scalar_symbols, value_symbols, members_symbols, IsWritable, AreWritable, ValueHasBytes, MembersHaveBytes, SymbolIsText, IsRaw}
 use Rattle.ion_text_in.specs.Grammar.{Tok, Annotations, Field, Txt, Inside, Tops}
 use Rattle.ion_text_in.specs.Laws.{StreamsAreRaw}
@@ -29,11 +36,13 @@ use Rattle.ion_text_in.specs.Meaning.{counts}
 use Rattle.ion_text_in.specs.Positions.{at, first_place}
 use Rattle.ion_text_in.specs.Quoted.{long_quote, short_quote, symbol_quote, text_at}
 use Rattle.ion_text_in.specs.ReadWithin.{SymbolIsWithin, ScalarIsWithin, AnnotationsAreWithin, ValueIsWithin, MembersAreWithin, TopIsWithin, WhatIsReadIsWithin, ValuesReadAreWithin}
-use Rattle.ion_text_in.specs.Token.{First, a_run, a_word, a_quoted, a_short, a_long, a_lob, an_operator, an_infinity, no_token, Token, plain, name, text, operator, first_at, by_keyword, bytes_of, in_operator, in_run, run_token, token_of, word_of, word_token}
+use Rattle.ion_text_in.specs.Token.{First, a_run, a_word, a_quoted, a_short, a_long, a_lob, an_operator, an_infinity, no_token, Token, plain, float, found_float, name, text, operator, first_at, by_keyword, bytes_of, in_operator, in_run, run_token, token_of, word_of, word_token}
 use Rattle.ion_text_in.specs.Within.{TokenWithin, AnnotationsWithin, NamesWithin, FieldWithin, TxtWithin, InsideWithin, TopsWithin}
 use Rattle.ion_text_in.proofs.Advancing.{tops-allowed}
 use Rattle.ion_text_in.proofs.LobBytes.{all-append}
+use Rattle.ion_value.proofs.Permitted.{all-permitted}
 use Rattle.ion_text_in.proofs.RawTokens.{tokens-are_raw}
+use Rattle.ion_text_in.proofs.RunTokens.{if-scalar}
 use Rattle.ion_text_in.proofs.Shrinking.{Any, LobOf, any-lob}
 use Rattle.ion_text_in.proofs.TokenLimits.{CountsAll, run_token-counts, word_token-counts}
 use Rattle.ion_text_in.proofs.Tokens.{tok-stands}
@@ -43,12 +52,48 @@ all-more : {A : Type 0} (P Q : A → Type 0) → ((x : A) → P x → Q x) → (
 all-more P Q more [] h = tt
 all-more P Q more (x ∷ xs) h = (more x h.0, all-more P Q more xs h.1)
 
-module _ (limits : Limits) where
+-- ---- floats that are words
+
+nan-test : (a b c d e : Bool) (t : Option IonType)
+    → (if a then Some (a_null (Some type.Null)) else (if b then Some (a_null t) else (if c then Some (a_bool true) else (if d then Some (a_bool false) else (if e then Some a_nan else None)))))
+    ≡ Some a_nan → e ≡ true
+nan-test true b c d e t is = absurd (cc is)
+nan-test false true c d e t is = absurd (cc is)
+nan-test false false true d e t is = absurd (cc is)
+nan-test false false false true e t is = absurd (cc is)
+nan-test false false false false true t is = refl
+nan-test false false false false false t is = absurd (cc is)
+
+nan-text : float_of_text (codes "nan") ≡ Ok nan
+unfolding float_of_text
+nan-text = refl
+
+nan-read : (word : List ℕ) → keyword word ≡ Some a_nan → float_of_text word ≡ Ok nan
+nan-read word e =
+    let is : codes "nan" ≡ word = (bytes_eq-Decides (codes "nan") word).0 (nan-test (bytes_eq (codes "null") word) (begins_with (codes "null.") word) (bytes_eq (codes "true") word) (bytes_eq (codes "false") word)
+    (bytes_eq (codes "nan") word) (type_named (drop 5 word)) e) in
+    subst (λ (run : List ℕ). float_of_text run ≡ Ok nan) is nan-text
+
+abbrev infinity_word : Bool → List ℕ
+infinity_word true = codes "-inf"
+infinity_word false = codes "+inf"
+
+infinity-read : (negative : Bool) → float_of_text (infinity_word negative) ≡ Ok (inf negative)
+unfolding float_of_text
+infinity-read true = refl
+infinity-read false = refl
+
+infinity-long : (negative : Bool) → length (infinity_word negative) ≡ 4
+infinity-long true = refl
+infinity-long false = refl
+
+module _ (limits : Rules) where
   -- ---- tokens
 
   -- what a token means is within the limits
   abbrev Means : Token → Type 0
   Means (plain body) = ScalarIsWithin limits body
+  Means (float (Some x)) = (run : List ℕ) × (float_of_text run ≡ Ok x) × (length run ≤ limits.scalar)
   Means (name quoted symbol) = SymbolIsWithin limits symbol
   Means (text bytes) = length bytes ≤ limits.scalar
   Means (operator bytes) = length bytes ≤ limits.scalar
@@ -61,25 +106,33 @@ module _ (limits : Limits) where
   readings-within run (Err BadToken) (Err BadToken) (Ok t) e f le = (run, f, le)
   readings-within run i d t e f le = tt
 
+  found-within : (run : List ℕ) (r : Result Float Reason) → float_of_text run ≡ r → length run ≤ limits.scalar → Means (float (found_float r))
+  found-within run (Ok x) e le = (run, e, le)
+  found-within run (Err why) e le = tt
+
   run-within : (run : List ℕ) → length run ≤ limits.scalar → IfOk (run_token run) Means
   unfolding scalar_of_run
   run-within run le =
-      if-then (ScalarIsWithin limits) Means (scalar_of_run run) _
-      (readings-within run (int_of_text run) (decimal_of_text run) (timestamp_of_text run) refl refl le) (λ v h. h)
+      if-scalar Means run (scalar_of_run run) (readings-within run (int_of_text run) (decimal_of_text run) (timestamp_of_text run) refl refl le)
+      (found-within run (float_of_text run) refl le)
 
-  keyword-within : (k : Option Keyword) (word : List ℕ) → length word ≤ limits.scalar → IfOk (by_keyword k word) Means
-  keyword-within None word le = by (is_id word)
+  keyword-within : (k : Option Keyword) (word : List ℕ) → keyword word ≡ k → length word ≤ limits.scalar → IfOk (by_keyword k word) Means
+  keyword-within None word e le = by (is_id word)
     where
       by : (b : Bool) → Means (name false (if b then value.Id (id_of word) else value.Text word))
       by true = tt
       by false = le
-  keyword-within (Some (a_null None)) word le = tt
-  keyword-within (Some (a_null (Some type))) word le = tt
-  keyword-within k word le = tt
+  keyword-within (Some (a_null None)) word e le = tt
+  keyword-within (Some (a_null (Some type))) word e le = tt
+  keyword-within (Some a_nan) word e le = (word, nan-read word e, le)
+  keyword-within k word e le = tt
+
+  infinity-within : (negative : Bool) → 4 ≤ limits.scalar → Means (float (Some (inf negative)))
+  infinity-within negative le = (infinity_word negative, infinity-read negative, omega (arith, le, infinity-long negative))
 
   word-within : (word : List ℕ) → length word ≤ limits.scalar → IfOk (word_token word) Means
   unfolding word_token
-  word-within word le = keyword-within (keyword word) word le
+  word-within word le = keyword-within (keyword word) word refl le
 
   -- a token that begins at a cursor and counts no more than the limit
   abbrev Counted : Cursor → Token × Cursor → Type 0
@@ -108,7 +161,7 @@ module _ (limits : Limits) where
   token-means a_long c = if-any _ (text_at (long_quote false) None (skip 3 c)) _ (λ t le. le)
   token-means a_lob c = if-then _ _ (lob_at None (skip 2 c)) _ (any-lob c.place None (skip 2 c)) (λ l h le. lob-within c.place c l.1 l.0 h.1 le)
   token-means an_operator c = counted-within (bytes_of in_operator c.rest) c (λ bytes. Ok (operator bytes)) (λ p q. refl) (λ le. le)
-  token-means an_infinity c = λ le. tt
+  token-means an_infinity c = λ le. infinity-within (has_minus c.rest) (omega (arith, le))
   token-means no_token c = tt
   token-means mark c = λ le. tt
 
@@ -179,6 +232,9 @@ module _ (limits : Limits) where
     txt-holds depth (Txt.of_plain {annotations = annotations} {v = v} ns tok) within =
         let raw = tokens-are_raw _ _ _ _ _ tok in
         scalar-holds depth annotations ns v within.0 (tok-means _ _ _ _ _ tok within.1) (raw.in_range, raw.text) raw.bytes (subst AreHeld (sym raw.no_symbol) tt)
+    txt-holds depth (Txt.of_float {annotations = annotations} {x = x} ns tok) within =
+        let run = tok-means _ _ _ _ _ tok within.1.0 in
+        scalar-holds depth annotations ns (value.float x) within.0 (within.1.1, run.0, run.1, run.2) (tokens-are_raw _ _ _ _ _ tok, tt) tt tt
     txt-holds depth (Txt.of_text {annotations = annotations} {bytes = bytes} ns tok) within =
         scalar-holds depth annotations ns (value.string bytes) within.0 (tok-means _ _ _ _ _ tok within.1) (tt, tokens-are_raw _ _ _ _ _ tok) tt tt
     txt-holds depth (Txt.of_operator {annotations = annotations} {p = p} {bytes = bytes} ns tok) within =
@@ -235,5 +291,5 @@ values_are_within law limits bytes tops is read =
 -- under limits that allow all that stands in it
 pub streams-are_raw : StreamsAreRaw
 streams-are_raw bytes tops stream =
-    let limits : Limits = record { depth = length bytes; scalar = 16 * length bytes; symbols = 0; value = 0; input = 0 } in
-    all-more (TopHolds limits) IsRaw (λ top h. h.1) tops (tops-hold limits stream.spells (tops-allowed limits bytes (omega arith, omega arith) stream.spells))
+    let limits : Rules = record { depth = length bytes; scalar = 16 * length bytes; floats = true } in
+    all-more (TopHolds limits) IsRaw (λ top h. h.1) tops (tops-hold limits stream.spells (tops-allowed limits bytes (omega arith, omega arith) stream.spells (all-permitted limits refl (top_items tops))))

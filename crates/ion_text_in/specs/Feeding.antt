@@ -1,8 +1,8 @@
 -- A lane over the bytes of a window: where it stands, what it reads of them, and what it moves.
 use Rattle.std.specs.Prelude.{◌≡◌, ℕ, ◌+◌, ◌*◌, ◌-◌, ◌^◌, ◌<◌, ◌≤◌, ◌==◌, max, Bool, get_or, true, false, List, [], ◌∷◌, ◌++◌, take, drop, length, reverse, is_some, sum_by, Option, Some, None, Ok, option_map, IfSome}
 use Rattle.ion_meter.specs.Counts.{Counts}
-use Rattle.ion_meter.specs.declared.limits.Limits.{Limits}
-use Rattle.ion_meter.specs.Limits.{AreChecked}
+use Rattle.ion_meter.specs.declared.profile.Rules.{Rules}
+use Rattle.ion_meter.specs.Rules.{AreSmall}
 use Rattle.ion_meter.specs.Sources.{Cursor, skip}
 use Rattle.ion_meter.specs.Windows.{Incoming, lent, Outgoing, IsPassed}
 use Rattle.ion_value.specs.declared.ion_type.Kind.{Kind}
@@ -137,7 +137,7 @@ pub record IsBegun (limit : ℕ) (bytes : List ℕ) (n : ℕ) : Type 0 where
 abbrev pub IfName : (ℕ → Type 0) → Scanned Word → Type 0
 IfName P (Whole (word.Null type) n) = Unit {0}
 IfName P (Whole (word.Bool truth) n) = Unit {0}
-IfName P (Whole word.NoNumber n) = Unit {0}
+IfName P (Whole word.Nan n) = Unit {0}
 IfName P (Whole (word.Id id) n) = Unit {0}
 IfName P (Whole word.Name n) = P n
 IfName P (Fault reason) = Unit {0}
@@ -156,7 +156,7 @@ abbrev pub state : List Kind → ℕ → Wants → ℕ → List ℕ → State
 state kinds top wants place rest = record { kinds = kinds; top = top; wants = wants; cursor = at place rest }
 
 -- without an item reading goes on from some bytes at a place to a rest of them, whatever follows
-pub record Onward (limits : Limits) (kinds : List Kind) (top place : ℕ) (wants : Wants) (bytes : List ℕ) (after : Wants) (rest : List ℕ) : Type 0 where
+pub record Onward (limits : Rules) (kinds : List Kind) (top place : ℕ) (wants : Wants) (bytes : List ℕ) (after : Wants) (rest : List ℕ) : Type 0 where
   pub part : IsAfter bytes rest
   pub fewer : length rest ≤ length bytes
   pub same : (q : ℕ) (more : List ℕ) → place + length bytes ≡ q + length rest
@@ -195,7 +195,7 @@ pub record IsAfterName (name : TextAt) (bytes : List ℕ) (start : Start) : Type
   pub begins : Begins start.next
 
 -- after a name that stands at the front of some bytes, at a place, and is read as `raw`, and after a colon, a value begins
-pub record IsNamedAs (text : TextAt) (raw : SymbolAt) (limits : Limits) (place : ℕ) (bytes : List ℕ) (start : Start) : Type 0 where
+pub record IsNamedAs (text : TextAt) (raw : SymbolAt) (limits : Rules) (place : ℕ) (bytes : List ℕ) (start : Start) : Type 0 where
   pub is : start.field ≡ Some text
   pub bare : start.note ≡ None
   pub says : IsRightlyQuoted text
@@ -204,12 +204,12 @@ pub record IsNamedAs (text : TextAt) (raw : SymbolAt) (limits : Limits) (place :
   pub begins : Begins start.next
 
 -- the name is a text
-pub record IsNamed (limits : Limits) (place : ℕ) (bytes : List ℕ) (start : Start) : Type 0 where
+pub record IsNamed (limits : Rules) (place : ℕ) (bytes : List ℕ) (start : Start) : Type 0 where
   pub text : TextAt
   pub name : IsNamedAs text (placed_text text) limits place bytes start
 
 -- the name is a text, or an id of this text
-pub record IsNamedBy (texts : ℕ → Option (List ℕ)) (limits : Limits) (place : ℕ) (bytes : List ℕ) (start : Start) : Type 0 where
+pub record IsNamedBy (texts : ℕ → Option (List ℕ)) (limits : Rules) (place : ℕ) (bytes : List ℕ) (start : Start) : Type 0 where
   pub text : TextAt
   pub raw : SymbolAt
   pub seen : named_at texts raw ≡ placed_text text
@@ -223,14 +223,14 @@ pub record IsAfterColons (colons : List ℕ) (next : Next) : Type 0 where
   pub begins : Begins next
 
 -- after an annotation two colons stand, its bytes and those of one before it are no more than may be, and a value begins
-pub record IsAfterNote (limits : Limits) (start : Start) (note : TextAt) (colons : List ℕ) (noted : Start) : Type 0 where
+pub record IsAfterNote (limits : Rules) (start : Start) (note : TextAt) (colons : List ℕ) (noted : Start) : Type 0 where
   pub is : noted.note ≡ Some note
   pub same : noted.field ≡ start.field
   pub costs : sum_by cost (notes start.note ++ placed_text note ∷ []) ≤ limits.scalar
   pub after : IsAfterColons colons noted.next
 
 -- after an annotation that begins at a place, maybe after another, and two colons, a value begins
-pub record IsNoted (limits : Limits) (place : ℕ) (start noted : Start) : Type 0 where
+pub record IsNoted (limits : Rules) (place : ℕ) (start noted : Start) : Type 0 where
   pub text : TextAt
   pub is : noted.note ≡ Some text
   pub same : noted.field ≡ start.field
@@ -250,7 +250,7 @@ expected_of spot = expected_in spot.separator spot.kind
 
 -- a comma is passed over where one must come and stands there
 pub record PassesComma (old new : Spot) : Type 0 where
-  pub onward : (limits : Limits) (opened : List Kind) (place : ℕ) → kind_in opened ≡ old.kind
+  pub onward : (limits : Rules) (opened : List Kind) (place : ℕ) → kind_in opened ≡ old.kind
       → Onward limits opened old.top place (wanted (expected_of old) None []) old.rest.now (wanted (expected_of new) None []) new.rest.now
   pub expects : (opened : List Kind) → kind_in opened ≡ old.kind → MayExpect (expected_of old) opened None [] → MayExpect (expected_of new) opened None []
   pub same : new ≡ record old { rest = new.rest; separator = new.separator }
@@ -291,7 +291,7 @@ pub record IsStartBy (texts : ℕ → Option (List ℕ)) (second : Option TextAt
   pub read : IsStartAs raw second bounds spot start
 
 -- a head stands at the front of some bytes, and these after it; it is read as `raw`
-pub record IsHeadAs (raw : Head SymbolAt) (limits : Limits) (place : ℕ) (bytes : List ℕ) (head : Head SymbolAt) (rest : List ℕ) : Type 0 where
+pub record IsHeadAs (raw : Head SymbolAt) (limits : Rules) (place : ℕ) (bytes : List ℕ) (head : Head SymbolAt) (rest : List ℕ) : Type 0 where
   pub part : IsAfter bytes rest
   pub fewer : length rest < length bytes
   pub known : IsPlainHead head
@@ -303,22 +303,22 @@ pub record IsHeadAs (raw : Head SymbolAt) (limits : Limits) (place : ℕ) (bytes
       ≡ More (item_in kinds top field annotations place raw) (later limits (state (open_after kinds head) (top_of kinds top annotations place) (after_head kinds head) q (rest ++ more)))
 
 -- it is read as it is
-abbrev pub IsHead : Limits → ℕ → List ℕ → Head SymbolAt → List ℕ → Type 0
+abbrev pub IsHead : Rules → ℕ → List ℕ → Head SymbolAt → List ℕ → Type 0
 IsHead limits place bytes head rest = IsHeadAs head limits place bytes head rest
 
 -- the same of what the code found, with the head's canonical text where it has that
-pub record IsFound (limits : Limits) (place : ℕ) (bytes : List ℕ) (found : Found) : Type 0 where
+pub record IsFound (limits : Rules) (place : ℕ) (bytes : List ℕ) (found : Found) : Type 0 where
   pub head : IsHead limits place bytes (raw_head found.head) found.rest.now
   pub spelled : IfSome found.spelled (λ text. IsTextOf text.now (raw_head found.head))
 
 -- so are head and text, however the head is read
-pub record IsFoundRead (limits : Limits) (place : ℕ) (bytes : List ℕ) (found : Found) : Type 0 where
+pub record IsFoundRead (limits : Rules) (place : ℕ) (bytes : List ℕ) (found : Found) : Type 0 where
   pub raw : Head SymbolAt
   pub head : IsHeadAs raw limits place bytes (raw_head found.head) found.rest.now
   pub spelled : IfSome found.spelled (λ text. IsTextOf text.now (raw_head found.head))
 
 -- the same where a symbol may be read as an id of its text
-pub record IsFoundBy (texts : ℕ → Option (List ℕ)) (limits : Limits) (place : ℕ) (bytes : List ℕ) (found : Found) : Type 0 where
+pub record IsFoundBy (texts : ℕ → Option (List ℕ)) (limits : Rules) (place : ℕ) (bytes : List ℕ) (found : Found) : Type 0 where
   pub raw : Head SymbolAt
   pub seen : map_head (named_at texts) raw ≡ raw_head found.head
   pub head : IsHeadAs raw limits place bytes (raw_head found.head) found.rest.now
@@ -367,7 +367,7 @@ abbrev pub lane_held : {W O A : Type 0} → WriterOf W O A → Lane W O → ℕ
 lane_held w l = 16 * length l.kinds + w.own l.writer
 
 -- the most that it may hold
-abbrev pub lane_share : {W O A : Type 0} → WriterOf W O A → Limits → Lane W O → ℕ
+abbrev pub lane_share : {W O A : Type 0} → WriterOf W O A → Rules → Lane W O → ℕ
 lane_share w limits l = 16 * limits.depth + w.most l.writer
 
 -- it may go on
@@ -375,7 +375,7 @@ pub record CanFeed {W O A : Type 0} (w : WriterOf W O A) (bounds : Bounds) (l : 
   pub room : l.meter.held ≤ 2 ^ 61 + lane_held w l
   pub held : lane_held w l ≤ l.meter.held
   pub countable : l.meter.refused < 2 ^ 64 - 1
-  pub checked : AreChecked bounds.limits
+  pub checked : AreSmall bounds.limits
   pub within : length l.rest ≤ bounds.end
   pub low : bounds.end ≤ 2 ^ 62
   pub small : l.values + length l.rest ≤ 2 ^ 62

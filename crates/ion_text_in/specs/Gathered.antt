@@ -6,7 +6,7 @@ use Rattle.ion_meter.specs.declared.fault.Fault.{Fault}
 use Rattle.ion_meter.specs.declared.fault.Fault.TheVariants.{Refused, Memory, ReadFault, WriteFault, InputLimit}
 use Rattle.ion_meter.specs.declared.fault.Reason.{Reason}
 use Rattle.ion_meter.specs.declared.fault.Reason.TheVariants.{ScalarLimit}
-use Rattle.ion_meter.specs.declared.limits.Limits.{Limits}
+use Rattle.ion_meter.specs.declared.profile.Rules.{Rules}
 use Rattle.ion_meter.specs.Windows.{Incoming}
 use Rattle.ion_meter.specs.Sources.{Cursor, Stands}
 use Rattle.ion_value.specs.Calls.{ReadsInto, passed_over}
@@ -23,7 +23,7 @@ use Rattle.ion_text_in.specs.Scanning.{Spelled, pieces, with_front}
 -- ---- what is held
 
 -- a text may grow up to a limit
-pub record CanGrow (limits : Limits) (text : List ℕ) (meter : Counts) : Type 0 where
+pub record CanGrow (limits : Rules) (text : List ℕ) (meter : Counts) : Type 0 where
   pub holds : length text ≤ meter.held
   pub room : meter.held + limits.scalar < 2 ^ 63 + length text
   pub countable : meter.refused < 2 ^ 64 - 1
@@ -31,7 +31,7 @@ pub record CanGrow (limits : Limits) (text : List ℕ) (meter : Counts) : Type 0
   pub share : length text ≤ limits.scalar
 
 -- and one that is read into
-pub record CanGather {I : Type 0} (limits : Limits) (source : Incoming I) (text : List ℕ) (meter : Counts) : Type 0 where
+pub record CanGather {I : Type 0} (limits : Rules) (source : Incoming I) (text : List ℕ) (meter : Counts) : Type 0 where
   pub stands : Stands source
   pub grows : CanGrow limits text meter
 
@@ -45,7 +45,7 @@ pub record Grown (earlier later : Counts) (before after most : ℕ) (fault : Opt
   pub no_limit : fault ≡ Some InputLimit → ⊥
 
 -- what a call that reads into a text keeps and moves whatever it answers; its memory goes with what it passes over
-pub record Gathers {I T : Type 0} (device : InputOf I) (limits : Limits) (old new : Incoming I) (earlier later : Counts) (before after : List ℕ) (result : Result T Fault) : Type 0 where
+pub record Gathers {I T : Type 0} (device : InputOf I) (limits : Rules) (old new : Incoming I) (earlier later : Counts) (before after : List ℕ) (result : Result T Fault) : Type 0 where
   pub reads : ReadsInto device old new earlier later (length before) (length after) limits.scalar result
   pub goes : GrowsWithin earlier later (length before) (length after) (8 * passed_over old new)
 
@@ -61,7 +61,7 @@ PutsOn old new bytes limit place (Err WriteFault) = Unit {0}
 PutsOn old new bytes limit place (Err InputLimit) = Unit {0}
 
 -- what putting bytes after a text does and costs
-pub record Puts {T : Type 0} (limits : Limits) (earlier later : Counts) (old new bytes : List ℕ) (place : ℕ) (result : Result T Fault) : Type 0 where
+pub record Puts {T : Type 0} (limits : Rules) (earlier later : Counts) (old new bytes : List ℕ) (place : ℕ) (result : Result T Fault) : Type 0 where
   pub puts : PutsOn old new bytes limits.scalar place result
   pub grown : Grown earlier later (length old) (length new) limits.scalar (fault_of result)
   pub goes : OnOk result (GrowsWithin earlier later (length old) (length new) (length bytes))

@@ -1,5 +1,6 @@
 -- Which tokens spell which values, each with the place of its first byte: the text form as a grammar over tokens.
 use Rattle.std.specs.Prelude.{◌≡◌, ℕ, Bool, true, false, List, [], ◌∷◌, ◌++◌, Option, Some, None, Ok}
+use lib.Ieee.{Float}
 use Rattle.ion_value.specs.declared.ion_type.Kind.{Kind}
 use Rattle.ion_value.specs.declared.ion_type.Kind.TheVariants as kind
 use Rattle.ion_value.specs.Name.{is_version, version_word}
@@ -7,7 +8,7 @@ use Rattle.ion_value.specs.Value as value
 use Rattle.ion_value.specs.Value.{Symbol, SymbolAt, Scalar, Value, Members, Top}
 use Rattle.ion_meter.specs.Sources.{Cursor}
 use Rattle.ion_text_in.specs.Blanks.{blanks}
-use Rattle.ion_text_in.specs.Token.{Token, plain, name, text, operator, begin, end, comma, colon, colons, cut, next_token}
+use Rattle.ion_text_in.specs.Token.{Token, plain, float, name, text, operator, begin, end, comma, colon, colons, cut, next_token}
 use Rattle.ion_text_in.specs.Positions.{is_sexp, in_sexp, has_commas, at, first_place}
 
 -- between the cursors c and d stand blanks and the token t, whose first byte is at p; in a sexp it may be an operator
@@ -49,6 +50,9 @@ mutual
     of_plain : {k : Option Kind} {c d e : Cursor} {annotations : List SymbolAt} {p : ℕ} {v : Scalar SymbolAt}
         → Annotations (in_sexp k) c annotations d → Tok (in_sexp k) d (plain v) p e
         → Txt k c annotations p (value.scalar v) e
+    of_float : {k : Option Kind} {c d e : Cursor} {annotations : List SymbolAt} {p : ℕ} {x : Float}
+        → Annotations (in_sexp k) c annotations d → Tok (in_sexp k) d (float (Some x)) p e
+        → Txt k c annotations p (value.scalar (value.float x)) e
     of_text : {k : Option Kind} {c d e : Cursor} {annotations : List SymbolAt} {p : ℕ}
         {bytes : List ℕ}
         → Annotations (in_sexp k) c annotations d → Tok (in_sexp k) d (text bytes) p e

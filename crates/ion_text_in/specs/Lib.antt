@@ -7,6 +7,7 @@ pub mod Quoted
 pub mod Lob
 pub mod Token
 pub mod Reading
+pub mod Strict
 pub mod Grammar
 pub mod Paths
 pub mod Meaning

@@ -5,7 +5,7 @@ use Rattle.ion_meter.specs.declared.device.Input.{Ghosts as InputOf}
 use Rattle.ion_meter.specs.declared.fault.Fault.{Fault}
 use Rattle.ion_meter.specs.declared.fault.Fault.TheVariants.{Refused}
 use Rattle.ion_meter.specs.declared.fault.Reason.{Reason}
-use Rattle.ion_meter.specs.declared.limits.Limits.{Limits}
+use Rattle.ion_meter.specs.declared.profile.Rules.{Rules}
 use Rattle.ion_meter.specs.Sources.{Cursor, cursor}
 use Rattle.ion_meter.specs.Windows.{Incoming}
 use Rattle.ion_meter.specs.declared.fault.Reason.TheVariants.{BadLob}
@@ -35,7 +35,7 @@ closed_after count c = do
   Ok d
 
 -- what a call does that takes whole groups of the window, and answers whether the last of them was padded, or takes none
-pub record TakesGroups {I : Type 0} (device : InputOf I) (limits : Limits) (old new : Incoming I) (earlier later : Counts) (before after : List ℕ) (result : Result (Option Bool) Fault) : Type 0 where
+pub record TakesGroups {I : Type 0} (device : InputOf I) (limits : Rules) (old new : Incoming I) (earlier later : Counts) (before after : List ℕ) (result : Result (Option Bool) Fault) : Type 0 where
   pub gives : device.observable old.device
       → IfOk result (λ found. IfSome found (λ padded. with_groups_after limits.scalar before false (cursor device old) ≡ with_groups_after limits.scalar after padded (cursor device new)))
   pub none : result ≡ Ok None → (new ≡ old) × (after ≡ before) × (later ≡ earlier)

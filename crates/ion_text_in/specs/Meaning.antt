@@ -1,9 +1,11 @@
 -- What a token means: the text of a scalar is read as that scalar, whatever stands after it that ends it; the characters of a blob are the base64 of its bytes; what each token means is raw. And what it counts under a limit.
 use Rattle.std.specs.Prelude.{◌≡◌, ◌≢◌, ℕ, ◌+◌, ◌-◌, ◌*◌, ◌^◌, ◌<◌, ◌≤◌, Bool, true, false, not, nat_lt, if◌then◌else◌, List, [], ◌∷◌, ◌++◌, All, length, filter, codes, decimal as digits, Option, Some, None, IsUtf8, ⊤, Ok, Err}
 use Rattle.std.specs.Str.{is_utf8}
+use lib.Ieee.{Float, fin}
 use Rattle.base64.specs.Engines.{standard}
 use Rattle.base64.specs.GeneralPurpose.{encode_of}
 use Rattle.ion_meter.specs.declared.fault.Reason.TheVariants.{ScalarLimit}
+use Rattle.ion_meter.specs.declared.profile.Rules.{Rules}
 use Rattle.ion_meter.specs.Sources.{Cursor}
 use Rattle.ion_value.specs.declared.decimal.Decimal.{Decimal}
 use Rattle.ion_value.specs.declared.int.Int.{Int}
@@ -12,9 +14,12 @@ use Rattle.ion_value.specs.declared.ion_type.IonType.TheVariants as type
 use Rattle.ion_value.specs.declared.timestamp.Timestamp.{Timestamp}
 use Rattle.ion_value.specs.Decimal.{IsDecimal, decimal_text}
 use Rattle.ion_value.specs.Digits.{is_hex_digit, digit_value, all_are}
+use Rattle.ion_value.specs.Float.{IsFloat}
+use Rattle.ion_value.specs.FloatText.{float_text}
 use Rattle.ion_value.specs.Int.{IsInt, int_text}
 use Rattle.ion_value.specs.Name.{null_text, bool_text, is_id, id_of, is_plain}
 use Rattle.ion_value.specs.Timestamp.{IsTimestamp, timestamp_text}
+use Rattle.ion_value.specs.ReadingLaws.{IsPermitted}
 use Rattle.ion_value.specs.Standing.{InRange}
 use Rattle.ion_value.specs.Value.{SymbolAt, Scalar, Text, Id, null, bool, int, decimal, timestamp, clob, blob}
 use Rattle.ion_value.specs.Writable.{HasText, HasBytes, SymbolIsText, scalar_symbols}
@@ -91,6 +96,14 @@ DecimalTextIsRead =
 abbrev pub TimestampTextIsRead : Type 0
 TimestampTextIsRead =
     (t : Timestamp) → IsTimestamp t → Means (length (timestamp_text t)) EndsNumber (timestamp_text t) (plain (timestamp t))
+
+-- the canonical text of each float is read as that float: what ends a number ends it, where it is a word it ends as one does
+abbrev pub EndsFloat : Float → List ℕ → Type 0
+EndsFloat (fin sign m e) rest = EndsNumber rest
+EndsFloat x rest = EndsIdentifier rest
+
+abbrev pub FloatTextIsRead : Type 0
+FloatTextIsRead = (x : Float) → IsFloat x → Means (length (float_text x)) (EndsFloat x) (float_text x) (tokens.float (Some x))
 
 -- ---- blobs
 
@@ -185,16 +198,18 @@ ClobTextIsRead =
 
 -- ---- what a token means is raw
 
--- a scalar that is no symbol: its number is in range, its text is UTF-8, its bytes are below 256
+-- a scalar that is neither a symbol nor a float: its number is in range, its text is UTF-8, its bytes are below 256
 pub record IsRawScalar (body : Scalar SymbolAt) : Type 0 where
   pub in_range : InRange body
   pub text : HasText body
   pub bytes : HasBytes body
   pub no_symbol : scalar_symbols body ≡ []
+  pub no_float : (limits : Rules) → IsPermitted limits body
 
--- what a token means is such a scalar, or text in UTF-8; punctuation means nothing
+-- what a token means is such a scalar, a float, or text in UTF-8; punctuation means nothing
 abbrev pub IsRawToken : Token → Type 0
 IsRawToken (plain body) = IsRawScalar body
+IsRawToken (tokens.float (Some x)) = IsFloat x
 IsRawToken (tokens.name quoted symbol) = SymbolIsText symbol
 IsRawToken (tokens.text bytes) = IsUtf8 bytes
 IsRawToken (tokens.operator bytes) = IsUtf8 bytes

@@ -1,9 +1,11 @@
 -- Reading a text: its items in order, and how they end. In each part of an item the first line that refuses is its fault.
 use Rattle.std.specs.Prelude.{ℕ, ◌+◌, Bool, true, false, not, ◌||◌, nat_le, nat_lt, if◌then◌else◌, List, [], ◌∷◌, ◌++◌, length, sum_by, Option, Some, None, Result, Ok, Err}
 use Rattle.std.specs.Str.{bytes_eq}
+use lib.Ieee.{Float}
 use Rattle.ion_meter.specs.declared.fault.Reason.{Reason}
-use Rattle.ion_meter.specs.declared.fault.Reason.TheVariants.{Truncated, BadToken, BadVersion, Float, DepthLimit, AnnotationLimit}
-use Rattle.ion_meter.specs.declared.limits.Limits.{Limits}
+use Rattle.ion_meter.specs.declared.fault.Reason.TheVariants as reason
+use Rattle.ion_meter.specs.declared.fault.Reason.TheVariants.{Truncated, BadToken, BadVersion, Range, DepthLimit, AnnotationLimit}
+use Rattle.ion_meter.specs.declared.profile.Rules.{Rules}
 use Rattle.ion_value.specs.declared.ion_type.Kind.{Kind}
 use Rattle.ion_value.specs.declared.ion_type.Kind.TheVariants as kind
 use Rattle.ion_value.specs.Name.{is_version, version_word}
@@ -14,7 +16,7 @@ use Rattle.ion_meter.specs.Sources.{Cursor, skip}
 use Rattle.ion_value.specs.Parts.{Placed, part, refuse, ◌>>=◌, ◌>>◌}
 use Rattle.ion_text_in.specs.Positions.{Wants, a_value, a_field, a_separator, State, innermost, in_sexp, has_commas, at, first_place}
 use Rattle.ion_text_in.specs.Blanks.{blanks}
-use Rattle.ion_text_in.specs.Token.{First, a_word, a_quoted, a_short, a_long, a_run, a_lob, an_operator, an_infinity, a_begin, an_end, a_comma, a_colon, two_colons, no_token, first_at, Token, plain, name, text, operator, no_number, begin, end, comma, token_of}
+use Rattle.ion_text_in.specs.Token.{First, a_word, a_quoted, a_short, a_long, a_run, a_lob, an_operator, an_infinity, a_begin, an_end, a_comma, a_colon, two_colons, no_token, first_at, Token, plain, float, name, text, operator, begin, end, comma, token_of}
 
 -- ---- members
 
@@ -98,6 +100,18 @@ scalar_step kinds top field annotations place body c =
     item_step kinds top field annotations place (value.whole body) kinds
     (after_member (innermost kinds)) c
 
+-- a float that was read, whose digits must not be past the greatest
+abbrev pub in_range : Option Float → Result Float Reason
+in_range (Some x) = Ok x
+in_range None = Err Range
+
+-- the step of a float, which is refused where floats are not read
+abbrev pub float_step : Rules → List Kind → ℕ → Option SymbolAt → List SymbolAt → ℕ → Option Float → Cursor → Result (Step State) Reason
+float_step limits kinds top field annotations place number c = do
+  refuse (not limits.floats) reason.Float
+  x ← in_range number
+  Ok (scalar_step kinds top field annotations place (value.float x) c)
+
 -- a step that gives no item; this must come from the cursor on
 abbrev pub onward_step : List Kind → ℕ → Wants → Cursor → Step State
 onward_step kinds top wants c = GoesOn (record { kinds = kinds; top = top; wants = wants; cursor = c })
@@ -112,7 +126,7 @@ cost a = cost_of a.symbol where
   cost_of (value.Id id) = 16
 
 -- the step of one more annotation, refused where all of them together cost more than the limit on scalars
-abbrev pub with_annotation : Limits → List Kind → ℕ → Option SymbolAt → List SymbolAt → SymbolAt → Cursor → Result (Step State) Reason
+abbrev pub with_annotation : Rules → List Kind → ℕ → Option SymbolAt → List SymbolAt → SymbolAt → Cursor → Result (Step State) Reason
 with_annotation limits kinds top field annotations a c = do
   refuse (nat_lt limits.scalar (sum_by cost (annotations ++ a ∷ []))) AnnotationLimit
   Ok (onward_step kinds top (a_value field (annotations ++ a ∷ [])) c)
@@ -154,7 +168,7 @@ abbrev pub after_colons : Bool → Cursor → Option Cursor
 after_colons sexp c = colons_after sexp (blanks c)
 
 -- an annotation where two colons follow, else the value or a version marker
-abbrev pub symbol_step : Limits → List Kind → ℕ → Option SymbolAt → List SymbolAt → Bool → SymbolAt → Cursor → Option Cursor → Result (Step State) Reason
+abbrev pub symbol_step : Rules → List Kind → ℕ → Option SymbolAt → List SymbolAt → Bool → SymbolAt → Cursor → Option Cursor → Result (Step State) Reason
 symbol_step limits kinds top field annotations quoted a c (Some after) = with_annotation limits kinds top field annotations a after
 symbol_step limits kinds top field annotations quoted a c None =
     value_or_version kinds top field annotations a c (tells_version (innermost kinds) annotations quoted a.symbol)
@@ -181,7 +195,7 @@ bare_end_step None [] kinds top k place c = end_step kinds top k place c
 bare_end_step _ _ kinds top k place c = Err BadToken
 
 -- the step of an opening bracket at `place`: refused where as many containers are open as may be
-abbrev pub begin_step : Limits → List Kind → ℕ → Option SymbolAt → List SymbolAt → Kind → ℕ → Cursor → Result (Step State) Reason
+abbrev pub begin_step : Rules → List Kind → ℕ → Option SymbolAt → List SymbolAt → Kind → ℕ → Cursor → Result (Step State) Reason
 begin_step limits kinds top field annotations k place c = do
   refuse (nat_le limits.depth (length kinds)) DepthLimit
   Ok (item_step kinds top field annotations place (value.begin k) (k ∷ kinds) (member_of k) c)
@@ -205,7 +219,7 @@ field_step kinds top a c = do
 -- ---- a part
 
 -- what a token that begins at a place makes of what must come
-unfoldable pub take : Limits → List Kind → ℕ → Wants → ℕ → Token → Cursor → Placed (Step State)
+unfoldable pub take : Rules → List Kind → ℕ → Wants → ℕ → Token → Cursor → Placed (Step State)
 take limits kinds top a_separator place (end k) c = part place (end_step kinds top k place c)
 take limits kinds top a_separator place comma c = Ok (onward_step kinds top (at_member (innermost kinds)) c)
 take limits kinds top a_field place (end k) c = part place (end_step kinds top k place c)
@@ -213,13 +227,13 @@ take limits kinds top a_field place (name quoted symbol) c = field_step kinds to
 take limits kinds top a_field place (text bytes) c = field_step kinds top (at (value.Text bytes) place) c
 take limits kinds top (a_value field annotations) place (end k) c = part place (bare_end_step field annotations kinds top k place c)
 take limits kinds top (a_value field annotations) place (plain body) c = Ok (scalar_step kinds top field annotations place body c)
+take limits kinds top (a_value field annotations) place (float number) c = part place (float_step limits kinds top field annotations place number c)
 take limits kinds top (a_value field annotations) place (text bytes) c = Ok (scalar_step kinds top field annotations place (value.string bytes) c)
 take limits kinds top (a_value field annotations) place (operator bytes) c =
     Ok (scalar_step kinds top field annotations place (value.symbol (at (value.Text bytes) place)) c)
 take limits kinds top (a_value field annotations) place (name quoted symbol) c =
     part place (symbol_step limits kinds top field annotations quoted (at symbol place) c (after_colons (in_sexp (innermost kinds)) c))
 take limits kinds top (a_value field annotations) place (begin k) c = part place (begin_step limits kinds top field annotations k place c)
-take limits kinds top (a_value field annotations) place no_number c = Err (Float, place)
 take limits kinds top _ place _ c = Err (BadToken, place)
 
 -- the stream ends where nothing is open and a value may begin
@@ -228,23 +242,23 @@ final_step [] (a_value None []) place = Ok Ends
 final_step _ _ place = Err (Truncated, place)
 
 -- the step by the token that so begins at the cursor, refused unread where the last argument says that none such may come
-abbrev pub next_part : Limits → State → Cursor → First → Bool → Placed (Step State)
+abbrev pub next_part : Rules → State → Cursor → First → Bool → Placed (Step State)
 next_part limits s c first false = Err (BadToken, c.place)
 next_part limits s c first true = do
   t ← part c.place (token_of (Some limits.scalar) first c)
   take limits s.kinds s.top s.wants c.place t.0 t.1
 
 -- the step by the token that so begins at the cursor
-abbrev pub part_from : Limits → State → Cursor → First → Placed (Step State)
+abbrev pub part_from : Rules → State → Cursor → First → Placed (Step State)
 part_from limits s c first = next_part limits s c first (may_come s.wants first)
 
 -- the step where blanks end: at the end of the input, or by the token that begins there
-abbrev pub part_after : Limits → State → Cursor → List ℕ → Placed (Step State)
+abbrev pub part_after : Rules → State → Cursor → List ℕ → Placed (Step State)
 part_after limits s c [] = final_step s.kinds s.wants c.place
 part_after limits s c (b ∷ bytes) = part_from limits s c (first_at (in_sexp (innermost s.kinds)) (b ∷ bytes))
 
 -- what the reading does next at a state, or its fault and the place of that
-unfoldable pub part_at : Limits → State → Placed (Step State)
+unfoldable pub part_at : Rules → State → Placed (Step State)
 part_at limits s = do
   c ← blanks s.cursor
   part_after limits s c c.rest
@@ -257,7 +271,7 @@ step_of (Ok s) = s
 step_of (Err fault) = Stops fault.0 fault.1
 
 -- what the reading does next at a state, under limits
-unfoldable pub step : Limits → State → Step State
+unfoldable pub step : Rules → State → Step State
 step limits s = step_of (part_at limits s)
 
 -- each part takes a byte
@@ -269,7 +283,7 @@ abbrev pub start_at : Cursor → State
 start_at c = record { kinds = []; top = 0; wants = a_value None []; cursor = c }
 
 -- all that a reader gives from here on
-abbrev pub reading_from : Limits → Cursor → Reading
+abbrev pub reading_from : Rules → Cursor → Reading
 reading_from limits c = reading_by (step limits) size (start_at c)
 
 -- the state before the first of these bytes, at place 0
@@ -277,5 +291,5 @@ abbrev pub start : List ℕ → State
 start bytes = start_at (record { place = 0; rest = bytes })
 
 -- all that a reader gives of these bytes
-unfoldable pub reading : Limits → List ℕ → Reading
+unfoldable pub reading : Rules → List ℕ → Reading
 reading limits bytes = reading_by (step limits) size (start bytes)

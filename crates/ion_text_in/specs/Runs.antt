@@ -2,7 +2,7 @@
 use Rattle.std.specs.Prelude.{◌≡◌, ℕ, ◌+◌, ◌-◌, ◌^◌, ◌<◌, ◌≤◌, ◌⊎◌, Bool, true, false, not, ◌&&◌, ◌||◌, ◌==◌, nat_lt, List, [], ◌∷◌, ◌++◌, length, take, drop, codes, Option, Some, None, Result, Ok}
 use Rattle.ion_meter.specs.declared.fault.Reason.{Reason}
 use Rattle.ion_meter.specs.declared.fault.Reason.TheVariants.{ScalarLimit}
-use Rattle.ion_meter.specs.declared.limits.Limits.{Limits}
+use Rattle.ion_meter.specs.declared.profile.Rules.{Rules}
 use Rattle.ion_meter.specs.Counts.{Counts}
 use Rattle.ion_meter.specs.Sources.{Cursor, skip, Stands}
 use Rattle.ion_meter.specs.Windows.{Incoming, lent, IsPassed}
@@ -81,7 +81,7 @@ abbrev pub with_run : Run → Option ℕ → List ℕ → Cursor → Result (Lis
 with_run run limit before c = joined limit before (run_of (goes_on run) c.rest).0 c
 
 -- bytes may be added to a text, up to a limit
-pub record CanAppend {I : Type 0} (limits : Limits) (source : Incoming I) (text : List ℕ) (meter : Counts) : Type 0 where
+pub record CanAppend {I : Type 0} (limits : Rules) (source : Incoming I) (text : List ℕ) (meter : Counts) : Type 0 where
   pub stands : Stands source
   pub holds : length text ≤ meter.held
   pub room : meter.held + (limits.scalar - length text) < 2 ^ 63

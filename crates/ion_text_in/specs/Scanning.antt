@@ -3,7 +3,7 @@
 use Rattle.std.specs.Prelude.{◌≡◌, ℕ, suc, ◌+◌, ◌≤◌, Bool, true, false, not, ◌&&◌, ◌||◌, ◌==◌, nat_lt, if◌then◌else◌, List, [], ◌∷◌, ◌++◌, length, Option, Result, Ok, Err}
 use Rattle.ion_meter.specs.declared.fault.Reason.{Reason}
 use Rattle.ion_meter.specs.declared.fault.Reason.TheVariants.{ScalarLimit}
-use Rattle.ion_meter.specs.declared.limits.Limits.{Limits}
+use Rattle.ion_meter.specs.declared.profile.Rules.{Rules}
 use Rattle.ion_meter.specs.Sources.{Cursor}
 use Rattle.ion_value.specs.Digits.{all_are}
 use Rattle.ion_value.specs.Parts.{refuse, ◌>>=◌, ◌>>◌}
@@ -23,7 +23,7 @@ moved_to c s = record { kinds = s.kinds; top = s.top; wants = s.wants; cursor = 
 
 -- a step from after blanks is the step from before them
 abbrev pub BlanksChangeNoStep : Type 0
-BlanksChangeNoStep = (limits : Limits) (s : State) (c : Cursor) → blanks s.cursor ≡ Ok c → step limits (moved_to c s) ≡ step limits s
+BlanksChangeNoStep = (limits : Rules) (s : State) (c : Cursor) → blanks s.cursor ≡ Ok c → step limits (moved_to c s) ≡ step limits s
 
 -- ---- texts and groups, where no number says how many there are at most
 

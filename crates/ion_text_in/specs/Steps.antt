@@ -8,8 +8,8 @@ use Rattle.ion_meter.specs.declared.fault.Fault.{Fault}
 use Rattle.ion_meter.specs.declared.fault.Fault.TheVariants.{Refused, Memory, ReadFault, WriteFault, InputLimit}
 use Rattle.ion_meter.specs.declared.fault.Reason.{Reason}
 use Rattle.ion_meter.specs.declared.fault.Reason.TheVariants.{Truncated}
-use Rattle.ion_meter.specs.declared.limits.Limits.{Limits}
-use Rattle.ion_meter.specs.Limits.{AreChecked}
+use Rattle.ion_meter.specs.declared.profile.Rules.{Rules}
+use Rattle.ion_meter.specs.Rules.{AreSmall}
 use Rattle.ion_meter.specs.Sources.{Cursor, cursor, Exceeds, Stands, Moves}
 use Rattle.ion_meter.specs.Windows.{Incoming, left}
 use Rattle.ion_value.specs.declared.ion_type.Kind.{Kind}
@@ -63,7 +63,7 @@ abbrev pub source_of : {I A : Type 0} → TextReader I A → Incoming I
 source_of r = r.source
 
 -- its limits
-abbrev pub limits_of : {I A : Type 0} → TextReader I A → Limits
+abbrev pub limits_of : {I A : Type 0} → TextReader I A → Rules
 limits_of r = r.limits
 
 -- the fault that it answered, which it answers again
@@ -94,7 +94,7 @@ left_to r = r.source.limit - r.source.place
 
 -- of its parts at all times
 pub record IsSized {I A : Type 0} (r : TextReader I A) : Type 0 where
-  pub checked : AreChecked r.limits
+  pub checked : AreSmall r.limits
   pub few : length r.kinds ≤ r.limits.depth
   pub annotated : 16 * length r.annotations + length r.texts ≤ r.limits.scalar
   pub name : length r.name ≤ r.limits.scalar
@@ -129,11 +129,11 @@ pub record IsSound {I A : Type 0} (r : TextReader I A) : Type 0 where
 -- ---- where its reading is
 
 -- all that is to come from a state on
-abbrev pub later : Limits → State → Reading
+abbrev pub later : Rules → State → Reading
 later limits s = reading_by (step limits) size s
 
 -- all that is to come where this is the next step, or its fault
-abbrev pub comes : Limits → Placed (Step State) → Reading
+abbrev pub comes : Rules → Placed (Step State) → Reading
 comes limits o = next_reading (later limits) (step_of o)
 
 -- where a comment does not end, this is a fault

@@ -56,7 +56,7 @@ prepaid text (token.Plain body) = 0
 prepaid text (token.Symbol symbol quoted) = length (kept_text text symbol)
 prepaid text (token.String start) = 0
 prepaid text token.Operator = 0
-prepaid text token.NoNumber = 0
+prepaid text (token.Float number) = 0
 prepaid text (token.Begin kind) = 16
 prepaid text (token.End kind) = 0
 prepaid text token.Comma = 0
@@ -67,7 +67,7 @@ prepaid text token.Colons = 0
 abbrev pub prepaid_word : List ℕ → Word → ℕ
 prepaid_word text (word.Null type) = 0
 prepaid_word text (word.Bool truth) = 0
-prepaid_word text word.NoNumber = 0
+prepaid_word text word.Nan = 0
 prepaid_word text (word.Id id) = 0
 prepaid_word text word.Name = length text
 

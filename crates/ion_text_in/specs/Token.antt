@@ -1,12 +1,15 @@
 -- Tokens: what tells a token's kind, how far it goes, and what it means (Ion specification, "Text Encoding").
 use Rattle.std.specs.Prelude.{ℕ, Bool, true, false, not, ◌&&◌, ◌||◌, ◌==◌, if◌then◌else◌, List, [], ◌∷◌, ◌++◌, length, drop, codes, Option, Some, None, Result, Ok, Err}
 use Rattle.std.specs.Str.{bytes_eq}
+use lib.Ieee.{Float, nan, inf}
 use Rattle.ion_meter.specs.declared.fault.Reason.{Reason}
+use Rattle.ion_meter.specs.declared.fault.Reason.TheVariants as reason
 use Rattle.ion_meter.specs.declared.fault.Reason.TheVariants.{BadToken, ScalarLimit}
 use Rattle.ion_value.specs.declared.ion_type.IonType.{IonType}
 use Rattle.ion_value.specs.declared.ion_type.Kind.{Kind}
 use Rattle.ion_value.specs.declared.ion_type.Kind.TheVariants as kind
-use Rattle.ion_value.specs.Digits.{is_digit, first_is}
+use Rattle.ion_value.specs.Digits.{is_digit, first_is, has_minus}
+use Rattle.ion_value.specs.FloatText.{float_of_text}
 use Rattle.ion_value.specs.Name.{Keyword, a_null, a_bool, a_nan, begins_with, is_identifier_start, is_identifier_byte, is_one_of, is_operator_byte, is_id, id_of, keyword}
 use Rattle.ion_value.specs.Scalar.{scalar_of_run}
 use Rattle.ion_value.specs.Value as value
@@ -112,14 +115,14 @@ word_of (b ∷ bytes) = with_type (b ∷ (run_of in_word bytes).0) (run_of in_wo
 
 -- ---- tokens
 
--- by what it means: a scalar that is no symbol; a symbol, in quotes or not; a string; an operator; a number that is none (`nan`, `+inf`,
--- `-inf`); or punctuation
+-- by what it means: a scalar that is neither a symbol nor a float; a float, or none where its digits are past the greatest; a symbol, in
+-- quotes or not; a string; an operator; or punctuation
 pub data Token : Type 0 where
   plain : (body : Scalar SymbolAt) → Token
+  float : (number : Option Float) → Token
   name : (quoted : Bool) → (symbol : Symbol) → Token
   text : (bytes : List ℕ) → Token
   operator : (bytes : List ℕ) → Token
-  no_number : Token
   begin : (kind : Kind) → Token
   end : (kind : Kind) → Token
   comma : Token
@@ -135,18 +138,27 @@ null_token None = Err BadToken
 abbrev pub by_keyword : Option Keyword → List ℕ → Result Token Reason
 by_keyword (Some (a_null type)) word = null_token type
 by_keyword (Some (a_bool truth)) word = Ok (plain (bool truth))
-by_keyword (Some a_nan) word = Ok no_number
+by_keyword (Some a_nan) word = Ok (float (Some nan))
 by_keyword None word = Ok (name false (if is_id word then value.Id (id_of word) else value.Text word))
 
 -- what a word without quotes means: a null, a bool, `nan` or a symbol
 unfoldable pub word_token : List ℕ → Result Token Reason
 word_token word = by_keyword (keyword word) word
 
+-- a float that was read, or none
+abbrev pub found_float : Result Float Reason → Option Float
+found_float (Ok x) = Some x
+found_float (Err why) = None
+
+-- the scalar that a run was read as, or the float where it is refused as one
+abbrev pub scalar_token : List ℕ → Result (Scalar SymbolAt) Reason → Result Token Reason
+scalar_token run (Ok v) = Ok (plain v)
+scalar_token run (Err reason.Float) = Ok (float (found_float (float_of_text run)))
+scalar_token run (Err why) = Err why
+
 -- what the bytes of a number or timestamp mean, or why they mean nothing
 abbrev pub run_token : List ℕ → Result Token Reason
-run_token run = do
-  v ← scalar_of_run run
-  Ok (plain v)
+run_token run = scalar_token run (scalar_of_run run)
 
 -- a token that is punctuation, of so many bytes
 abbrev pub mark : Token → ℕ → Cursor → Result (Token × Cursor) Reason
@@ -179,7 +191,7 @@ token_of limit an_operator c = do
   Ok (operator r.0, r.1)
 token_of limit an_infinity c = do
   refuse (passes limit 4) ScalarLimit
-  mark no_number 4 c
+  mark (float (Some (inf (has_minus c.rest)))) 4 c
 token_of limit (a_begin kind) c = mark (begin kind) 1 c
 token_of limit (an_end kind) c = mark (end kind) 1 c
 token_of limit a_comma c = mark comma 1 c

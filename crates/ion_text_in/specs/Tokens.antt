@@ -1,15 +1,16 @@
 -- What is seen of the tokens of the code, and what the calls that read them answer and keep.
-use Rattle.std.specs.Prelude.{◌≡◌, ℕ, ◌<◌, List, length, Option, Some, None, Result, Ok, Err, OnOk, IfOk, ⊤}
+use Rattle.std.specs.Prelude.{◌≡◌, ℕ, ◌<◌, List, length, Option, Some, None, Result, Ok, Err, OnOk, IfOk, IfSome, option_map, ⊤}
 use Rattle.ion_meter.specs.Counts.{Counts}
 use Rattle.ion_meter.specs.declared.device.Input.{Ghosts as InputOf}
 use Rattle.ion_meter.specs.declared.fault.Fault.{Fault}
 use Rattle.ion_meter.specs.declared.fault.Fault.TheVariants.{Refused, Memory, ReadFault, WriteFault, InputLimit}
 use Rattle.ion_meter.specs.declared.fault.Reason.{Reason}
 use Rattle.ion_meter.specs.declared.fault.Reason.TheVariants.{Truncated}
-use Rattle.ion_meter.specs.declared.limits.Limits.{Limits}
+use Rattle.ion_meter.specs.declared.profile.Rules.{Rules}
 use Rattle.ion_meter.specs.Windows.{Incoming}
 use Rattle.ion_meter.specs.Sources.{Cursor}
 use Rattle.ion_value.specs.Calls.{ReadsInto}
+use Rattle.ion_value.specs.Float.{IsFloat, value_of}
 use Rattle.ion_value.specs.Parts.{Placed}
 use Rattle.ion_value.specs.Standing.{InRange}
 use Rattle.ion_value.specs.Value as value
@@ -36,6 +37,7 @@ abbrev pub as_scalar : List ℕ → ℕ → Body → Scalar SymbolAt
 as_scalar text place (body.Null type) = value.null type
 as_scalar text place (body.Bool truth) = value.bool truth
 as_scalar text place (body.Int number) = value.int number
+as_scalar text place (body.Float number) = value.float (value_of number)
 as_scalar text place (body.Decimal number) = value.decimal number
 as_scalar text place (body.Timestamp moment) = value.timestamp moment
 as_scalar text place (body.Symbol name) = value.symbol (at (as_symbol text name) place)
@@ -49,7 +51,7 @@ token_view text place (code.Plain scalar) = tokens.plain (as_scalar text place s
 token_view text place (code.Symbol symbol quoted) = tokens.name quoted (as_symbol text symbol)
 token_view text place (code.String start) = tokens.text text
 token_view text place code.Operator = tokens.operator text
-token_view text place code.NoNumber = tokens.no_number
+token_view text place (code.Float number) = tokens.float (option_map value_of number)
 token_view text place (code.Begin kind) = tokens.begin kind
 token_view text place (code.End kind) = tokens.end kind
 token_view text place code.Comma = tokens.comma
@@ -59,6 +61,7 @@ token_view text place code.Colons = tokens.colons
 -- numbers and timestamps are those of this library
 abbrev pub BodyInRange : Body → Type 0
 BodyInRange (body.Int number) = InRange {S = SymbolAt} (value.int number)
+BodyInRange (body.Float number) = InRange {S = SymbolAt} (value.float (value_of number))
 BodyInRange (body.Decimal number) = InRange {S = SymbolAt} (value.decimal number)
 BodyInRange (body.Timestamp moment) = InRange {S = SymbolAt} (value.timestamp moment)
 BodyInRange (body.Null type) = ⊤
@@ -74,7 +77,7 @@ TokenInRange (code.Plain scalar) = BodyInRange scalar
 TokenInRange (code.Symbol symbol quoted) = ⊤
 TokenInRange (code.String start) = ⊤
 TokenInRange code.Operator = ⊤
-TokenInRange code.NoNumber = ⊤
+TokenInRange (code.Float number) = IfSome number (λ f. IsFloat (value_of f))
 TokenInRange (code.Begin kind) = ⊤
 TokenInRange (code.End kind) = ⊤
 TokenInRange code.Comma = ⊤
@@ -89,7 +92,7 @@ overrun_of (code.Plain scalar) = None
 overrun_of (code.Symbol symbol quoted) = None
 overrun_of (code.String start) = start
 overrun_of code.Operator = None
-overrun_of code.NoNumber = None
+overrun_of (code.Float number) = None
 overrun_of (code.Begin kind) = None
 overrun_of (code.End kind) = None
 overrun_of code.Comma = None
@@ -113,7 +116,7 @@ TokenGives text place (Err WriteFault) after given = Unit {0}
 TokenGives text place (Err InputLimit) after given = Unit {0}
 
 -- whatever it answers
-pub record ReadsToken {I : Type 0} (device : InputOf I) (limits : Limits) (old new : Incoming I) (earlier later : Counts) (before after : List ℕ) (result : Result Token Fault) : Type 0 where
+pub record ReadsToken {I : Type 0} (device : InputOf I) (limits : Rules) (old new : Incoming I) (earlier later : Counts) (before after : List ℕ) (result : Result Token Fault) : Type 0 where
   pub range : IfOk result TokenInRange
   pub further : OnOk result (old.place < new.place)
   pub into : ReadsInto device old new earlier later (length before) (length after) limits.scalar result

@@ -1,15 +1,21 @@
 -- What is seen of the tokens of the code.
-use Rattle.std.specs.Prelude.{◌≡◌, ℕ, ◌<◌, ◌≤◌, Bool, false, ◌&&◌, ◌||◌, ◌==◌, nat_lt, if◌then◌else◌, map, List, [], ◌∷◌, ◌++◌, length, take, drop, Option, Some, None, Result, Ok}
+use Rattle.std.specs.Prelude.{◌≡◌, ℕ, ◌<◌, ◌≤◌, Bool, false, ◌&&◌, ◌||◌, ◌==◌, nat_lt, if◌then◌else◌, map, List, [], ◌∷◌, ◌++◌, length, take, drop, Option, Some, None, IfSome, option_map, Result, Ok}
+use lib.Ieee.{nan}
 use Rattle.ion_meter.specs.declared.fault.Reason.{Reason}
 use Rattle.ion_meter.specs.Sources.{Cursor}
 use Rattle.ion_value.specs.Parts.{◌>>=◌}
 use Rattle.ion_value.specs.Number.{number}
 use Rattle.ion_value.specs.Digits.{is_digit, digit_value, all_are, first_is}
+use Rattle.ion_value.specs.declared.float.Float64.{Float64}
+use Rattle.ion_value.specs.Float.{IsFloat, value_of}
 use Rattle.ion_value.specs.Name.{raw_id}
+use Rattle.ion_value.specs.Standing.{InRange}
 use Rattle.ion_value.specs.Value as value
 use Rattle.ion_value.specs.Value.{Scalar, SymbolAt}
 use Rattle.ion_text_in.specs.declared.number.Number.{Number}
 use Rattle.ion_text_in.specs.declared.number.Number.TheVariants as numbers
+use Rattle.ion_text_in.specs.declared.number.Numeral.{Numeral}
+use Rattle.ion_text_in.specs.declared.number.Numeral.TheVariants as numerals
 use Rattle.ion_text_in.specs.declared.word.Word.{Word}
 use Rattle.ion_text_in.specs.declared.word.Word.TheVariants as word
 use Rattle.ion_text_in.specs.declared.scanned.Scanned.{Scanned}
@@ -64,13 +70,27 @@ as_number (numbers.Timestamp timestamp) = value.timestamp timestamp
 abbrev pub number_token : Number → Token
 number_token x = plain (as_number x)
 
+-- a number, timestamp or float from the code, as a token
+abbrev pub numeral_token : Numeral → Token
+numeral_token (numerals.Number x) = number_token x
+numeral_token (numerals.Float x) = tokens.float (option_map value_of x)
+
+-- a number, timestamp or float of this library
+abbrev pub NumeralInRange : Numeral → Type 0
+NumeralInRange (numerals.Number x) = InRange (as_number x)
+NumeralInRange (numerals.Float x) = IfSome x (λ f. IsFloat (value_of f))
+
+-- an infinity from the code, as a token
+abbrev pub infinity_token : Float64 → Token
+infinity_token x = tokens.float (Some (value_of x))
+
 -- ---- words
 
 -- the bytes of a symbol standing beside it
 abbrev pub word_token_of : List ℕ → Word → Token
 word_token_of text (word.Null type) = plain (value.null type)
 word_token_of text (word.Bool truth) = plain (value.bool truth)
-word_token_of text word.NoNumber = tokens.no_number
+word_token_of text word.Nan = tokens.float (Some nan)
 word_token_of text (word.Id id) = tokens.name false (value.Id id)
 word_token_of text word.Name = tokens.name false (value.Text text)
 

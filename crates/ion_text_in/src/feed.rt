@@ -29,8 +29,8 @@ use heads::{
 };
 use ids::{id_turns, is_dollar_near};
 use ion_meter::device::Output;
-use ion_meter::limits::Limits;
 use ion_meter::meter::Meter;
+use ion_meter::profile::Rules;
 use ion_meter::sink::Sink;
 use ion_meter::stack::Stack;
 use ion_value::ion_type::Kind;
@@ -267,7 +267,7 @@ fn turn<'a, W: ValueWriter<O, A>, O: Output, A: Allocator + Copy>(
 #[inline(never)]
 fn feed_frequent<'a, W: ValueWriter<O, A>, O: Output, A: Allocator + Copy>(
     spot: Spot<'a>,
-    limits: Limits,
+    limits: Rules,
     end: u64,
     kinds: &mut Stack<Kind, A>,
     meter: &mut Meter<A>,

@@ -13,8 +13,8 @@ use crate::run::{Run, run_extent};
 use ion_meter::buf::Buf;
 use ion_meter::device::Input;
 use ion_meter::fault::{Fault, Reason};
-use ion_meter::limits::Limits;
 use ion_meter::meter::Meter;
+use ion_meter::profile::Rules;
 use ion_meter::source::Source;
 use std::alloc::Allocator;
 
@@ -26,7 +26,7 @@ pub(crate) fn append<I: Input, A: Allocator + Copy>(
     source: &mut Source<I, A>,
     text: &mut Buf<A>,
     count: usize,
-    limits: Limits,
+    limits: Rules,
     place: u64,
     meter: &mut Meter<A>,
 ) -> Result<(), Fault>
@@ -55,7 +55,7 @@ pub(crate) fn copy<I: Input, A: Allocator + Copy>(
     source: &mut Source<I, A>,
     text: &mut Buf<A>,
     count: usize,
-    limits: Limits,
+    limits: Rules,
     meter: &mut Meter<A>,
 ) -> Result<(), Fault>
     requires can_read { CanRead limits limits.scalar source.old text.old meter.old }
@@ -117,7 +117,7 @@ pub(crate) fn gather<I: Input, A: Allocator + Copy>(
     source: &mut Source<I, A>,
     text: &mut Buf<A>,
     run: Run,
-    limits: Limits,
+    limits: Rules,
     place: u64,
     meter: &mut Meter<A>,
 ) -> Result<(), Fault>
@@ -147,7 +147,7 @@ pub(crate) fn gather_token<I: Input, A: Allocator + Copy>(
     source: &mut Source<I, A>,
     text: &mut Buf<A>,
     run: Run,
-    limits: Limits,
+    limits: Rules,
     meter: &mut Meter<A>,
 ) -> Result<(), Fault>
     requires can_read { CanRead limits limits.scalar source.old text.old meter.old }

@@ -1,13 +1,13 @@
 //! Laws of the grammar and the reading of the text form, each the contract of a function that does
 //! nothing.
 ghost use Rattle.ion_text_in.specs.Beginnings.{IdentifiersAreCut, IdentifiersEnd, NumbersAreCut, NumbersEnd, OneBegins, OperatorsAreCut, OperatorsEnd, WhatBegins, WhereNoneBegins};
-ghost use Rattle.ion_text_in.specs.Meaning.{Base64IsRead, BlobsAreBase64, BoolTextIsRead, ClobTextIsRead, DecimalTextIsRead, IdIsRead, IdWordIsRead, IntTextIsRead, NullTextIsRead, PlainSymbolIsRead, QuotedSymbolIsRead, StringTextIsRead, TimestampTextIsRead, TokensAreRaw, TokensWithinAreRead};
+ghost use Rattle.ion_text_in.specs.Meaning.{Base64IsRead, BlobsAreBase64, BoolTextIsRead, ClobTextIsRead, DecimalTextIsRead, FloatTextIsRead, IdIsRead, IdWordIsRead, IntTextIsRead, NullTextIsRead, PlainSymbolIsRead, QuotedSymbolIsRead, StringTextIsRead, TimestampTextIsRead, TokensAreRaw, TokensWithinAreRead};
 ghost use Rattle.ion_text_in.specs.ReadWithin.{ValuesReadAreWithin, WhatIsReadIsWithin};
 ghost use Rattle.ion_text_in.specs.Scanning.{BlanksChangeNoStep, EachPieceTakes, GroupsInTurn, PiecesInTurn, PlainBytesAreSpelled, SegmentsInTurn};
-ghost use Rattle.ion_text_in.specs.Laws.{Complete, EachStepFalls, EachStepFollows, ExactLimits, Narrow, OnePath, OneStream, PathsWithinAreRead, RightlyRefused, Sound, StreamsAreRaw, StreamsAreRead, StreamsWithinAreRead, WithinLimitsAreRead};
+ghost use Rattle.ion_text_in.specs.Laws.{Complete, EachStepFalls, EachStepFollows, ExactLimits, Narrow, OnePath, OneStream, PathsWithinAreRead, RightlyRefused, Sound, StreamsAreRaw, StreamsAreRead, StreamsWithinAreRead, StrictIsReadAlike, WithinLimitsAreRead};
 
-/// What is read is a path of the grammar, and where the reading finishes, the whole input is a
-/// stream.
+/// What is read is a path of the grammar whose items the rules permit, and where the reading
+/// finishes, the whole input is a stream.
 pub fn what_is_read_is_spelled()
     ensures { Sound }
 {}
@@ -24,12 +24,12 @@ pub fn each_step_falls()
 {}
 
 /// Whatever path of the grammar a prefix of an input spells, its items are read first, under
-/// limits that allow them.
+/// rules that allow and permit them.
 pub fn what_is_spelled_is_read()
     ensures { Complete }
 {}
 
-/// A stream is read to its end, under limits that allow it.
+/// A stream is read to its end, under rules that allow and permit it.
 pub fn streams_are_read()
     ensures { StreamsAreRead }
 {}
@@ -52,15 +52,21 @@ pub fn streams_are_raw()
     ensures { StreamsAreRaw }
 {}
 
-/// Narrower limits change nothing in what is read, or cut it short at the token, container or
-/// annotation that passes them.
+/// Narrower rules change nothing in what is read, or cut it short at the token, container or
+/// annotation that passes them, or at the float that they do not read.
 pub fn limits_only_cut_short()
     ensures { Narrow }
 {}
 
-/// Where a reading stops, and not at a limit, the input is no stream of the grammar.
+/// Where a reading stops, and not at a limit, the input is no stream of the grammar that the rules
+/// permit.
 pub fn rightly_refused()
     ensures { RightlyRefused }
+{}
+
+/// What is read to its end where floats are not read is read alike where they are.
+pub fn strict_is_read_alike()
+    ensures { StrictIsReadAlike }
 {}
 
 /// A reading stops at a limit only where the limit is passed: at a token that counts more bytes, at a
@@ -97,6 +103,11 @@ pub fn int_text_is_read()
 /// The text of a decimal is a token that means this decimal.
 pub fn decimal_text_is_read()
     ensures { DecimalTextIsRead }
+{}
+
+/// The text of a float is a token that means this float.
+pub fn float_text_is_read()
+    ensures { FloatTextIsRead }
 {}
 
 /// The text of a timestamp is a token that means this timestamp.

@@ -22,20 +22,20 @@ use base64::engine::general_purpose::STANDARD;
 use ion_meter::buf::Buf;
 use ion_meter::device::Input;
 use ion_meter::fault::{Fault, Reason};
-use ion_meter::limits::Limits;
 use ion_meter::meter::Meter;
+use ion_meter::profile::Rules;
 use ion_meter::source::Source;
 use std::alloc::Allocator;
 
 /// Reads a lob, at whose two opening braces the source stands, and puts its bytes into `text`.
 ///
 /// Faults stand at the first brace: `Truncated` where the input ends before the lob does,
-/// `ScalarLimit` before `text` grows above `Limits::scalar`, and `BadLob` for what may not stand in
+/// `ScalarLimit` before `text` grows above `Rules::scalar`, and `BadLob` for what may not stand in
 /// a lob.
 pub(crate) fn next_lob<I: Input, A: Allocator + Copy>(
     source: &mut Source<I, A>,
     text: &mut Buf<A>,
-    limits: Limits,
+    limits: Rules,
     meter: &mut Meter<A>,
 ) -> Result<Body, Fault>
     requires can_read { CanRead limits limits.scalar source.old text.old meter.old }
@@ -62,7 +62,7 @@ fn next_opened<I: Input, A: Allocator + Copy>(
     source: &mut Source<I, A>,
     text: &mut Buf<A>,
     place: u64,
-    limits: Limits,
+    limits: Rules,
     meter: &mut Meter<A>,
 ) -> Result<Body, Fault>
     requires can_read { CanRead limits limits.scalar source.old text.old meter.old }
@@ -127,7 +127,7 @@ fn next_blob<I: Input, A: Allocator + Copy>(
     source: &mut Source<I, A>,
     text: &mut Buf<A>,
     place: u64,
-    limits: Limits,
+    limits: Rules,
     meter: &mut Meter<A>,
 ) -> Result<(), Fault>
     requires can_read { CanRead limits limits.scalar source.old text.old meter.old }
@@ -154,7 +154,7 @@ fn take_blocks<I: Input, A: Allocator + Copy>(
     source: &mut Source<I, A>,
     text: &mut Buf<A>,
     padded: bool,
-    limits: Limits,
+    limits: Rules,
     meter: &mut Meter<A>,
 ) -> Result<bool, Fault>
     requires can_gather { CanGather limits source.old text.old meter.old }
@@ -190,7 +190,7 @@ fn take_block<I: Input, A: Allocator + Copy>(
     source: &mut Source<I, A>,
     text: &mut Buf<A>,
     count: usize,
-    limits: Limits,
+    limits: Rules,
     meter: &mut Meter<A>,
 ) -> Result<Option<bool>, Fault>
     requires can_gather { CanGather limits source.old text.old meter.old }
@@ -212,7 +212,7 @@ fn take_groups<I: Input, A: Allocator + Copy>(
     text: &mut Buf<A>,
     count: usize,
     room: &mut [u8],
-    limits: Limits,
+    limits: Rules,
     meter: &mut Meter<A>,
 ) -> Result<Option<bool>, Fault>
     requires can_gather { CanGather limits source.old text.old meter.old }
@@ -241,7 +241,7 @@ fn take_group<I: Input, A: Allocator + Copy>(
     text: &mut Buf<A>,
     padded: bool,
     place: u64,
-    limits: Limits,
+    limits: Rules,
     meter: &mut Meter<A>,
 ) -> Result<Option<bool>, Fault>
     requires can_gather { CanGather limits source.old text.old meter.old }

@@ -1,15 +1,17 @@
 //! The reader of texts.
-ghost use Rattle.std.specs.Prelude.{◌≡◌, ◌≢◌, ◌+◌, ◌*◌, ◌<◌, ◌≤◌, [], length, OnOk, Option, None, Ok, true};
+ghost use Rattle.std.specs.Prelude.{◌≡◌, ◌≢◌, ◌+◌, ◌*◌, ◌<◌, ◌≤◌, [], length, option_map, IfSome, OnOk, Option, None, Ok, true};
 ghost use Rattle.ion_meter.specs.Counts.{Counts, Shrinks};
 ghost use Rattle.ion_meter.specs.Limits.{AreChecked};
+ghost use Rattle.ion_meter.specs.Rules.{rules, strictly};
 ghost use Rattle.ion_meter.specs.Sources.{BytesAreLeft, cursor, skip, Exceeds, Stands};
 ghost use Rattle.ion_meter.specs.Windows.{left, lent};
+ghost use Rattle.ion_value.specs.Float.{IsFloat, value_of};
 ghost use Rattle.ion_value.specs.Items.{raw_head};
 ghost use Rattle.ion_value.specs.Reading.{Finished};
 ghost use Rattle.ion_text_in.specs.Firsts.{first_of, width};
 ghost use Rattle.ion_text_in.specs.Positions.{innermost, in_sexp};
 ghost use Rattle.ion_text_in.specs.Reading as reading;
-ghost use Rattle.ion_text_in.specs.Reading.{reading, reading_from};
+ghost use Rattle.ion_text_in.specs.Strict.{reading, reading_from};
 ghost use Rattle.ion_text_in.specs.Token as tokens;
 ghost use Rattle.ion_text_in.specs.Token.{name};
 ghost use Rattle.ion_text_in.specs.Tokens.{as_symbol, overrun_of, token_view, TokenInRange};
@@ -31,9 +33,11 @@ use ion_meter::device::{Input, Output};
 use ion_meter::fault::{Fault, Reason};
 use ion_meter::limits::Limits;
 use ion_meter::meter::Meter;
+use ion_meter::profile::{Profile, Rules};
 use ion_meter::sink::Sink;
 use ion_meter::source::Source;
 use ion_meter::stack::Stack;
+use ion_value::float::Float64;
 use ion_value::ion_type::Kind;
 use ion_value::item::{Annotation, Annotations, Head, Item};
 use ion_value::name::{is_version, is_version_word};
@@ -87,25 +91,48 @@ pub struct TextReader<I: Input, A: Allocator + Copy> {
     top: u64,
     // Where a comment after the item that is lent begins that does not end.
     unfinished: Option<u64>,
-    limits: Limits,
+    limits: Rules,
     done: bool,
     failed: Option<Fault>,
 }
 
 impl<I: Input, A: Allocator + Copy> TextReader<I, A> {
-    /// A reader of the text that this source gives from its present place on.
-    #[tactic(auto, unfolding(crate::specs::Reading::reading))]
+    /// A reader of the text that this source gives from its present place on, which reads no floats
+    /// other than `null.float`.
     pub fn new(meter: &Meter<A>, limits: Limits, source: Source<I, A>) -> TextReader<I, A>
         requires checked { AreChecked limits }
         requires stands { Stands source }
         ensures sound { IsSound result }
-        ensures source { (source_of result ≡ source) × (limits_of result ≡ limits) }
+        ensures source { (source_of result ≡ source) × (limits_of result ≡ strictly limits) }
         ensures holds { held_by result ≡ 4096 }
         ensures fresh { IsGoing result }
         ensures from { to_come_by I.Input result
             ≡ reading_from limits (cursor I.Input source) }
         ensures reading { source.place ≡ 0
             → to_come_by I.Input result ≡ reading limits (left I.rest source) }
+    {
+        TextReader::with_profile(meter, limits, Profile::strict(), source)
+    }
+
+    /// A reader of the text that this source gives from its present place on, which reads the values
+    /// of this profile.
+    #[tactic(auto, unfolding(crate::specs::Reading::reading))]
+    pub fn with_profile(
+        meter: &Meter<A>,
+        limits: Limits,
+        profile: Profile,
+        source: Source<I, A>,
+    ) -> TextReader<I, A>
+        requires checked { AreChecked limits }
+        requires stands { Stands source }
+        ensures sound { IsSound result }
+        ensures source { (source_of result ≡ source) × (limits_of result ≡ rules limits profile) }
+        ensures holds { held_by result ≡ 4096 }
+        ensures fresh { IsGoing result }
+        ensures from { to_come_by I.Input result
+            ≡ reading.reading_from (rules limits profile) (cursor I.Input source) }
+        ensures reading { source.place ≡ 0 → to_come_by I.Input result
+            ≡ reading.reading (rules limits profile) (left I.rest source) }
     {
         TextReader {
             source,
@@ -120,7 +147,7 @@ impl<I: Input, A: Allocator + Copy> TextReader<I, A> {
             place: 0,
             top: 0,
             unfinished: None,
-            limits,
+            limits: Rules::new(limits, profile),
             done: false,
             failed: None,
         }
@@ -389,8 +416,25 @@ impl<I: Input, A: Allocator + Copy> TextReader<I, A> {
                 self.symbol(symbol, quoted, place, meter)
             }
             (Expected::Value, Token::Begin(kind)) => self.open(kind, place, meter),
-            (Expected::Value, Token::NoNumber) => Err(Fault::Refused(Reason::Float, place)),
+            (Expected::Value, Token::Float(number)) => self.float(number, place),
             _ => Err(Fault::Refused(Reason::BadToken, place)),
+        }
+    }
+
+    // Takes a float where a value may stand, where floats are read and its digits are not past the
+    // greatest.
+    fn float(&mut self, number: Option<Float64>, place: u64) -> Result<StepResult, Fault>
+        requires range { IfSome number (λ f. IsFloat (value_of f)) }
+        ensures { (m : Counts) → CanStep self.old m → self.old.expected ≡ Expected.Value
+            → StepsTo I.Input None (taking self.old place (tokens.float (option_map value_of number))) 0
+            self.old self.new m m result }
+    {
+        if !self.limits.floats {
+            return Err(Fault::Refused(Reason::Float, place));
+        }
+        match number {
+            Some(number) => Ok(self.give(ItemKind::Scalar(Body::Float(number)), place, None)),
+            None => Err(Fault::Refused(Reason::Range, place)),
         }
     }
 
@@ -446,6 +490,7 @@ impl<I: Input, A: Allocator + Copy> TextReader<I, A> {
                 Body::Null(ion_type) => Head::Null(ion_type),
                 Body::Bool(truth) => Head::Bool(truth),
                 Body::Int(int) => Head::Int(int),
+                Body::Float(float) => Head::Float(float),
                 Body::Decimal(decimal) => Head::Decimal(decimal),
                 Body::Timestamp(timestamp) => Head::Timestamp(timestamp),
                 Body::Symbol(symbol) => {

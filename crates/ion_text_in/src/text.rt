@@ -20,8 +20,8 @@ use crate::scanned::Scanned;
 use ion_meter::buf::Buf;
 use ion_meter::device::Input;
 use ion_meter::fault::{Fault, Reason};
-use ion_meter::limits::Limits;
 use ion_meter::meter::Meter;
+use ion_meter::profile::Rules;
 use ion_meter::source::Source;
 use std::alloc::Allocator;
 
@@ -34,7 +34,7 @@ pub(crate) fn next_short_text<I: Input, A: Allocator + Copy>(
     text: &mut Buf<A>,
     quote: Quote,
     place: u64,
-    limits: Limits,
+    limits: Rules,
     meter: &mut Meter<A>,
 ) -> Result<(), Fault>
     requires can_read { CanRead limits limits.scalar source.old text.old meter.old }
@@ -69,7 +69,7 @@ pub(crate) fn next_long_text<I: Input, A: Allocator + Copy>(
     text: &mut Buf<A>,
     quote: Quote,
     place: u64,
-    limits: Limits,
+    limits: Rules,
     meter: &mut Meter<A>,
 ) -> Result<Option<u64>, Fault>
     requires can_read { CanRead limits limits.scalar source.old text.old meter.old }
@@ -140,7 +140,7 @@ pub(crate) fn pass_quotes<I: Input, A: Allocator + Copy>(
 /// that it spells after those that stand in `text`.
 ///
 /// Answers faults at `place`: `Truncated` where the input ends before the segment does,
-/// `ScalarLimit` before `text` grows above `Limits::scalar`, `BadText`, or `BadLob` in a clob, for
+/// `ScalarLimit` before `text` grows above `Rules::scalar`, `BadText`, or `BadLob` in a clob, for
 /// what may not stand in a text, and `BadText` for a segment that is no UTF-8, but in a clob.
 #[inline(never)]
 pub(crate) fn next_segment<I: Input, A: Allocator + Copy>(
@@ -148,7 +148,7 @@ pub(crate) fn next_segment<I: Input, A: Allocator + Copy>(
     text: &mut Buf<A>,
     quote: Quote,
     place: u64,
-    limits: Limits,
+    limits: Rules,
     meter: &mut Meter<A>,
 ) -> Result<(), Fault>
     requires can_gather { CanGather limits source.old text.old meter.old }
@@ -173,7 +173,7 @@ fn gather_pieces<I: Input, A: Allocator + Copy>(
     text: &mut Buf<A>,
     quote: Quote,
     place: u64,
-    limits: Limits,
+    limits: Rules,
     meter: &mut Meter<A>,
 ) -> Result<(), Fault>
     requires can_gather { CanGather limits source.old text.old meter.old }
@@ -206,7 +206,7 @@ fn take_plain<I: Input, A: Allocator + Copy>(
     text: &mut Buf<A>,
     quote: Quote,
     place: u64,
-    limits: Limits,
+    limits: Rules,
     meter: &mut Meter<A>,
 ) -> Result<(), Fault>
     requires can_gather { CanGather limits source.old text.old meter.old }
@@ -229,7 +229,7 @@ pub(crate) fn put<A: Allocator + Copy>(
     text: &mut Buf<A>,
     bytes: &[u8],
     place: u64,
-    limits: Limits,
+    limits: Rules,
     meter: &mut Meter<A>,
 ) -> Result<(), Fault>
     requires can_grow { CanGrow limits text.old meter.old }
@@ -247,7 +247,7 @@ fn put_meant<A: Allocator + Copy>(
     text: &mut Buf<A>,
     meant: Meant,
     place: u64,
-    limits: Limits,
+    limits: Rules,
     meter: &mut Meter<A>,
 ) -> Result<(), Fault>
     requires can_grow { CanGrow limits text.old meter.old }

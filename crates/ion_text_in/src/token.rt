@@ -11,22 +11,23 @@ ghost use Rattle.ion_text_in.specs.Positions.{at};
 ghost use Rattle.ion_text_in.specs.Symbols.{as_field, prepaid, prepaid_word, GrowsBy, IsKept};
 ghost use Rattle.ion_text_in.specs.Firsts.{first_of, width};
 ghost use Rattle.ion_text_in.specs.Token.{token_of};
-ghost use Rattle.ion_text_in.specs.Tokens.{as_symbol, overrun_of, token_view, ReadsToken, TokenGives, TokenInRange};
-ghost use Rattle.ion_text_in.specs.Views.{as_number, number_token, word_token_of};
+ghost use Rattle.ion_text_in.specs.Tokens.{as_scalar, as_symbol, overrun_of, token_view, BodyInRange, ReadsToken, TokenGives, TokenInRange};
+ghost use Rattle.ion_text_in.specs.Views.{NumeralInRange, as_number, numeral_token, word_token_of};
 
 use crate::first::First;
 use crate::lob::next_lob;
-use crate::number::{Number, next_infinity, next_number, next_operator};
+use crate::number::{Number, Numeral, next_infinity, next_number, next_operator};
 use crate::quoted::Quote;
 use crate::text::{next_long_text, next_short_text};
 use crate::word::{Word, next_word};
 use ion_meter::buf::Buf;
 use ion_meter::device::Input;
 use ion_meter::fault::{Fault, Reason};
-use ion_meter::limits::Limits;
 use ion_meter::meter::Meter;
+use ion_meter::profile::Rules;
 use ion_meter::source::Source;
 use ion_value::decimal::Decimal;
+use ion_value::float::Float64;
 use ion_value::int::Int;
 use ion_value::ion_type::{IonType, Kind};
 use ion_value::item::{Annotation, Sym, SymAt};
@@ -54,6 +55,7 @@ pub(crate) enum Body {
     Null(IonType),
     Bool(bool),
     Int(Int),
+    Float(Float64),
     Decimal(Decimal),
     /// A timestamp in local time.
     Timestamp(Timestamp),
@@ -74,8 +76,8 @@ pub(crate) enum Token {
     /// begins among them that does not end.
     String(Option<u64>),
     Operator,
-    /// `nan`, `+inf` or `-inf`.
-    NoNumber,
+    /// A float, or none where its digits are past the greatest.
+    Float(Option<Float64>),
     Begin(Kind),
     End(Kind),
     /// `,`
@@ -94,7 +96,7 @@ pub(crate) fn next_token<I: Input, A: Allocator + Copy>(
     source: &mut Source<I, A>,
     text: &mut Buf<A>,
     first: First,
-    limits: Limits,
+    limits: Rules,
     meter: &mut Meter<A>,
 ) -> Result<Token, Fault>
     requires can_read { CanRead limits limits.scalar source.old text.old meter.old }
@@ -112,7 +114,7 @@ pub(crate) fn next_token<I: Input, A: Allocator + Copy>(
     let place = source.place();
     match first {
         First::Word => Ok(word_token(next_word(source, text, limits, meter)?)),
-        First::Number => Ok(number_token(next_number(source, text, limits, meter)?)),
+        First::Number => Ok(numeral_token(next_number(source, text, limits, meter)?)),
         First::Lob => Ok(Token::Plain(next_lob(source, text, limits, meter)?)),
         First::LongString => {
             source.consume(3);
@@ -133,8 +135,8 @@ pub(crate) fn next_token<I: Input, A: Allocator + Copy>(
             Ok(Token::Operator)
         }
         First::Infinity => {
-            next_infinity(source, limits)?;
-            Ok(Token::NoNumber)
+            let infinity = next_infinity(source, limits)?;
+            Ok(Token::Float(Some(infinity)))
         }
         First::Begin(kind) => Ok(pass(source, 1, Token::Begin(kind))),
         First::End(kind) => Ok(pass(source, 1, Token::End(kind))),
@@ -175,21 +177,33 @@ fn word_token(word: Word) -> Token
         Word::Id(id) => Token::Symbol(Symbol::Id(id), false),
         Word::Null(ion_type) => Token::Plain(Body::Null(ion_type)),
         Word::Bool(truth) => Token::Plain(Body::Bool(truth)),
-        Word::NoNumber => Token::NoNumber,
+        Word::Nan => Token::Float(Some(Float64::nan())),
     }
 }
 
 #[inline(always)]
-fn number_token(number: Number) -> Token
-    ensures is { (text : List ℕ) (place : ℕ) → token_view text place result ≡ number_token number }
-    ensures range { InRange (as_number number) → TokenInRange result }
+fn numeral_token(numeral: Numeral) -> Token
+    ensures is { (text : List ℕ) (place : ℕ)
+        → token_view text place result ≡ numeral_token numeral }
+    ensures range { NumeralInRange numeral → TokenInRange result }
     ensures alone { overrun_of result ≡ None }
     ensures paid { (text : List ℕ) → prepaid text result ≡ 0 }
 {
+    match numeral {
+        Numeral::Number(number) => Token::Plain(number_body(number)),
+        Numeral::Float(float) => Token::Float(float),
+    }
+}
+
+#[inline(always)]
+fn number_body(number: Number) -> Body
+    ensures is { (text : List ℕ) (place : ℕ) → as_scalar text place result ≡ as_number number }
+    ensures range { InRange (as_number number) → BodyInRange result }
+{
     match number {
-        Number::Int(int) => Token::Plain(Body::Int(int)),
-        Number::Decimal(decimal) => Token::Plain(Body::Decimal(decimal)),
-        Number::Timestamp(timestamp) => Token::Plain(Body::Timestamp(timestamp)),
+        Number::Int(int) => Body::Int(int),
+        Number::Decimal(decimal) => Body::Decimal(decimal),
+        Number::Timestamp(timestamp) => Body::Timestamp(timestamp),
     }
 }
 

@@ -19,8 +19,8 @@ use crate::scanned::Scanned;
 use ion_meter::buf::Buf;
 use ion_meter::device::Input;
 use ion_meter::fault::{Fault, Reason};
-use ion_meter::limits::Limits;
 use ion_meter::meter::Meter;
+use ion_meter::profile::Rules;
 use ion_meter::source::Source;
 use ion_value::ion_type::IonType;
 use ion_value::name::{is_false, is_identifier_byte, is_nan, is_null, is_true};
@@ -34,7 +34,7 @@ pub(crate) enum Word {
     /// A truth value.
     Bool(bool),
     /// `nan`.
-    NoNumber,
+    Nan,
     /// A symbol's id, where 2^31 stands for every id above 2^31 - 1.
     Id(u32),
     /// A symbol by its text.
@@ -157,7 +157,7 @@ fn typed_null(limit: u64, bytes: &[u8]) -> Scanned<Word>
 pub(crate) fn next_word<I: Input, A: Allocator + Copy>(
     source: &mut Source<I, A>,
     text: &mut Buf<A>,
-    limits: Limits,
+    limits: Rules,
     meter: &mut Meter<A>,
 ) -> Result<Word, Fault>
     requires can_read { CanRead limits limits.scalar source.old text.old meter.old }
@@ -194,7 +194,7 @@ pub(crate) fn next_word<I: Input, A: Allocator + Copy>(
 fn gather_word<I: Input, A: Allocator + Copy>(
     source: &mut Source<I, A>,
     text: &mut Buf<A>,
-    limits: Limits,
+    limits: Rules,
     meter: &mut Meter<A>,
 ) -> Result<Word, Fault>
     requires can_read { CanRead limits limits.scalar source.old text.old meter.old }
@@ -221,7 +221,7 @@ fn gather_word<I: Input, A: Allocator + Copy>(
 fn gather_typed<I: Input, A: Allocator + Copy>(
     source: &mut Source<I, A>,
     text: &mut Buf<A>,
-    limits: Limits,
+    limits: Rules,
     meter: &mut Meter<A>,
 ) -> Result<(), Fault>
     requires can_read { CanRead limits limits.scalar source.old text.old meter.old }
@@ -247,7 +247,7 @@ fn gather_typed<I: Input, A: Allocator + Copy>(
 fn gather_type<I: Input, A: Allocator + Copy>(
     source: &mut Source<I, A>,
     text: &mut Buf<A>,
-    limits: Limits,
+    limits: Rules,
     place: u64,
     meter: &mut Meter<A>,
 ) -> Result<(), Fault>
@@ -358,7 +358,7 @@ fn keyword_or_name(word: &[u8]) -> Result<Word, Reason>
         return Ok(Word::Bool(false));
     }
     if is_nan(word) {
-        return Ok(Word::NoNumber);
+        return Ok(Word::Nan);
     }
     Ok(Word::Name)
 }

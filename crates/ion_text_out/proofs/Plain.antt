@@ -120,6 +120,7 @@ scalar_put cs name note head body text is spelled = rw (is, spelled) refl
 -- a head that comes with a text is a scalar, of which that text is put
 pub spelled_body : (text : List ℕ) (head : v.Head SymbolAt) → IsTextOf text head → (body : v.Scalar SymbolAt) × (head ≡ v.whole body) × (text ≡ scalar_text (map_scalar user_symbol_at body))
 spelled_body text (v.whole (v.int number)) is = (v.int number, refl, is)
+spelled_body text (v.whole (v.float number)) is = absurd is
 spelled_body text (v.whole (v.decimal number)) is = (v.decimal number, refl, is)
 spelled_body text (v.whole (v.timestamp moment)) is = (v.timestamp moment, refl, is)
 spelled_body text (v.whole (v.null type)) is = absurd is
@@ -143,6 +144,7 @@ quoted_body text (v.whole (v.symbol s)) is = let own = quoted_own text s.symbol 
 quoted_body text (v.whole (v.null type)) is = absurd is
 quoted_body text (v.whole (v.bool truth)) is = absurd is
 quoted_body text (v.whole (v.int number)) is = absurd is
+quoted_body text (v.whole (v.float number)) is = absurd is
 quoted_body text (v.whole (v.decimal number)) is = absurd is
 quoted_body text (v.whole (v.timestamp moment)) is = absurd is
 quoted_body text (v.whole (v.string bytes)) is = absurd is

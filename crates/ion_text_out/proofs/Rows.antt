@@ -1,8 +1,10 @@
 -- Worked rows of text, by computing.
-use Rattle.std.specs.Prelude.{◌≡◌, refl, ℕ, pos, List, [], ◌∷◌, true, false, Option, Some, None, codes}
+use Rattle.std.specs.Prelude.{◌≡◌, refl, ℕ, pos, List, [], ◌∷◌, true, false, Option, Some, None, codes, from_bits}
 use Rattle.std.specs.Fmt.{digits}
+use lib.Ieee.{binary64, round, to_bits, of_bits}
 use Rattle.base64.specs.Rfc4648.{encode_symbols}
 use Rattle.ion_value.specs.Digits.{cut_at}
+use Rattle.ion_value.specs.Shortest.{reads_as, search, shortest}
 use Rattle.ion_value.specs.declared.ion_type.IonType.TheVariants as type
 use Rattle.ion_value.specs.declared.ion_type.Kind.TheVariants as kind
 use Rattle.ion_value.specs.Value as v
@@ -116,6 +118,14 @@ empty_blob = refl
 decimal : shown (scalar (v.decimal (record { negative = true; coefficient = 0; exponent = pos 0 }))) ≡ codes "-0.\n"
 unfolding digits
 decimal = refl
+
+float : shown (scalar (v.float (from_bits binary64 0xC004000000000000))) ≡ codes "-2.5e0\n"
+unfolding shortest search reads_as round to_bits of_bits digits
+float = refl
+
+no_number : shown (scalar (v.float (from_bits binary64 0x7FF8000000000000))) ≡ codes "nan\n"
+unfolding of_bits
+no_number = refl
 
 -- a path whose containers are open: `[1,{`, and nothing after it
 abbrev begun : List (Item UserSymbol ℕ)

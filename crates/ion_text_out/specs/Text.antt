@@ -8,6 +8,7 @@ use Rattle.ion_value.specs.declared.ion_type.Kind.TheVariants.{List as list, Sex
 use Rattle.ion_value.specs.Name.{bool_text, is_plain, null_text}
 use Rattle.ion_value.specs.Int.{int_text}
 use Rattle.ion_value.specs.Decimal.{decimal_text}
+use Rattle.ion_value.specs.FloatText.{float_text}
 use Rattle.ion_value.specs.Timestamp.{timestamp_text}
 use Rattle.ion_value.specs.Value as v
 use Rattle.ion_value.specs.Value.{UserSymbol, Known, Unknown, Scalar, Value, Members, scalar, container, nothing, member, Top, tree, Head, Item}
@@ -24,6 +25,7 @@ abbrev pub scalar_text : Scalar UserSymbol → List ℕ
 scalar_text (v.null type) = null_text type
 scalar_text (v.bool truth) = bool_text truth
 scalar_text (v.int number) = int_text number
+scalar_text (v.float number) = float_text number
 scalar_text (v.decimal number) = decimal_text number
 scalar_text (v.timestamp moment) = timestamp_text moment
 scalar_text (v.symbol s) = symbol_text s

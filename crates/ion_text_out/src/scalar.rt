@@ -16,6 +16,7 @@ use crate::between::opener;
 use crate::blob::put_base64;
 use crate::put::{put, put_mark};
 use crate::quote::put_quoted;
+use ion_float::text::float_to_text;
 use ion_meter::device::Output;
 use ion_meter::fault::Fault;
 use ion_meter::sink::Sink;
@@ -125,6 +126,7 @@ pub fn put_body<O: Output, A: Allocator + Copy>(
         Head::Null(of) => put(sink, null(of)),
         Head::Bool(truth) => put(sink, bool_text(truth)),
         Head::Int(int) => put(sink, int_to_text(int).as_str().as_bytes()),
+        Head::Float(float) => put(sink, float_to_text(float).as_str().as_bytes()),
         Head::Decimal(decimal) => put(sink, decimal_to_text(decimal).as_str().as_bytes()),
         Head::Timestamp(moment) => put(sink, timestamp_to_text(moment).as_str().as_bytes()),
         Head::Symbol(at) => put_symbol(sink, at.sym),

@@ -6,6 +6,8 @@ ghost use Rattle.ion_meter.specs.Limits.{AreChecked};
 ghost use Rattle.ion_meter.specs.Counts.{Shrinks};
 ghost use Rattle.ion_value.specs.Value.{Known, map_head};
 ghost use Rattle.ion_value.specs.Decimal.{IsDecimal, decimal_text};
+ghost use Rattle.ion_value.specs.Float.{value_of};
+ghost use Rattle.ion_value.specs.FloatText.{float_text};
 ghost use Rattle.ion_value.specs.Timestamp.{IsTimestamp, timestamp_text};
 ghost use Rattle.ion_value.specs.Int.{int_text};
 ghost use Rattle.ion_value.specs.Items.{raw_head, item_of, symbol_of};
@@ -27,6 +29,7 @@ use crate::item::put_item;
 use crate::quote::{stands_in_string, stands_in_symbol};
 use crate::scalar::{bool_text, null};
 use arrayvec::ArrayVec;
+use ion_float::text::float_to_text;
 use ion_meter::device::Output;
 use ion_meter::fault::Fault;
 use ion_meter::limits::Limits;
@@ -34,6 +37,7 @@ use ion_meter::meter::Meter;
 use ion_meter::sink::Sink;
 use ion_meter::stack::Stack;
 use ion_value::decimal::{Decimal, decimal_to_text};
+use ion_value::float::Float64;
 use ion_value::int::Int;
 use ion_value::ion_type::Kind;
 use ion_value::item::{Head, Item, Sym};
@@ -303,6 +307,22 @@ impl<A: Allocator + Copy> TextWriter<A> {
         self.take_marked(sink, name, note, minus(negative), digits, b"")
     }
 
+    // A float.
+    #[inline(never)]
+    fn take_float<O: Output>(
+        &mut self,
+        sink: &mut Sink<O, A>,
+        name: &[u8],
+        note: &[u8],
+        float: Float64,
+    ) -> bool
+        ensures { TakesScalar self.old self.new sink.old sink.new result
+            name.now note.now (float_text (value_of float)) }
+    {
+        let text = float_to_text(float);
+        self.take_text(sink, name, note, text.as_str().as_bytes())
+    }
+
     // A decimal. It is in line, since what is handed to a call of its own would go by memory, which all ways
     // of `take_head` would clear.
     #[inline(always)]
@@ -432,6 +452,7 @@ impl<A: Allocator + Copy> TextWriter<A> {
             Head::Null(of) => self.take_text(sink, name, note, null(of)),
             Head::Bool(truth) => self.take_text(sink, name, note, bool_text(truth)),
             Head::Int(int) => self.take_int(sink, name, note, int),
+            Head::Float(float) => self.take_float(sink, name, note, float),
             Head::Decimal(decimal) => self.take_decimal(sink, name, note, decimal),
             Head::Timestamp(moment) => self.take_timestamp(sink, name, note, moment),
             Head::Symbol(at) => self.take_symbol(sink, name, note, at.sym),

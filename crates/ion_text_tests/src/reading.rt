@@ -3,6 +3,7 @@ ghost use Rattle.std.specs.Prelude.{◌≡◌, ◌≤◌, Ok, true};
 
 mod blanks;
 mod drawn;
+mod floats;
 mod items;
 mod laws;
 mod lobs;
@@ -16,6 +17,7 @@ mod tokens;
 use ion_meter::fault::Fault;
 use ion_meter::limits::Limits;
 use ion_meter::meter::Meter;
+use ion_meter::profile::Profile;
 use ion_meter::source::Source;
 use ion_meter::stream::FromRead;
 use ion_text_in::reader::TextReader;
@@ -95,6 +97,7 @@ fn start<'a, A: Allocator + Copy>(
     rt: &impl Abort,
     alloc: A,
     limits: Limits,
+    profile: Profile,
     input: Pieces<'a>,
 ) -> Running<PieceReader<'a, A>, A>
     ensures sound { ⟦<PieceReader<'a, A> as RawReader<A>>⟧.sound result.reader }
@@ -106,7 +109,7 @@ fn start<'a, A: Allocator + Copy>(
     let Ok(source) = Source::new(&mut meter, limits, FromRead::new(input)) else {
         panic!(rt; "no memory for the window")
     };
-    let reader = TextReader::new(&meter, limits, source);
+    let reader = TextReader::with_profile(&meter, limits, profile, source);
     Running { reader, meter }
 }
 
@@ -125,10 +128,11 @@ fn read_by<A: Allocator + Copy>(
     rt: &impl Abort,
     alloc: A,
     limits: Limits,
+    profile: Profile,
     input: Pieces<'_>,
     words_in: Global,
 ) -> Result<Told, Fail> {
-    let mut running = start(rt, alloc, limits, input);
+    let mut running = start(rt, alloc, limits, profile, input);
     let words = running.read(rt, words_in);
     let Running { reader, mut meter } = running;
     let most = 16u64.saturating_mul(u64::from(limits.depth));
@@ -149,26 +153,41 @@ fn expect_pieces(
     rt: &impl Abort,
     alloc: Global,
     limits: Limits,
+    profile: Profile,
     input: Pieces<'_>,
     words: &str,
 ) -> Result<u64, Fail> {
-    let told = read_by(rt, alloc, limits, input, alloc)?;
+    let told = read_by(rt, alloc, limits, profile, input, alloc)?;
     assert_eq!(rt; told.words.as_str(), words);
     assert!(rt; told.refused == 0);
     Ok(told.held)
 }
 
 /// Reads each text whole, a byte at a time, and cut at each place.
-fn expect_rows(rt: &impl Abort, alloc: Global, rows: &[Row]) -> Result<(), Fail> {
+fn expect_rows(rt: &impl Abort, alloc: Global, profile: Profile, rows: &[Row]) -> Result<(), Fail> {
     for (scalar, text, words) in rows {
         let limits = Limits {
             scalar: *scalar,
             ..LIMITS
         };
-        expect_pieces(rt, alloc, limits, Pieces::new(text, 1, 1), words)?;
-        expect_pieces(rt, alloc, limits, Pieces::new(text, WHOLE, WHOLE), words)?;
+        expect_pieces(rt, alloc, limits, profile, Pieces::new(text, 1, 1), words)?;
+        expect_pieces(
+            rt,
+            alloc,
+            limits,
+            profile,
+            Pieces::new(text, WHOLE, WHOLE),
+            words,
+        )?;
         for place in 1..text.len() {
-            expect_pieces(rt, alloc, limits, Pieces::new(text, place, WHOLE), words)?;
+            expect_pieces(
+                rt,
+                alloc,
+                limits,
+                profile,
+                Pieces::new(text, place, WHOLE),
+                words,
+            )?;
         }
     }
     Ok(())
@@ -194,7 +213,12 @@ fn reads_rows(rt: HostRuntime) -> Result<(), Fail> {
         items::ITEMS,
         items::FAULTS,
     ] {
-        expect_rows(&rt, rt.alloc(), rows)?;
+        expect_rows(&rt, rt.alloc(), Profile::strict(), rows)?;
     }
     Ok(())
+}
+
+#[test]
+fn reads_floats(rt: HostRuntime) -> Result<(), Fail> {
+    expect_rows(&rt, rt.alloc(), Profile::floats(), floats::FLOATS)
 }

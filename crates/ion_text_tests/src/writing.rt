@@ -9,6 +9,7 @@ mod devices;
 mod laws;
 mod scalars;
 
+use ion_float::octets::float_from_octets;
 use ion_meter::device::Output;
 use ion_meter::fault::Fault;
 use ion_meter::limits::Limits;
@@ -38,12 +39,14 @@ const LIMITS: Limits = Limits {
 /// The texts that the annotations of a test are ranges of.
 const TEXTS: &[u8] = b"ab c";
 
-/// A head, of which a number or a timestamp is given as a text that spells it.
+/// A head, of which an int, a decimal or a timestamp is given as a text that spells it, and a float by
+/// octets.
 #[derive(Clone, Copy)]
 enum Part<'a> {
     Null(IonType),
     Bool(bool),
     Int(&'a [u8]),
+    Float(&'a [u8]),
     Decimal(&'a [u8]),
     Timestamp(&'a [u8]),
     Symbol(&'a [u8]),
@@ -66,6 +69,7 @@ fn head_of<'a>(part: Part<'a>) -> Option<Head<'a>>
         Part::Null(of) => Head::Null(of),
         Part::Bool(truth) => Head::Bool(truth),
         Part::Int(text) => Head::Int(int_from_text(text).ok()?),
+        Part::Float(octets) => Head::Float(float_from_octets(octets)?),
         Part::Decimal(text) => Head::Decimal(decimal_from_text(text).ok()?),
         Part::Timestamp(text) => Head::Timestamp(timestamp_from_text(text).ok()?),
         Part::Symbol(text) => Head::Symbol(symbol(text)),

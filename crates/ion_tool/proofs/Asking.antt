@@ -7,7 +7,7 @@ use Rattle.clap.specs.declared.error.Error.{Error}
 use Rattle.clap.specs.declared.error.kind.ErrorKind.{ErrorKind}
 use Rattle.clap.specs.declared.error.kind.ErrorKind.TheVariants.{DisplayHelp, DisplayVersion, OutOfMemory}
 use Rattle.ion_meter.specs.declared.limits.Limits.{Limits}
-use Rattle.ion_tool.specs.declared.words.Action.{Action}
+use Rattle.ion_tool.specs.declared.words.Task.{Task}
 use Rattle.ion_tool.specs.declared.words.Request.{Request}
 use Rattle.ion_tool.specs.declared.words.Request.TheVariants.{Run, Help, Usage}
 use Rattle.ion_tool.specs.Words.{ion_app, AnswersError, Asks, AsksRun, IsRun}
@@ -22,10 +22,10 @@ some_kind [] k is none = is
 some_kind (x ∷ xs) k is none = cc none
 
 -- words at which a fault is found ask for no run
-no_run : (words : List Text) → words ≢ [] → fault_of ion_app words ≢ [] → (action : Action) (limits : Limits) (catalog file : Option Text)
-    → IsRun words action limits catalog file → ⊥
-no_run words some fault action limits catalog file (inl none) = some none.0
-no_run words some fault action limits catalog file (inr names) = fault names.faultless
+no_run : (words : List Text) → words ≢ [] → fault_of ion_app words ≢ [] → (task : Task) (limits : Limits) (catalog file : Option Text)
+    → IsRun words task limits catalog file → ⊥
+no_run words some fault task limits catalog file (inl none) = some none.0
+no_run words some fault task limits catalog file (inr names) = fault names.faultless
 
 help_kind : (k : ErrorKind) → (k ≡ DisplayHelp) ⊎ (k ≡ DisplayVersion) → k ≢ OutOfMemory
 help_kind k (inl help) memory = cc (sym help ∙ memory)

@@ -1,20 +1,24 @@
 -- The words after the program's name, as `clap` reads them.
-use Rattle.std.specs.Prelude.{◌≡◌, ◌≢◌, ◌⊎◌, ℕ, List, [], Option, Some, None, true, false, codes, string_bytes, if◌then◌else◌}
+use Rattle.std.specs.Prelude.{◌≡◌, ◌≢◌, ◌⊎◌, ℕ, List, [], Option, Some, None, Bool, true, false, codes, string_bytes, if◌then◌else◌}
 use Rattle.std.specs.Prelude.{option_map, option_and_then, bytes_eq}
 use Rattle.std.specs.Option.{option_map_or}
 use Rattle.std.specs.Str.Parse.{digits_value, without_leading_plus}
 use Rattle.clap.specs.ValueTests.{accepts}
 use Rattle.clap.specs.Words.{App, Row, Rule, Text, new_app, new_rule, with_rule, with_subcommand}
 use Rattle.clap.specs.Words.{subcommand_of, fault_of, first_of, one_of, IsAmong}
+use Rattle.clap.specs.declared.builder.action.ArgAction.TheVariants.{SetTrue}
 use Rattle.clap.specs.declared.builder.value_parser.ValueParser.TheVariants.{Unsigned}
 use Rattle.clap.specs.declared.error.kind.ErrorKind.{ErrorKind}
 use Rattle.clap.specs.declared.error.kind.ErrorKind.TheVariants.{DisplayHelp, DisplayVersion, OutOfMemory}
 use Rattle.ion_meter.specs.Limits.{AreChecked, default_limits}
 use Rattle.ion_meter.specs.declared.limits.Limits.{Limits}
+use Rattle.ion_meter.specs.declared.profile.Profile.{Profile}
+use Rattle.ion_meter.specs.Rules.{strict}
 use Rattle.ion_transcode.specs.declared.to.Form.{Form}
 use Rattle.ion_transcode.specs.declared.to.Form.TheVariants as form
 use Rattle.ion_tool.specs.declared.words.Action.{Action}
 use Rattle.ion_tool.specs.declared.words.Action.TheVariants.{Show, Check, Convert}
+use Rattle.ion_tool.specs.declared.words.Task.{Task}
 use Rattle.ion_tool.specs.declared.words.Request.{Request}
 use Rattle.ion_tool.specs.declared.words.Request.TheVariants.{Run, Help, Usage}
 
@@ -30,6 +34,10 @@ form_rule = record (new_rule (codes "to")) { long = Some (codes "to"); value_nam
 abbrev pub catalog_rule : Rule
 catalog_rule = record (new_rule (codes "catalog")) { long = Some (codes "catalog"); value_names = 1 }
 
+-- `--floats`
+abbrev pub floats_rule : Rule
+floats_rule = record (new_rule (codes "floats")) { long = Some (codes "floats"); action = Some SetTrue }
+
 -- the options for the limits after what a subcommand has already
 abbrev pub with_limits : App → App
 with_limits app =
@@ -39,9 +47,9 @@ with_limits app =
     (limit_rule (codes "symbols") 1073741824))
     (limit_rule (codes "value") 1073741824)
 
--- a subcommand after what it has of its own: `[--catalog FILE] [--depth N] [--scalar N] [--symbols N] [--value N] [FILE]`
+-- a subcommand after what it has of its own: `[--floats] [--catalog FILE] [--depth N] [--scalar N] [--symbols N] [--value N] [FILE]`
 abbrev pub action_app : App → App
-action_app app = with_rule (with_limits (with_rule app catalog_rule)) (new_rule (codes "FILE"))
+action_app app = with_rule (with_limits (with_rule (with_rule app floats_rule) catalog_rule)) (new_rule (codes "FILE"))
 
 -- the program's name, before its subcommands, of which one has to be named; it has a version
 abbrev pub bare_app : App
@@ -88,6 +96,15 @@ limits_in rows =
     (limit_in (codes "scalar") 1073741824 default_limits.scalar rows))
     (limit_in (codes "depth") 65535 default_limits.depth rows)
 
+-- a flag stands where its one word is "true"
+abbrev pub is_set : Option Text → Bool
+is_set None = false
+is_set (Some word) = bytes_eq word (codes "true")
+
+-- which values a subcommand accepts: floats where `--floats` stands
+abbrev pub profile_in : List Row → Profile
+profile_in rows = record { floats = is_set (first_of (codes "floats") rows) }
+
 -- the word of `--to`, where a subcommand is given one
 abbrev pub form_in : List Row → Option Text
 form_in rows = first_of (codes "to") rows
@@ -105,24 +122,25 @@ file_for (Some word) = if bytes_eq word (codes "-") then None else Some word
 abbrev pub file_in : List Row → Option Text
 file_in rows = file_for (first_of (codes "FILE") rows)
 
--- `clap` finds no fault in the words, and they name the subcommand and the form for the action, with these limits, this catalogue and this file
-pub record Names (words : List Text) (action : Action) (limits : Limits) (catalog file : Option Text) : Type 0 where
+-- `clap` finds no fault in the words, and they name the subcommand and the form for the task's action, and its profile, with these limits, this catalogue and this file
+pub record Names (words : List Text) (task : Task) (limits : Limits) (catalog file : Option Text) : Type 0 where
   pub rows : List Row
   pub faultless : fault_of ion_app words ≡ []
-  pub named : subcommand_of ion_app words ≡ Some (action_name action, rows)
-  pub formed : form_in rows ≡ form_word action
+  pub named : subcommand_of ion_app words ≡ Some (action_name task.action, rows)
+  pub formed : form_in rows ≡ form_word task.action
+  pub profiled : profile_in rows ≡ task.profile
   pub limited : limits_in rows ≡ Some limits
   pub catalogued : catalog_in rows ≡ catalog
   pub filed : file_in rows ≡ file
 
 -- the words ask for this run: there are none, for standard input to be shown with the usual limits and no tables, or they name it
-abbrev pub IsRun : List Text → Action → Limits → Option Text → Option Text → Type 0
-IsRun words action limits catalog file =
-    ((words ≡ []) × (action ≡ Show) × (limits ≡ default_limits) × (catalog ≡ None) × (file ≡ None)) ⊎ Names words action limits catalog file
+abbrev pub IsRun : List Text → Task → Limits → Option Text → Option Text → Type 0
+IsRun words task limits catalog file =
+    ((words ≡ []) × (task ≡ record { action = Show; profile = strict }) × (limits ≡ default_limits) × (catalog ≡ None) × (file ≡ None)) ⊎ Names words task limits catalog file
 
 -- the words ask for some run
 abbrev pub AsksRun : List Text → Type 0
-AsksRun words = (action : Action) × (limits : Limits) × (catalog : Option Text) × (file : Option Text) × IsRun words action limits catalog file
+AsksRun words = (task : Task) × (limits : Limits) × (catalog : Option Text) × (file : Option Text) × IsRun words task limits catalog file
 
 -- the words may ask `clap` for its help or its version
 abbrev pub IsHelp : List Text → Type 0
@@ -136,7 +154,7 @@ IsUsage words =
 -- what the words ask for
 abbrev pub Asks : List Text → Request → Type 0
 Asks words (Run catalog job) =
-    IsRun words job.action job.limits (option_map string_bytes catalog) (option_map string_bytes job.file) × AreChecked job.limits
+    IsRun words job.task job.limits (option_map string_bytes catalog) (option_map string_bytes job.file) × AreChecked job.limits
 Asks words (Help text) = (¬ AsksRun words) × IsHelp words × (string_bytes text ≢ [])
 Asks words (Usage text) = (¬ AsksRun words) × IsUsage words × (string_bytes text ≢ [])
 
@@ -146,9 +164,9 @@ AnswersError kind (Run catalog job) = ⊥
 AnswersError kind (Help text) = ((kind ≡ DisplayHelp) ⊎ (kind ≡ DisplayVersion)) × (string_bytes text ≢ [])
 AnswersError kind (Usage text) = (kind ≢ OutOfMemory) × (kind ≢ DisplayHelp) × (kind ≢ DisplayVersion) × (string_bytes text ≢ [])
 
--- a request for the run with this action, these limits, this catalogue and this file
-abbrev pub IsRequestFor : Action → Limits → Option Text → Option Text → Request → Type 0
-IsRequestFor action limits catalog file (Run own job) =
-    (job.action ≡ action) × (job.limits ≡ limits) × (option_map string_bytes own ≡ catalog) × (option_map string_bytes job.file ≡ file)
-IsRequestFor action limits catalog file (Help text) = ⊥
-IsRequestFor action limits catalog file (Usage text) = ⊥
+-- a request for the run with this task, these limits, this catalogue and this file
+abbrev pub IsRequestFor : Task → Limits → Option Text → Option Text → Request → Type 0
+IsRequestFor task limits catalog file (Run own job) =
+    (job.task ≡ task) × (job.limits ≡ limits) × (option_map string_bytes own ≡ catalog) × (option_map string_bytes job.file ≡ file)
+IsRequestFor task limits catalog file (Help text) = ⊥
+IsRequestFor task limits catalog file (Usage text) = ⊥

@@ -11,11 +11,11 @@ ghost use Rattle.ion_tool.specs.Serving.{refusal_text, Gets, IsServed, IsFileSer
 ghost use Rattle.ion_tool.specs.Serving.{IsCatalogServed, IsLoaded, IsUnread, IsHelped, IsUsageError};
 ghost use Rattle.ion_tool.specs.Serving.{file_input, just_opened};
 ghost use Rattle.ion_tool.specs.Words.{AsksRun, IsRun};
-ghost use Rattle.ion_tool.specs.declared.words.Action.{Action};
+ghost use Rattle.ion_tool.specs.declared.words.Task.{Task};
 
 use crate::act::act;
 use crate::files::{FileSource, UsedFile};
-use crate::words::{Action, Job, Request, read_words};
+use crate::words::{Job, Request, Task, read_words};
 use arrayvec::ArrayString;
 use ion_meter::device::{Broken, Input, Output, write_all};
 use ion_meter::fault::Fault;
@@ -159,7 +159,7 @@ pub fn give_usage<E: Output>(text: &[u8], err: &mut E) -> u8
 fn serve_input<I: Input, O: Output, E: Output>(
     meter: &mut Meter<Global>,
     catalog: &Catalog<Global>,
-    action: Action,
+    task: Task,
     limits: Limits,
     input: I,
     out: O,
@@ -171,11 +171,11 @@ fn serve_input<I: Input, O: Output, E: Output>(
     requires out_failures { O.failure_count out < 2 ^ 64 - 1 }
     requires err_failures { E.failure_count err < 2 ^ 64 - 1 }
     requires checked { AreChecked limits }
-    ensures served { IsServed I.Input O.Output E.Output catalog.now action limits
+    ensures served { IsServed I.Input O.Output E.Output catalog.now task limits
         meter.old meter.new input result.1 out result.2 err result.3 result.0 }
     ensures status { (result.0 ≡ 0) ⊎ ((result.0 ≡ 1) ⊎ (result.0 ≡ 3)) }
 {
-    let (answer, input, out) = act(meter, catalog, action, limits, input, out);
+    let (answer, input, out) = act(meter, catalog, task, limits, input, out);
     let status = report(answer, &mut err);
     (status, input, out, err)
 }
@@ -198,7 +198,7 @@ fn say_unopened<E: Output>(name: &str, err: &mut E)
 fn serve_file<F: FileSource, O: Output, E: Output>(
     meter: &mut Meter<Global>,
     catalog: &Catalog<Global>,
-    action: Action,
+    task: Task,
     limits: Limits,
     files: &mut F,
     name: &str,
@@ -211,7 +211,7 @@ fn serve_file<F: FileSource, O: Output, E: Output>(
     requires err_failures { E.failure_count err < 2 ^ 64 - 1 }
     requires checked { AreChecked limits }
     ensures served { IsFileServed F.gives F.closes F.File.remaining O.Output E.Output catalog.now
-        action limits name.now meter.old meter.new files.old files.new
+        task limits name.now meter.old meter.new files.old files.new
         out result.1 err result.2 result.0 }
     ensures status { (result.0 ≡ 0) ⊎ ((result.0 ≡ 1) ⊎ (result.0 ≡ 3)) }
 {
@@ -220,7 +220,7 @@ fn serve_file<F: FileSource, O: Output, E: Output>(
         return (3, out, err);
     };
     let input = FromRead::new(file);
-    let (status, device, out, err) = serve_input(meter, catalog, action, limits, input, out, err);
+    let (status, device, out, err) = serve_input(meter, catalog, task, limits, input, out, err);
     files.close(UsedFile::from_device(device));
     (status, out, err)
 }
@@ -241,21 +241,17 @@ fn serve_job<F: FileSource, I: Input, O: Output, E: Output>(
     requires err_failures { E.failure_count err < 2 ^ 64 - 1 }
     requires checked { AreChecked job.limits }
     ensures served { IsJobServed F.gives F.closes F.File.remaining I.Input O.Output E.Output
-        catalog.now job.action job.limits (option_map string_bytes job.file)
+        catalog.now job.task job.limits (option_map string_bytes job.file)
         meter.old meter.new files.old files.new
         input result.1 out result.2 err result.3 result.0 }
     ensures status { (result.0 ≡ 0) ⊎ ((result.0 ≡ 1) ⊎ (result.0 ≡ 3)) }
 {
-    let Job {
-        action,
-        limits,
-        file,
-    } = job;
+    let Job { task, limits, file } = job;
     let Some(name) = file else {
-        return serve_input(meter, catalog, action, limits, input, out, err);
+        return serve_input(meter, catalog, task, limits, input, out, err);
     };
     let name = name.as_str();
-    let (status, out, err) = serve_file(meter, catalog, action, limits, files, name, out, err);
+    let (status, out, err) = serve_file(meter, catalog, task, limits, files, name, out, err);
     (status, input, out, err)
 }
 
@@ -296,7 +292,7 @@ fn serve_named<F: FileSource, I: Input, O: Output, E: Output>(
     requires checked { AreChecked job.limits }
     requires tables_room { HasRoom (2 ^ 48) 0 tables.old }
     ensures served { IsCatalogServed F.gives F.closes F.File.remaining I.Input O.Output E.Output
-        job.action job.limits name.now (option_map string_bytes job.file)
+        job.task job.limits name.now (option_map string_bytes job.file)
         tables.old tables.new meter.old meter.new files.old files.new
         input result.1 out result.2 err result.3 result.0 }
     ensures status { (result.0 ≡ 0) ⊎ ((result.0 ≡ 1) ⊎ (result.0 ≡ 3)) }
@@ -335,12 +331,12 @@ fn serve_run<F: FileSource, I: Input, O: Output, E: Output>(
     ensures plain { catalog ≡ None
         → (tables.new ≡ tables.old)
         × IsJobServed F.gives F.closes F.File.remaining I.Input O.Output E.Output
-        [] job.action job.limits (option_map string_bytes job.file)
+        [] job.task job.limits (option_map string_bytes job.file)
         meter.old meter.new files.old files.new
         input result.1 out result.2 err result.3 result.0 }
     ensures named { (name : List ℕ) → option_map string_bytes catalog ≡ Some name
         → IsCatalogServed F.gives F.closes F.File.remaining I.Input O.Output E.Output
-        job.action job.limits name (option_map string_bytes job.file)
+        job.task job.limits name (option_map string_bytes job.file)
         tables.old tables.new meter.old meter.new files.old files.new
         input result.1 out result.2 err result.3 result.0 }
     ensures status { (result.0 ≡ 0) ⊎ ((result.0 ≡ 1) ⊎ (result.0 ≡ 3)) }
@@ -376,21 +372,21 @@ pub fn serve<F: FileSource, I: Input + Drop, O: Output + Drop, E: Output + Drop>
     // Words that ask for a run over the input: the source of files is left as it was; the status,
     // both outputs, the failures and the memory are those of some answer of that run. Or the words
     // could not be read.
-    ensures ran { (action : Action) (limits : Limits)
-        → IsRun (map string_bytes words.items) action limits None None
+    ensures ran { (task : Task) (limits : Limits)
+        → IsRun (map string_bytes words.items) task limits None None
         → (files.new ≡ files.old)
-        × (IsServed I.Input O.Output E.Output [] action limits meter.old meter.new
+        × (IsServed I.Input O.Output E.Output [] task limits meter.old meter.new
         input result.1 out result.2 err result.3 result.0
         ⊎ IsUnread E.Output (map string_bytes words.items) meter.old meter.new files.old files.new
         input result.1 out result.2 err result.3 result.0) }
 
     // Words that name a file: the input is not read, and the same is said of what the name opens
     // to, which is handed back as the run leaves it.
-    ensures file { (action : Action) (limits : Limits) (name : List ℕ)
-        → IsRun (map string_bytes words.items) action limits None (Some name)
+    ensures file { (task : Task) (limits : Limits) (name : List ℕ)
+        → IsRun (map string_bytes words.items) task limits None (Some name)
         → (result.1 ≡ input)
         × (IsFileServed F.gives F.closes F.File.remaining O.Output E.Output []
-        action limits name meter.old meter.new files.old files.new
+        task limits name meter.old meter.new files.old files.new
         out result.2 err result.3 result.0
         ⊎ IsUnread E.Output (map string_bytes words.items) meter.old meter.new files.old files.new
         input result.1 out result.2 err result.3 result.0) }
@@ -399,13 +395,13 @@ pub fn serve<F: FileSource, I: Input + Drop, O: Output + Drop, E: Output + Drop>
     // the input or over the file that is named too, or a line says why there are none, and nothing
     // else is done. The catalogue's file is handed back before. Its meter, which nothing else moves,
     // has counted a refusal where memory is blamed, and holds in the end what it held.
-    ensures uncatalogued { (action : Action) (limits : Limits) (file : Option (List ℕ))
-        → IsRun (map string_bytes words.items) action limits None file
+    ensures uncatalogued { (task : Task) (limits : Limits) (file : Option (List ℕ))
+        → IsRun (map string_bytes words.items) task limits None file
         → tables.new ≡ tables.old }
-    ensures catalog { (action : Action) (limits : Limits) (name : List ℕ) (file : Option (List ℕ))
-        → IsRun (map string_bytes words.items) action limits (Some name) file
+    ensures catalog { (task : Task) (limits : Limits) (name : List ℕ) (file : Option (List ℕ))
+        → IsRun (map string_bytes words.items) task limits (Some name) file
         → IsCatalogServed F.gives F.closes F.File.remaining I.Input O.Output E.Output
-        action limits name file tables.old tables.new meter.old meter.new files.old files.new
+        task limits name file tables.old tables.new meter.old meter.new files.old files.new
         input result.1 out result.2 err result.3 result.0
         ⊎ ((tables.new ≡ tables.old)
         × IsUnread E.Output (map string_bytes words.items) meter.old meter.new files.old files.new

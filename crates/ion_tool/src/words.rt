@@ -3,12 +3,13 @@ ghost use Rattle.std.specs.Prelude.{◌≡◌, ◌≢◌, ◌≤◌, false, IfOk
 ghost use Rattle.clap.specs.Words.{Row, app_of, found_of, kind_of, rows_of, rule_of, fault_of, FailsBy, new_rule, subcommand_of, subcommand_rows_of, with_subcommand};
 ghost use Rattle.clap.specs.declared.builder.command.Command.TheViews.{out-Command};
 ghost use Rattle.ion_meter.specs.Limits.{AreChecked};
-ghost use Rattle.ion_tool.specs.Words.{action_app, with_limits, action_name, bare_app, catalog_in, catalog_rule, file_for, file_in, form_in, form_rule, form_word, ion_app, limit_in, limit_rule, limits_in, Asks, AnswersError, IsRequestFor};
+ghost use Rattle.ion_tool.specs.Words.{action_app, with_limits, action_name, bare_app, catalog_in, catalog_rule, file_for, file_in, form_in, form_rule, form_word, ion_app, limit_in, limit_rule, limits_in, floats_rule, profile_in, Asks, AnswersError, IsRequestFor};
 
 use clap::builder::ValueParser;
 use clap::error::ErrorKind;
-use clap::{Arg, ArgMatches, Command, Error};
+use clap::{Arg, ArgAction, ArgMatches, Command, Error};
 use ion_meter::limits::Limits;
+use ion_meter::profile::Profile;
 use ion_transcode::to::Form;
 use std::alloc::{AllocError, Global};
 
@@ -24,10 +25,17 @@ pub enum Action {
     Convert(Option<Form>),
 }
 
+/// What is done with the stream, and which values of Ion it may have.
+#[derive(Clone, Copy, Debug, PartialEq, Eq)]
+pub struct Task {
+    pub action: Action,
+    pub profile: Profile,
+}
+
 /// One run of the program.
 #[derive(Debug, Drop)]
 pub struct Job {
-    pub action: Action,
+    pub task: Task,
     pub limits: Limits,
     /// The name of the file that is read. Without one it is standard input.
     pub file: Option<String>,
@@ -47,7 +55,7 @@ pub enum Request {
 /// A run as `clap` has read it.
 #[derive(Clone, Copy)]
 struct Asked<'a> {
-    action: Action,
+    task: Task,
     limits: Limits,
     catalog: Option<&'a str>,
     file: Option<&'a str>,
@@ -56,9 +64,10 @@ struct Asked<'a> {
 const ABOUT: &str = "Shows, checks and converts Amazon Ion 1.0, a data format like JSON with more
 types and a binary form. A stream that begins with the byte E0 is binary.
 
-Memory stays small and bounded. A stream that is not valid, passes a limit or
-has a float is refused: standard error then says why, and at which byte offset.
-JSON is read too, but for numbers with an exponent, as 1e3: these are floats.";
+Memory stays small and bounded. A stream that is not valid, passes a limit or,
+without --floats, has a float is refused: standard error then says why, and at
+which byte offset. JSON is read too; its numbers with an exponent, as 1e3, are
+floats.";
 
 /// How the program is called, which `clap` also says of wrong words.
 const USAGE: &str = "ion <show|check|convert> [OPTIONS] [FILE]
@@ -123,6 +132,17 @@ fn catalog_arg<'a>(alloc: Global) -> Arg<'a>
         .help("File of shared symbol tables, in either form")
 }
 
+/// The option `--floats`.
+fn floats_arg<'a>(alloc: Global) -> Arg<'a>
+    ensures rule { rule_of result ≡ floats_rule }
+    ensures own { result.global ≡ false }
+{
+    Arg::new(alloc, "floats")
+        .long("floats")
+        .action(ArgAction::SetTrue)
+        .help("Accept floats, as 1.5e0, which are refused without it")
+}
+
 /// The argument FILE.
 fn file_arg<'a>(alloc: Global) -> Arg<'a>
     ensures rule { rule_of result ≡ new_rule (codes "FILE") }
@@ -166,10 +186,8 @@ fn action_command<'a>(
     ensures app { IfOk result (λ c. app_of c ≡ action_app (app_of command.entry)) }
     ensures own { IfOk result (λ c. (out-Command c).has_globals ≡ false) }
 {
-    let command = command
-        .about(about)
-        .after_help(example)
-        .arg(catalog_arg(alloc))?;
+    let command = command.about(about).after_help(example);
+    let command = command.arg(floats_arg(alloc))?.arg(catalog_arg(alloc))?;
     with_limits(alloc, command, writes_binary)?.arg(file_arg(alloc))
 }
 
@@ -329,6 +347,17 @@ fn limits_of(options: &ArgMatches<'_>) -> Option<Limits>
     })
 }
 
+/// Which values a subcommand accepts: `clap` says "true" where `--floats` stands, and else "false".
+fn profile_of(options: &ArgMatches<'_>) -> Profile
+    ensures { result ≡ profile_in (rows_of (found_of options.now)) }
+{
+    let floats = match options.get_str("floats") {
+        Some(word) => word == "true",
+        None => false,
+    };
+    Profile { floats }
+}
+
 /// The action that a subcommand stands for, with the word that `--to` gives it.
 fn action_of(name: &str, form: Option<&str>) -> Option<Action>
     ensures some { IfSome result (λ a. (name.now ≡ action_name a)
@@ -360,8 +389,9 @@ fn file_of<'a>(word: Option<&'a str>) -> Option<&'a str>
 /// The run that the matches name.
 fn asked_by<'a>(matches: &ArgMatches<'a>) -> Option<Asked<'a>>
     ensures some { IfSome result (λ a. (rows : List Row)
-        × (subcommand_rows_of matches.now ≡ Some (action_name a.action, rows))
-        × (form_in rows ≡ form_word a.action)
+        × (subcommand_rows_of matches.now ≡ Some (action_name a.task.action, rows))
+        × (form_in rows ≡ form_word a.task.action)
+        × (profile_in rows ≡ a.task.profile)
         × (limits_in rows ≡ Some a.limits) × AreChecked a.limits
         × (catalog_in rows ≡ option_map (λ s. s.now) a.catalog)
         × (file_in rows ≡ option_map (λ s. s.now) a.file)) }
@@ -373,10 +403,14 @@ fn asked_by<'a>(matches: &ArgMatches<'a>) -> Option<Asked<'a>>
     let (name, options) = matches.subcommand()?;
     let action = action_of(name, options.get_str("to"))?;
     let limits = limits_of(options)?;
+    let task = Task {
+        action,
+        profile: profile_of(options),
+    };
     let catalog = options.get_str("catalog");
     let file = file_of(options.get_str("FILE"));
     Some(Asked {
-        action,
+        task,
         limits,
         catalog,
         file,
@@ -396,14 +430,14 @@ fn owned(alloc: Global, name: Option<&str>) -> Result<Option<String>, AllocError
 
 /// The request for a run, which needs its words no more.
 fn request_for(alloc: Global, asked: Asked<'_>) -> Result<Request, AllocError>
-    ensures { IfOk result (IsRequestFor asked.entry.action asked.entry.limits
+    ensures { IfOk result (IsRequestFor asked.entry.task asked.entry.limits
         (option_map (λ s. s.now) asked.entry.catalog)
         (option_map (λ s. s.now) asked.entry.file)) }
 {
     let catalog = owned(alloc, asked.catalog)?;
     let file = owned(alloc, asked.file)?;
     let job = Job {
-        action: asked.action,
+        task: asked.task,
         limits: asked.limits,
         file,
     };
@@ -416,8 +450,12 @@ pub fn read_words(alloc: Global, words: &[String]) -> Result<Request, AllocError
     ensures some_words { OnErr result (map string_bytes words.now ≢ []) }
 {
     if words.is_empty() {
-        let job = Job {
+        let task = Task {
             action: Action::Show,
+            profile: Profile::strict(),
+        };
+        let job = Job {
+            task,
             limits: Limits::default(),
             file: None,
         };

@@ -2,9 +2,12 @@
 use Rattle.std.proofs.Common.{◌≡◌, ℕ, List, [], ◌∷◌, ◌++◌, length, Option, None, Some, refl, ap, sym, ◌∙◌, subst₂, append_assoc, append-nil}
 use Rattle.ion_meter.specs.declared.fault.Reason.{Reason}
 use Rattle.ion_meter.specs.declared.limits.Limits.{Limits}
+use Rattle.ion_meter.specs.declared.profile.Profile.{Profile}
+use Rattle.ion_meter.specs.Rules.{rules}
 use Rattle.ion_value.specs.Outcome.{Accepted, values_in, verdict_with, verdict_after, output_with, output_after}
 use Rattle.ion_value.specs.Path.{closed, path_items}
 use Rattle.ion_value.specs.Reading.{Finished, items_then}
+use Rattle.ion_value.specs.ReadingLaws.{ArePermitted}
 use Rattle.ion_value.specs.Value.{SymbolAt, UserSymbol, Top, Item, PlacedItem, top_items, user_items}
 use Rattle.ion_symbols.specs.Laws.{UsersAreRead}
 use Rattle.ion_symbols.specs.Resolved.{WhatIsResolvedIsAccepted}
@@ -25,7 +28,7 @@ use Rattle.ion_transcode.specs.ByItem.{by_item, verdict_as, output_as}
 use Rattle.ion_transcode.specs.Forms.{encoding_of, form_of, reading_of}
 use Rattle.ion_transcode.specs.Laws.{StreamsAreRead}
 use Rattle.ion_transcode.specs.Outputs.{outputs_of, resolved}
-use Rattle.ion_transcode.specs.Verdict.{HasVerdict}
+use Rattle.ion_transcode.specs.Verdict.{HasVerdictWith}
 use Rattle.ion_transcode.proofs.Counting.{values-of_tops}
 
 -- items after others, of which a target refuses none
@@ -78,33 +81,37 @@ module _ (streams : StreamsAreRead) (users_read : UsersAreRead) (taken_in : What
   none-refused target.Nothing limits mine us e taken before rest item is = refl
 
   pub what-is-read-is-accepted : WhatIsReadIsAccepted
-  what-is-read-is-accepted catalog limits to bytes t tops us to_is read resolved_are users_are taken =
+  what-is-read-is-accepted profile catalog limits to bytes t tops us to_is read resolved_are users_are taken =
       let f : Form = form_of bytes in
       let given = taken_in catalog limits.symbols tops resolved_are in
       let mine : List PlacedItem = given.0 in
       let values = users_read catalog limits.symbols tops mine given.1 in
       let same : values.0 ≡ us = some-same values.0 us (sym values.1 ∙ users_are) in
       let items : user_items mine ≡ top_items us = values.2 ∙ ap top_items same in
-      let all : users catalog limits.symbols at_start (reading_of f limits bytes) ≡ items_then mine Finished = ap (users catalog limits.symbols at_start) read ∙ given.1 in
+      let all : users catalog limits.symbols at_start (reading_of profile f limits bytes) ≡ items_then mine Finished = ap (users catalog limits.symbols at_start) read ∙ given.1 in
       let free : Free (by_item t limits).refusal [] mine = none-refused t limits mine us items taken in
-      let v : verdict_as (resolved f to) f catalog limits bytes ≡ Accepted (length us) =
-      ap (λ (r : Option Target). verdict_as r f catalog limits bytes) to_is
+      let v : verdict_as profile (resolved f to) f catalog limits bytes ≡ Accepted (length us) =
+      ap (λ (r : Option Target). verdict_as profile r f catalog limits bytes) to_is
       ∙ (ap (verdict_after (by_item t limits).refusal []) all
       ∙ (verdict-free (by_item t limits).refusal [] mine free ∙ ap Accepted (values-of_tops mine us items)))
       in
-      let out : output_as (resolved f to) f catalog limits bytes ≡ (outputs_of t limits).whole_output us =
-      ap (λ (r : Option Target). output_as r f catalog limits bytes) to_is
+      let out : output_as profile (resolved f to) f catalog limits bytes ≡ (outputs_of t limits).whole_output us =
+      ap (λ (r : Option Target). output_as profile r f catalog limits bytes) to_is
       ∙ (ap (output_after (by_item t limits).open_output (by_item t limits).refusal []) all
       ∙ (output-free (by_item t limits).open_output (by_item t limits).refusal [] mine free ∙ whole-output t limits mine us items))
       in
-      subst₂ (λ w o. HasVerdict catalog limits to bytes w o) v out (streams catalog limits to bytes)
+      subst₂ (λ w o. HasVerdictWith profile catalog limits to bytes w o) v out (streams profile catalog limits to bytes)
 
 -- a stream that passes no limit is read to its end
-is-read : binary_laws.WithinLimitsAreRead → text_laws.WithinLimitsAreRead → (f : Form) (limits : Limits) (bytes : List ℕ) (tops : List (Top SymbolAt ℕ))
-    → (encoding_of f).Stream bytes tops → PassesNoLimit f limits bytes → reading_of f limits bytes ≡ items_then (path_items (closed tops)) Finished
-is-read binary_read text_read form.Binary limits bytes tops stream none = binary_read limits bytes tops stream none
-is-read binary_read text_read form.Text limits bytes tops stream none = text_read limits bytes tops stream none
+is-read : binary_laws.WithinLimitsAreRead → text_laws.WithinLimitsAreRead → (profile : Profile) (f : Form) (limits : Limits) (bytes : List ℕ)
+    (tops : List (Top SymbolAt ℕ)) → (encoding_of profile f).Stream bytes tops → ArePermitted (rules limits profile) (top_items tops)
+    → PassesNoLimit f (rules limits profile) bytes → reading_of profile f limits bytes ≡ items_then (path_items (closed tops)) Finished
+is-read binary_read text_read profile form.Binary limits bytes tops stream permitted none =
+    binary_read (rules limits profile) bytes tops stream permitted none
+is-read binary_read text_read profile form.Text limits bytes tops stream permitted none =
+    text_read (rules limits profile) bytes tops stream none
 
 pub good-streams : WhatIsReadIsAccepted → binary_laws.WithinLimitsAreRead → text_laws.WithinLimitsAreRead → GoodStreamsAreAccepted
-good-streams accepted binary_read text_read catalog limits to bytes t tops us to_is stream none resolved_are users_are taken =
-    accepted catalog limits to bytes t tops us to_is (is-read binary_read text_read (form_of bytes) limits bytes tops stream none) resolved_are users_are taken
+good-streams accepted binary_read text_read profile catalog limits to bytes t tops us to_is stream permitted none resolved_are users_are taken =
+    accepted profile catalog limits to bytes t tops us to_is
+    (is-read binary_read text_read profile (form_of bytes) limits bytes tops stream permitted none) resolved_are users_are taken

@@ -2,6 +2,7 @@
 use Rattle.std.proofs.Common.{◌≡◌, ℕ, List, [], length, map, Some, refl, ap, sym, ◌∙◌, subst, subst₂}
 use Rattle.std.specs.List.{AllByRecursion}
 use Rattle.ion_meter.specs.declared.limits.Limits.{Limits}
+use Rattle.ion_meter.specs.declared.profile.Profile.{Profile}
 use Rattle.ion_value.specs.Outcome.{Accepted}
 use Rattle.ion_value.specs.Path.{closed, path_items}
 use Rattle.ion_value.specs.Reading.{Finished, items_then}
@@ -23,40 +24,40 @@ use Rattle.ion_transcode.specs.Laws.{OneSpelling}
 use Rattle.ion_transcode.specs.Outputs.{outputs_of, resolved}
 use Rattle.ion_transcode.specs.RoundTrip.{ValuesOfStreams}
 use Rattle.ion_transcode.specs.ShownAgain.{IsReadWithin, TextIsReadWithin, WhatIsShownIsAccepted}
-use Rattle.ion_transcode.specs.Verdict.{HasVerdict}
+use Rattle.ion_transcode.specs.Verdict.{HasVerdictWith}
 use Rattle.ion_transcode.proofs.NoDeeper.{no_deeper-wide}
 use Rattle.ion_transcode.proofs.ReadAgain.{same-length, some-same}
 use Rattle.ion_transcode.proofs.TextWithoutPlaces.{same-text}
 
 -- canonical text that is read to its end is accepted, whatever it is written as, and what is written does not look at places
-again : WhatIsReadIsAccepted → (catalog : List Shared) (limits : Limits) (us : List (Top UserSymbol ℕ)) (asked : To) (t : Target)
+again : WhatIsReadIsAccepted → (profile : Profile) (catalog : List Shared) (limits : Limits) (us : List (Top UserSymbol ℕ)) (asked : To) (t : Target)
     (out : List ℕ) → resolved form.Text asked ≡ Some t → ((vs : List (Top UserSymbol ℕ)) → AreTaken t limits vs)
     → ((vs : List (Top UserSymbol ℕ)) → map unplaced_top vs ≡ map unplaced_top us → (outputs_of t limits).whole_output vs ≡ out)
-    → IsReadWithin catalog limits us → HasVerdict catalog limits asked (text us) (Accepted (length us)) out
-again accepted catalog limits us asked t out to_is taken written r =
+    → IsReadWithin profile catalog limits us → HasVerdictWith profile catalog limits asked (text us) (Accepted (length us)) out
+again accepted profile catalog limits us asked t out to_is taken written r =
     let resolved_as = ap (λ (f : Form). resolved f asked) r.form ∙ to_is in
-    let read : reading_of (form_of (text us)) limits (text us) ≡ items_then (path_items (closed r.raw)) Finished =
-    ap (λ (f : Form). reading_of f limits (text us)) r.form ∙ r.read in
-    subst₂ (λ (n : ℕ) (o : List ℕ). HasVerdict catalog limits asked (text us) (Accepted n) o) (same-length r.users us r.same)
+    let read : reading_of profile (form_of (text us)) limits (text us) ≡ items_then (path_items (closed r.raw)) Finished =
+    ap (λ (f : Form). reading_of profile f limits (text us)) r.form ∙ r.read in
+    subst₂ (λ (n : ℕ) (o : List ℕ). HasVerdictWith profile catalog limits asked (text us) (Accepted n) o) (same-length r.users us r.same)
     (written r.users r.same)
-    (accepted catalog limits asked (text us) t r.raw r.users resolved_as read r.resolved r.users_are (taken r.users))
+    (accepted profile catalog limits asked (text us) t r.raw r.users resolved_as read r.resolved r.users_are (taken r.users))
 
 pub what-is-shown-is-accepted : WhatIsAcceptedIsRead → OneSpelling → ValuesOfStreams → WhatIsReadIsNoDeeper → TextIsReadWithin
     → WhatIsReadIsAccepted → WhatIsShownIsAccepted
-what-is-shown-is-accepted is_read one values shallow within accepted catalog other limits wide asked bytes shown n tops us small
+what-is-shown-is-accepted is_read one values shallow within accepted profile next catalog other limits wide asked bytes shown n tops us small
     texts to_is verdict stream are least deeper fits =
     let f : Form = form_of bytes in
-    let a = is_read catalog limits asked bytes target.Text n shown to_is verdict in
-    let same : a.tops ≡ tops = (one f).stream bytes a.tops tops a.stream stream in
+    let a = is_read profile catalog limits asked bytes target.Text n shown to_is verdict in
+    let same : a.tops ≡ tops = (one profile f).stream bytes a.tops tops a.stream stream in
     let found : a.us ≡ us = some-same a.us us (sym a.users_are ∙ (ap (user_tops catalog system) same ∙ are)) in
-    let users : AreUsers us = values f catalog bytes tops us small texts stream are in
+    let users : AreUsers us = values profile f catalog bytes tops us small texts stream are in
     let output : text us ≡ shown = sym (a.output ∙ ap (λ (vs : List (Top UserSymbol ℕ)). text vs) found) in
     let count : length us ≡ n = sym (a.count ∙ ap (λ (vs : List (Top UserSymbol ℕ)). length vs) found) in
-    let below = (shallow f catalog limits bytes a.tops a.us a.read a.users_are).1 in
+    let below = (shallow profile f catalog limits bytes a.tops a.us a.read a.users_are).1 in
     let deep = subst (λ (vs : List (Top UserSymbol ℕ)). AllByRecursion (IsNoDeeper limits.depth) vs) found below in
-    let r = within other wide us least users (no_deeper-wide limits.depth wide.depth us deeper deep) fits in
-    let as_text = again accepted other wide us to.Text target.Text (text us) refl (λ vs. tt) (λ vs e. same-text vs us e) r in
-    let as_nothing = again accepted other wide us to.Nothing target.Nothing [] refl (λ vs. tt) (λ vs e. refl) r in (
-      subst₂ (λ (xs : List ℕ) (m : ℕ). HasVerdict other wide to.Text xs (Accepted m) xs) output count as_text,
-      subst₂ (λ (xs : List ℕ) (m : ℕ). HasVerdict other wide to.Nothing xs (Accepted m) []) output count as_nothing,
+    let r = within next other wide us least users (no_deeper-wide limits.depth wide.depth us deeper deep) fits in
+    let as_text = again accepted next other wide us to.Text target.Text (text us) refl (λ vs. tt) (λ vs e. same-text vs us e) r in
+    let as_nothing = again accepted next other wide us to.Nothing target.Nothing [] refl (λ vs. tt) (λ vs e. refl) r in (
+      subst₂ (λ (xs : List ℕ) (m : ℕ). HasVerdictWith next other wide to.Text xs (Accepted m) xs) output count as_text,
+      subst₂ (λ (xs : List ℕ) (m : ℕ). HasVerdictWith next other wide to.Nothing xs (Accepted m) []) output count as_nothing,
     )

@@ -75,5 +75,5 @@ module _ (why : WhyRefused) (said : WhatIsDeclared) where
       tree-resolved catalog limit tops (trees-resolved catalog limit tops) t annotations first x (declares_table t annotations x) h
 
   pub trees-in-order : GoodStreamsAreAccepted → TreesInOrderAreAccepted
-  trees-in-order accepted catalog limits to bytes t tops us to_is stream none in_order users_are taken =
-      accepted catalog limits to bytes t tops us to_is stream none (trees-resolved catalog limits.symbols tops system in_order) users_are taken
+  trees-in-order accepted profile catalog limits to bytes t tops us to_is stream permitted none in_order users_are taken =
+      accepted profile catalog limits to bytes t tops us to_is stream permitted none (trees-resolved catalog limits.symbols tops system in_order) users_are taken

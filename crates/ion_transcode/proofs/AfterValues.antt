@@ -1,10 +1,13 @@
 -- What may stand after a value in canonical text, and that no two colons come there.
 use Rattle.std.proofs.Common.{◌≡◌, ℕ, suc, Bool, true, false, not, ◌&&◌, ◌==◌, if◌then◌else◌, List, [], ◌∷◌, codes, Option, None, Some, Result, Ok, Err, refl, ap, sym, ◌∙◌, subst, arith}
 use Rattle.std.proofs.lemmas.Bool.{false≢true}
+use lib.Ieee.{Float, nan, inf, fin}
 use Rattle.ion_meter.specs.declared.fault.Reason.{Reason}
+use Rattle.ion_meter.specs.declared.fault.Reason.TheVariants as reason
 use Rattle.ion_meter.specs.Sources.{Cursor, skip}
 use Rattle.ion_value.specs.declared.ion_type.IonType.{IonType}
 use Rattle.ion_value.specs.declared.ion_type.IonType.TheVariants as type
+use Rattle.ion_value.specs.FloatText.{float_of_text}
 use Rattle.ion_value.specs.Scalar.{scalar_of_run}
 use Rattle.ion_value.specs.Name.{Keyword, a_null, a_bool, a_nan, keyword, is_id, id_of}
 use Rattle.ion_value.specs.Parts.{part, ◌>>=◌}
@@ -14,10 +17,10 @@ use Rattle.ion_text_in.specs.Blanks.{no_blank, is_white, blank_at, blanks, blank
 use Rattle.ion_text_in.specs.Beginnings.{BeginsNot, EndsIdentifier, EndsNumber, NumbersEnd, IdentifiersEnd, WhatBegins, TokenBegins}
 use Rattle.ion_text_in.specs.Grammar.{NoColons}
 use Rattle.ion_text_in.specs.Lob.{lob_at}
-use Rattle.ion_text_in.specs.Meaning.{at, EndsNull}
+use Rattle.ion_text_in.specs.Meaning.{at, EndsNull, EndsFloat}
 use Rattle.ion_text_in.specs.Quoted.{symbol_quote, short_quote, long_quote, text_at}
 use Rattle.ion_text_in.specs.Token as tokens
-use Rattle.ion_text_in.specs.Token.{First, a_run, a_word, a_quoted, a_short, a_long, a_lob, an_operator, an_infinity, a_begin, an_end, a_comma, a_colon, two_colons, no_token, first_at, Token, plain, name, text, operator, no_number, begin, end, comma, colon, colons, bytes_of, in_run, in_operator, word_of, word_token, run_token, null_token, by_keyword, token_of, token_at, next_token}
+use Rattle.ion_text_in.specs.Token.{First, a_run, a_word, a_quoted, a_short, a_long, a_lob, an_operator, an_infinity, a_begin, an_end, a_comma, a_colon, two_colons, no_token, first_at, Token, plain, float, name, text, operator, found_float, begin, end, comma, colon, colons, bytes_of, in_run, in_operator, word_of, word_token, run_token, scalar_token, null_token, by_keyword, token_of, token_at, next_token}
 
 -- ---- what stands after a value
 
@@ -101,6 +104,12 @@ ends-null law type.List bytes b = ends-identifier law bytes (AfterSymbol.of_valu
 ends-null law type.Sexp bytes b = ends-identifier law bytes (AfterSymbol.of_value b)
 ends-null law type.Struct bytes b = ends-identifier law bytes (AfterSymbol.of_value b)
 
+-- what ends a number, or a word
+pub ends-float : NumbersEnd → IdentifiersEnd → (x : Float) (bytes : List ℕ) → After bytes → EndsFloat x bytes
+ends-float numbers words (fin sign m e) bytes b = ends-number numbers bytes b
+ends-float numbers words (inf sign) bytes b = ends-identifier words bytes (AfterSymbol.of_value b)
+ends-float numbers words nan bytes b = ends-identifier words bytes (AfterSymbol.of_value b)
+
 -- ---- blanks
 
 no-blank : (b : ℕ) (bytes : List ℕ) → is_start b ≡ true → blank_at b bytes ≡ no_blank
@@ -151,9 +160,10 @@ then-other : (o : Result Token Reason) (c d : Cursor) → ((t : Token) → o ≡
 then-other (Ok t) c d is e = other-not t c d (is t refl) e
 then-other (Err reason) c d is e = absurd (cc e)
 
-run-other : (o : Result (Scalar SymbolAt) Reason) (t : Token) → (o >>= (λ v. Ok (plain v))) ≡ Ok t → other t ≡ true
-run-other (Ok v) t e = let same : plain v ≡ t = cc e in ap other (sym same)
-run-other (Err reason) t e = absurd (cc e)
+run-other : (run : List ℕ) (o : Result (Scalar SymbolAt) Reason) (t : Token) → scalar_token run o ≡ Ok t → other t ≡ true
+run-other run (Ok v) t e = let same : plain v ≡ t = cc e in ap other (sym same)
+run-other run (Err reason.Float) t e = let same : float (found_float (float_of_text run)) ≡ t = cc e in ap other (sym same)
+run-other run (Err why) t e = absurd (cc e)
 
 null-other : (type : Option IonType) (t : Token) → null_token type ≡ Ok t → other t ≡ true
 null-other (Some type) t e = let same : plain (value.null type) ≡ t = cc e in ap other (sym same)
@@ -162,7 +172,7 @@ null-other None t e = absurd (cc e)
 keyword-other : (k : Option Keyword) (word : List ℕ) (t : Token) → by_keyword k word ≡ Ok t → other t ≡ true
 keyword-other (Some (a_null type)) word t e = null-other type t e
 keyword-other (Some (a_bool truth)) word t e = let same : plain (value.bool truth) ≡ t = cc e in ap other (sym same)
-keyword-other (Some a_nan) word t e = let same : no_number ≡ t = cc e in ap other (sym same)
+keyword-other (Some a_nan) word t e = let same : float (Some nan) ≡ t = cc e in ap other (sym same)
 keyword-other None word t e =
     let same : name false (if is_id word then value.Id (id_of word) else value.Text word) ≡ t = cc e in
     ap other (sym same)
@@ -174,7 +184,7 @@ word-other word t e = keyword-other (keyword word) word t e
 not-colons : (f : First) (b d : Cursor) → (f ≡ two_colons → ⊥) → token_of None f b ≡ got colons d → ⊥
 unfolding token_of
 not-colons a_run b d none e =
-    then-other (run_token (bytes_of in_run b.rest)) _ d (λ t. run-other (scalar_of_run (bytes_of in_run b.rest)) t) e
+    then-other (run_token (bytes_of in_run b.rest)) _ d (λ t. run-other (bytes_of in_run b.rest) (scalar_of_run (bytes_of in_run b.rest)) t) e
 not-colons a_word b d none e = then-other (word_token (word_of b.rest)) _ d (λ t. word-other (word_of b.rest) t) e
 not-colons a_quoted b d none e =
     bound-other (text_at symbol_quote None (skip 1 b)) (λ t. name true (value.Text t.0)) (λ t. t.1) d (λ t. refl) e

@@ -1,5 +1,5 @@
 -- Items that a reader hands to a writer go on with what was put before.
-use Rattle.std.proofs.Common.{◌≡◌, ℕ, ◌+◌, ◌*◌, ◌^◌, ◌<◌, ◌≤◌, List, [], ◌∷◌, ◌++◌, Option, None, refl, ap, sym, subst, ◌∙◌, append_assoc, arith}
+use Rattle.std.proofs.Common.{◌≡◌, ℕ, ◌+◌, ◌*◌, ◌^◌, ◌<◌, ◌≤◌, List, ◌++◌, Option, None, ap, sym, subst, ◌∙◌, append_assoc, arith}
 use Rattle.ion_meter.specs.Counts.{Counts}
 use Rattle.ion_meter.specs.Windows.{HasPrefix}
 use Rattle.ion_meter.specs.declared.device.Output.{Ghosts as OutputOf}
@@ -7,7 +7,7 @@ use Rattle.ion_meter.specs.declared.fault.Reason.{Reason}
 use Rattle.ion_meter.specs.declared.limits.Limits.{Limits}
 use Rattle.ion_value.specs.declared.writer.ValueWriter.{Ghosts as WriterOf}
 use Rattle.ion_value.specs.declared.ion_type.Kind.{Kind}
-use Rattle.ion_value.specs.Feeding.{Joint, Hands, Feeds, nothing, more}
+use Rattle.ion_value.specs.Feeding.{Joint, Feeds, nothing, more}
 use Rattle.ion_value.specs.Reading.{Reading}
 use Rattle.ion_value.specs.Shares.{Charges}
 use Rattle.ion_value.specs.Value.{PlacedItem}

@@ -31,6 +31,7 @@ mod NoneRefused
 mod Accepted
 mod AcceptedTrees
 mod ReadWhole
+mod StrictAccepted
 mod OpenContainers
 mod NoDeeper
 mod WrittenFits
@@ -40,3 +41,4 @@ mod TopRows
 mod WrittenRows
 mod TreeRows
 mod ShownRows
+mod FloatRows

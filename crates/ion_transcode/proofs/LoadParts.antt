@@ -3,6 +3,7 @@ use Rattle.std.proofs.Common.{◌≡◌, ℕ, List, [], ◌∷◌, Option, Resul
 use Rattle.std.specs.Prelude.{slice_get}
 use Rattle.ion_meter.specs.declared.fault.Fault.{Fault}
 use Rattle.ion_meter.specs.declared.limits.Limits.{Limits}
+use Rattle.ion_meter.specs.Rules.{strict}
 use Rattle.ion_value.specs.Value.{user_items}
 use Rattle.ion_value.specs.Reading.{Reading, items_of}
 use Rattle.ion_value.specs.Outcome.{Verdict, Accepted, verdict_after}
@@ -50,6 +51,6 @@ form-first [] first is = ap form_by_first is
 form-first (b ∷ bytes) first is = ap form_by_first is
 
 pub says-as : (limits : Limits) (bytes : List ℕ) (f : Form) (raw : Reading) (answer : Result (List Shared) Fault) → form_of bytes ≡ f
-    → raw ≡ reading_of f limits bytes → SaysCatalog limits raw answer → SaysCatalog limits (catalog_reading limits bytes) answer
+    → raw ≡ reading_of strict f limits bytes → SaysCatalog limits raw answer → SaysCatalog limits (catalog_reading limits bytes) answer
 says-as limits bytes f raw answer form_is is says =
-    subst (λ (g : Form). SaysCatalog limits (reading_of g limits bytes) answer) (sym form_is) (subst (λ (r : Reading). SaysCatalog limits r answer) is says)
+    subst (λ (g : Form). SaysCatalog limits (reading_of strict g limits bytes) answer) (sym form_is) (subst (λ (r : Reading). SaysCatalog limits r answer) is says)

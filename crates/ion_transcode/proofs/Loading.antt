@@ -2,6 +2,7 @@
 use Rattle.std.proofs.Common.{◌≡◌, ℕ, suc, ◌+◌, ◌≤◌, List, [], ◌∷◌, ◌++◌, Option, Some, None, Ok, Err, refl, ap, sym, subst, ◌∙◌, arith, append-nil}
 use Rattle.ion_meter.specs.declared.fault.Reason.{Reason}
 use Rattle.ion_meter.specs.declared.limits.Limits.{Limits}
+use Rattle.ion_meter.specs.Rules.{strict}
 use Rattle.ion_value.specs.Value.{SymbolAt, UserSymbol, Top, PlacedItem, user_items, top_items}
 use Rattle.ion_value.specs.Reading.{Reading, Finished, Stopped, More, items_of, items_then, Ends}
 use Rattle.ion_value.specs.Outcome.{Verdict, Accepted, output_with, output_after}
@@ -14,12 +15,11 @@ use Rattle.ion_symbols.specs.Laws.{UsersAreRead}
 use Rattle.ion_symbols.specs.CatalogItems.{Drafted, Loading, Loaded, after_tables, at, then_load, loaded}
 use Rattle.ion_symbols.specs.CatalogTrees.{tables_of, tops_drafted, drafted_tables}
 use Rattle.ion_symbols.specs.CatalogLaws.{CatalogsAreRead, CatalogsAreTables}
-use Rattle.ion_text_in.specs.Reading as text
 use Rattle.ion_transcode.specs.declared.to.Form.{Form}
 use Rattle.ion_transcode.specs.declared.to.Form.TheVariants as form
 use Rattle.ion_transcode.specs.Encoding.{Encoding, IsSound}
 use Rattle.ion_transcode.specs.Outputs.{Outputs, Agrees}
-use Rattle.ion_transcode.specs.Forms.{IsBinary, form_of, text_encoding, encoding_of, reading_of}
+use Rattle.ion_transcode.specs.Forms.{IsBinary, form_of, encoding_of, reading_of}
 use Rattle.ion_transcode.specs.Verdict.{Faultless, HasVerdictFrom, whole, refused}
 use Rattle.ion_transcode.specs.Laws.{BinaryIsSound, TextIsSound}
 use Rattle.ion_transcode.specs.Catalogues.{as_catalog, IsCatalogIn, catalog_users, catalog_verdict, Loads, CatalogVerdictsAreRead, CatalogsAreLoaded, OneCatalogVerdict}
@@ -121,17 +121,18 @@ module _ (users_read : UsersAreRead) (e : Encoding) (IsOf : List ℕ → Type 0)
 
 module _ (binary_sound : BinaryIsSound) (text_sound : TextIsSound) (users_read : UsersAreRead) where
   verdict-read : (f : Form) (limits : Limits) (bytes : List ℕ) → (f ≡ form.Binary → IsBinary bytes)
-      → HasVerdictFrom (encoding_of f) (as_catalog limits) [] limits bytes (catalog_verdict limits (reading_of f limits bytes)) []
+      → HasVerdictFrom (encoding_of strict f) (as_catalog limits) [] limits bytes (catalog_verdict limits (reading_of strict f limits bytes)) []
   verdict-read form.Binary limits bytes is =
-      reached users_read (encoding_of form.Binary) IsBinary (reading_of form.Binary) binary_sound limits bytes (is refl)
-  verdict-read form.Text limits bytes is = reached users_read text_encoding (λ b. Unit {0}) text.reading text_sound limits bytes tt
+      reached users_read (encoding_of strict form.Binary) IsBinary (reading_of strict form.Binary) (binary_sound strict) limits bytes (is refl)
+  verdict-read form.Text limits bytes is =
+      reached users_read (encoding_of strict form.Text) (λ b. Unit {0}) (reading_of strict form.Text) (text_sound strict) limits bytes tt
 
   loaded-read : CatalogsAreRead → CatalogsAreTables → (f : Form) (limits : Limits) (bytes : List ℕ) (tables : List Shared) → (f ≡ form.Binary → IsBinary bytes)
-      → Loads limits (reading_of f limits bytes) tables → IsCatalogIn (encoding_of f) limits bytes tables
+      → Loads limits (reading_of strict f limits bytes) tables → IsCatalogIn (encoding_of strict f) limits bytes tables
   loaded-read read meant form.Binary limits bytes tables is loads =
-      catalog-loaded users_read (encoding_of form.Binary) IsBinary (reading_of form.Binary) binary_sound limits bytes (is refl) read meant tables loads
+      catalog-loaded users_read (encoding_of strict form.Binary) IsBinary (reading_of strict form.Binary) (binary_sound strict) limits bytes (is refl) read meant tables loads
   loaded-read read meant form.Text limits bytes tables is loads =
-      catalog-loaded users_read text_encoding (λ b. Unit {0}) text.reading text_sound limits bytes tt read meant tables loads
+      catalog-loaded users_read (encoding_of strict form.Text) (λ b. Unit {0}) (reading_of strict form.Text) (text_sound strict) limits bytes tt read meant tables loads
 
   pub verdicts_read : CatalogVerdictsAreRead
   verdicts_read limits bytes = verdict-read (form_of bytes) limits bytes (first_byte bytes)
@@ -143,4 +144,4 @@ module _ (binary_sound : BinaryIsSound) (text_sound : TextIsSound) (users_read :
 
 pub one_verdict : UsersAreRead → OneCatalogVerdict
 one_verdict users_read limits bytes v w c d =
-    (one_has_verdict users_read (encoding_of (form_of bytes)) (as_catalog limits) (agrees limits) [] limits bytes v w [] [] c d).0
+    (one_has_verdict users_read (encoding_of strict (form_of bytes)) (as_catalog limits) (agrees limits) [] limits bytes v w [] [] c d).0

@@ -2,6 +2,8 @@
 use Rattle.std.proofs.Common.{◌≡◌, ℕ, zero, suc, ◌-◌, ◌≤◌, List, [], ◌∷◌, ◌++◌, map, Option, Some, None, option_map, IfSome, ap, ◌∙◌, subst, append_assoc, append-nil, arith}
 use Rattle.std.specs.List.{AllByRecursion}
 use Rattle.ion_meter.specs.declared.limits.Limits.{Limits}
+use Rattle.ion_meter.specs.declared.profile.Profile.{Profile}
+use Rattle.ion_meter.specs.Rules.{rules}
 use Rattle.ion_value.specs.Reading.{Finished, items_of, Step, Ends, Stops, Gives, GoesOn, next_reading, reading_for}
 use Rattle.ion_value.specs.Value as value
 use Rattle.ion_value.specs.Value.{SymbolAt, UserSymbol, Value, Members, scalar, container, nothing, member, Top, version, tree, Item, PlacedItem, bare_item, value_items, member_items, top_items, map_value, map_members}
@@ -146,20 +148,20 @@ users-no_deeper catalog most (tree first annotations place x ∷ tops) h t =
 
 -- ---- streams
 
-reading-shallow : (f : Form) (limits : Limits) (bytes : List ℕ) → Shallow limits.depth 0 (items_of (reading_of f limits bytes))
+reading-shallow : (profile : Profile) (f : Form) (limits : Limits) (bytes : List ℕ) → Shallow limits.depth 0 (items_of (reading_of profile f limits bytes))
 unfolding binary.reading text.reading
-reading-shallow form.Binary limits bytes =
+reading-shallow profile form.Binary limits bytes =
     let first = binary.start bytes in
-    shallow-reading (binary.step limits) open_in_binary limits.depth (binary-opens limits) (suc (binary.size first)) first
-reading-shallow form.Text limits bytes =
+    shallow-reading (binary.step (rules limits profile)) open_in_binary limits.depth (binary-opens (rules limits profile)) (suc (binary.size first)) first
+reading-shallow profile form.Text limits bytes =
     let first = text.start bytes in
-    shallow-reading (text.step limits) open_in_text limits.depth (text-opens limits) (suc (text.size first)) first
+    shallow-reading (text.step (rules limits profile)) open_in_text limits.depth (text-opens (rules limits profile)) (suc (text.size first)) first
 
 pub what-is-read-is-no-deeper : WhatIsReadIsNoDeeper
-what-is-read-is-no-deeper f catalog limits bytes tops us read are =
-    let items : items_of (reading_of f limits bytes) ≡ top_items tops =
+what-is-read-is-no-deeper profile f catalog limits bytes tops us read are =
+    let items : items_of (reading_of profile f limits bytes) ≡ top_items tops =
     ap items_of read ∙ (items_of-items_then (top_items tops) Finished ∙ append-nil (top_items tops)) in
-    let shallow = subst (λ (is : List PlacedItem). Shallow limits.depth 0 is) items (reading-shallow f limits bytes) in
+    let shallow = subst (λ (is : List PlacedItem). Shallow limits.depth 0 is) items (reading-shallow profile f limits bytes) in
     let all = tops-no_deeper limits.depth tops shallow in (
       all,
       subst (λ (o : Option (List (Top UserSymbol ℕ))). IfSome o (AllByRecursion (IsNoDeeper limits.depth))) are

@@ -1,6 +1,7 @@
 -- Where a run to binary accepts a text, no item was refused, and so its values are within its limits.
 use Rattle.std.proofs.Common.{◌≡◌, ◌⊎◌, inl, inr, ℕ, List, [], ◌∷◌, ◌++◌, None, Some, refl, ap, ap₂, sym, ◌∙◌, subst}
 use Rattle.ion_meter.specs.declared.limits.Limits.{Limits}
+use Rattle.ion_meter.specs.declared.profile.Profile.{Profile}
 use Rattle.ion_value.specs.Outcome.{Verdict, Accepted}
 use Rattle.ion_value.specs.Path.{Path, closed, path_items}
 use Rattle.ion_value.specs.Reading.{Step, Gives, GoesOn}
@@ -75,26 +76,29 @@ record StandsAt (e : Encoding) (bytes : List ℕ) (items : List PlacedItem) (s :
   at : e.At bytes path s
   items_are : items ≡ path_items path
 
-module _ (sound : TextIsSound) (along : FaultlessPathsAreRead) (trees : ItemsAreRefusedAsInTrees) (catalog : List Shared)
+module _ (sound : TextIsSound) (along : FaultlessPathsAreRead) (trees : ItemsAreRefusedAsInTrees) (profile : Profile) (catalog : List Shared)
     (limits : Limits) (bytes : List ℕ) where
-  abbrev Fine : List PlacedItem → text_encoding.State → users.State → List PlacedItem → Type 0
-  Fine items s u mine = Faultless text_encoding (to_binary limits) catalog limits bytes items s u mine
+  abbrev e : Encoding
+  e = text_encoding profile
 
-  followed : (path : Path SymbolAt ℕ) (s : text_encoding.State) (x : Step text_encoding.State) → text_encoding.At bytes path s
-      → text_encoding.step limits s ≡ x → Follows text_encoding bytes path x
-  followed path s x at e =
-      subst (λ (y : Step text_encoding.State). Follows text_encoding bytes path y) e (sound.follows limits bytes path s tt at)
+  abbrev Fine : List PlacedItem → e.State → users.State → List PlacedItem → Type 0
+  Fine items s u mine = Faultless e (to_binary limits) catalog limits bytes items s u mine
 
-  item-stands : (items : List PlacedItem) (item : PlacedItem) (s t : text_encoding.State)
-      → text_encoding.step limits s ≡ Gives item t → StandsAt text_encoding bytes items s
-      → StandsAt text_encoding bytes (items ++ item ∷ []) t
+  followed : (path : Path SymbolAt ℕ) (s : e.State) (x : Step e.State) → e.At bytes path s
+      → e.step limits s ≡ x → Follows e bytes path x
+  followed path s x at is =
+      subst (λ (y : Step e.State). Follows e bytes path y) is ((sound profile).follows limits bytes path s tt at)
+
+  item-stands : (items : List PlacedItem) (item : PlacedItem) (s t : e.State)
+      → e.step limits s ≡ Gives item t → StandsAt e bytes items s
+      → StandsAt e bytes (items ++ item ∷ []) t
   item-stands items item s t step r =
       let f = followed r.path s (Gives item t) r.at step in
       record { path = f.0; at = f.1; items_are = ap (λ (is : List PlacedItem). is ++ item ∷ []) r.items_are ∙ sym f.2 }
 
-  stands-at : (items mine : List PlacedItem) (s : text_encoding.State) (u : users.State) → Fine items s u mine
-      → StandsAt text_encoding bytes items s
-  stands-at _ _ _ _ nothing = record { path = closed []; at = sound.starts bytes; items_are = refl }
+  stands-at : (items mine : List PlacedItem) (s : e.State) (u : users.State) → Fine items s u mine
+      → StandsAt e bytes items s
+  stands-at _ _ _ _ nothing = record { path = closed []; at = (sound profile).starts bytes; items_are = refl }
   stands-at _ _ _ _ (goes_on items mine s t u prev step) =
       let r = stands-at items mine s u prev in
       record { path = r.path; at = followed r.path s (GoesOn t) r.at step; items_are = r.items_are }
@@ -104,16 +108,16 @@ module _ (sound : TextIsSound) (along : FaultlessPathsAreRead) (trees : ItemsAre
       item-stands items item s t step (stands-at items mine s u prev)
 
   -- and their user items are those of a path of user values
-  user-along : (items mine : List PlacedItem) (s : text_encoding.State) (u : users.State) → Fine items s u mine
+  user-along : (items mine : List PlacedItem) (s : e.State) (u : users.State) → Fine items s u mine
       → (up : Path UserSymbol ℕ) × (user_items mine ≡ path_items up)
   user-along items mine s u fine =
       let r = stands-at items mine s u fine in
       let moved = subst (λ (is : List PlacedItem). Fine is s u mine) r.items_are fine in
-      let a = along form.Text target.Binary catalog limits bytes r.path mine s u moved in
+      let a = along profile form.Text target.Binary catalog limits bytes r.path mine s u moved in
       (a.user_path, a.items)
 
   -- so none of these is refused item by item either
-  none-refused : (items mine : List PlacedItem) (s : text_encoding.State) (u : users.State) → Fine items s u mine
+  none-refused : (items mine : List PlacedItem) (s : e.State) (u : users.State) → Fine items s u mine
       → NoneIsRefused limits mine
   none-refused _ _ _ _ nothing = no-items limits
   none-refused _ _ _ _ (goes_on items mine s t u prev step) = none-refused items mine s u prev
@@ -128,13 +132,13 @@ module _ (sound : TextIsSound) (along : FaultlessPathsAreRead) (trees : ItemsAre
   -- ---- an accepted run
 
   pub within : UsersAreRead → NoneIsRefusedWithin → OneStream → (v : Verdict) (written : List ℕ) (n : ℕ) → v ≡ Accepted n
-      → HasVerdictFrom text_encoding (to_binary limits) catalog limits bytes v written
-      → (tops : List (Top SymbolAt ℕ)) (us : List (Top UserSymbol ℕ)) → text_encoding.Stream bytes tops
+      → HasVerdictFrom e (to_binary limits) catalog limits bytes v written
+      → (tops : List (Top SymbolAt ℕ)) (us : List (Top UserSymbol ℕ)) → e.Stream bytes tops
       → user_tops catalog system tops ≡ Some us → AreWithin limits [] us
   within users_read law one v written n is (whole others vs mine s u stream fine ends are) tops us st users =
       let same : others ≡ tops = one bytes others tops stream st in
-      let prefix = faultless-prefixes text_encoding (to_binary limits) catalog limits bytes (top_items others) s u mine fine in
-      let read = faultless-tops text_encoding (to_binary limits) catalog limits users_read bytes others s u mine prefix ends in
+      let prefix = faultless-prefixes e (to_binary limits) catalog limits bytes (top_items others) s u mine fine in
+      let read = faultless-tops e (to_binary limits) catalog limits users_read bytes others s u mine prefix ends in
       let found : read.0 ≡ us = some-same read.0 us (sym read.1 ∙ (ap (user_tops catalog system) same ∙ users)) in
       (law limits mine us (read.2 ∙ ap top_items found)).0 (none-refused (top_items others) mine s u fine)
   within users_read law one v written n is (refused path mine s u reason place at faultless fault) tops us st users =

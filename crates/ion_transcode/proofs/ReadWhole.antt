@@ -1,6 +1,7 @@
 -- A stream that is accepted is read to its end, its symbols are resolved, and the writer refuses nothing of its user values.
 use Rattle.std.proofs.Common.{◌≡◌, ℕ, suc, ◌+◌, List, length, Option, Some, refl, ap, sym, ◌∙◌, subst, arith}
 use Rattle.ion_meter.specs.declared.limits.Limits.{Limits}
+use Rattle.ion_meter.specs.declared.profile.Profile.{Profile}
 use Rattle.ion_value.proofs.Readings.{reading_for-enough}
 use Rattle.ion_value.specs.Outcome.{Verdict, Accepted}
 use Rattle.ion_value.specs.Path.{closed, path_items}
@@ -12,10 +13,8 @@ use Rattle.ion_symbols.specs.Table.{Shared, system}
 use Rattle.ion_symbols.specs.Tree.{user_tops}
 use Rattle.ion_symbols.specs.Users as users
 use Rattle.ion_symbols.specs.Users.{at_start}
-use Rattle.ion_binary.specs.Reading as binary
 use Rattle.ion_binary.specs.Refusals.{ItemsAreRefusedAsInTrees, NoneIsRefusedWithin}
 use Rattle.ion_text_in.specs.Laws.{OneStream}
-use Rattle.ion_text_in.specs.Reading as text
 use Rattle.ion_transcode.specs.declared.to.Form.{Form}
 use Rattle.ion_transcode.specs.declared.to.Form.TheVariants as form
 use Rattle.ion_transcode.specs.declared.to.Target.{Target}
@@ -85,11 +84,11 @@ module _ (e : Encoding) (IsOf : List ℕ → Type 0) (reading : Limits → List 
 -- ---- by the form of a stream
 
 module _ (binary_sound : BinaryIsSound) (text_sound : TextIsSound) (law : WhatIsAcceptedIsResolved) (users_read : UsersAreRead) (along : FaultlessPathsAreRead)
-    (trees : ItemsAreRefusedAsInTrees) (none : NoneIsRefusedWithin) (one : OneStream) (catalog : List Shared) (limits : Limits) where
-  whole-as : (f : Form) (t : Target) (bytes : List ℕ) (n : ℕ) (out : List ℕ) → HasVerdictFrom (encoding_of f) (outputs_of t limits) catalog limits bytes (Accepted n) out
-      → IsWhole (encoding_of f) (outputs_of t limits) catalog limits bytes (reading_of f) n out
-  whole-as form.Binary t bytes n out v = whole-by binary_encoding IsBinary binary.reading binary_sound (outputs_of t limits) catalog limits bytes law (Accepted n) out n refl v
-  whole-as form.Text t bytes n out v = whole-by text_encoding (λ b. Unit {0}) text.reading text_sound (outputs_of t limits) catalog limits bytes law (Accepted n) out n refl v
+    (trees : ItemsAreRefusedAsInTrees) (none : NoneIsRefusedWithin) (one : OneStream) (profile : Profile) (catalog : List Shared) (limits : Limits) where
+  whole-as : (f : Form) (t : Target) (bytes : List ℕ) (n : ℕ) (out : List ℕ) → HasVerdictFrom (encoding_of profile f) (outputs_of t limits) catalog limits bytes (Accepted n) out
+      → IsWhole (encoding_of profile f) (outputs_of t limits) catalog limits bytes (reading_of profile f) n out
+  whole-as form.Binary t bytes n out v = whole-by (binary_encoding profile) IsBinary (reading_of profile form.Binary) (binary_sound profile) (outputs_of t limits) catalog limits bytes law (Accepted n) out n refl v
+  whole-as form.Text t bytes n out v = whole-by (text_encoding profile) (λ b. Unit {0}) (reading_of profile form.Text) (text_sound profile) (outputs_of t limits) catalog limits bytes law (Accepted n) out n refl v
 
   -- binary is written of text alone
   no-binary : (to : To) → resolved form.Binary to ≡ Some target.Binary → ⊥
@@ -99,22 +98,22 @@ module _ (binary_sound : BinaryIsSound) (text_sound : TextIsSound) (law : WhatIs
   no-binary to.Other e = absurd (cc e)
 
   taken-as : (f : Form) (to : To) (t : Target) (bytes : List ℕ) (n : ℕ) (out : List ℕ) → resolved f to ≡ Some t
-      → HasVerdictFrom (encoding_of f) (outputs_of t limits) catalog limits bytes (Accepted n) out
-      → (tops : List (Top SymbolAt ℕ)) (us : List (Top UserSymbol ℕ)) → (encoding_of f).Stream bytes tops → user_tops catalog system tops ≡ Some us → AreTaken t limits us
+      → HasVerdictFrom (encoding_of profile f) (outputs_of t limits) catalog limits bytes (Accepted n) out
+      → (tops : List (Top SymbolAt ℕ)) (us : List (Top UserSymbol ℕ)) → (encoding_of profile f).Stream bytes tops → user_tops catalog system tops ≡ Some us → AreTaken t limits us
   taken-as f to target.Text bytes n out to_is v tops us stream users_are = tt
   taken-as form.Binary to target.Binary bytes n out to_is v tops us stream users_are = absurd (no-binary to to_is)
   taken-as form.Text to target.Binary bytes n out to_is v tops us stream users_are =
-      within text_sound along trees catalog limits bytes users_read none one (Accepted n) out n refl v tops us stream users_are
+      within text_sound along trees profile catalog limits bytes users_read none one (Accepted n) out n refl v tops us stream users_are
   taken-as f to target.Nothing bytes n out to_is v tops us stream users_are = tt
 
 pub what-is-accepted-is-read : BinaryIsSound → TextIsSound → WhatIsAcceptedIsResolved → UsersAreRead → FaultlessPathsAreRead → ItemsAreRefusedAsInTrees → NoneIsRefusedWithin
     → OneStream → WhatIsAcceptedIsRead
-what-is-accepted-is-read binary_sound text_sound law users_read along trees none one catalog limits to bytes t n out to_is v =
+what-is-accepted-is-read binary_sound text_sound law users_read along trees none one profile catalog limits to bytes t n out to_is v =
     let f : Form = form_of bytes in
-    let from : HasVerdictFrom (encoding_of f) (outputs_of t limits) catalog limits bytes (Accepted n) out =
-    subst (λ (r : Option Target). HasVerdictAs r f catalog limits bytes (Accepted n) out) to_is v
+    let from : HasVerdictFrom (encoding_of profile f) (outputs_of t limits) catalog limits bytes (Accepted n) out =
+    subst (λ (r : Option Target). HasVerdictAs profile r f catalog limits bytes (Accepted n) out) to_is v
     in
-    let w = whole-as binary_sound text_sound law users_read along trees none one catalog limits f t bytes n out from in
+    let w = whole-as binary_sound text_sound law users_read along trees none one profile catalog limits f t bytes n out from in
     record {
       tops = w.tops;
       us = w.us;
@@ -122,7 +121,7 @@ what-is-accepted-is-read binary_sound text_sound law users_read along trees none
       read = w.read;
       resolved_are = w.resolved_are;
       users_are = w.users_are;
-      taken = taken-as binary_sound text_sound law users_read along trees none one catalog limits f to t bytes n out to_is from w.tops w.us w.stream w.users_are;
+      taken = taken-as binary_sound text_sound law users_read along trees none one profile catalog limits f to t bytes n out to_is from w.tops w.us w.stream w.users_are;
       count = w.count;
       output = w.output;
     }

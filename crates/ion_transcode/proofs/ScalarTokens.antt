@@ -1,13 +1,15 @@
 -- The text of each scalar is a token that means it.
-use Rattle.std.proofs.Common.{◌≡◌, ℕ, suc, ◌+◌, ◌*◌, ◌/◌, ◌%◌, ◌-◌, zero, replicate, slice_index, ◌<◌, ◌≤◌, true, false, List, [], ◌∷◌, All, length, refl, ap, ◌∙◌, arith}
+use Rattle.std.proofs.Common.{◌≡◌, ℕ, suc, ◌+◌, ◌*◌, ◌/◌, ◌%◌, ◌-◌, zero, replicate, slice_index, ◌<◌, ◌≤◌, true, false, List, [], ◌∷◌, Some, All, length, refl, ap, ◌∙◌, arith}
 use Rattle.std.specs.List.{AllByRecursion, flat_map}
 use Rattle.std.proofs.lemmas.Str.{is_utf8-from_IsUtf8}
 use Rattle.std.proofs.lemmas.Bool.{agree_below_at}
 use Rattle.std.proofs.lemmas.List.Elements.{All-nil, All-cons}
+use lib.Ieee.{Float}
 use Rattle.base64.specs.Rfc4648.{encode_symbols, padding_len}
 use Rattle.base64.specs.Engines.{standard}
 use Rattle.base64.specs.GeneralPurpose.{encode_of}
-use Rattle.ion_meter.specs.declared.limits.Limits.{Limits}
+use Rattle.ion_meter.specs.declared.profile.Rules.{Rules}
+use Rattle.ion_value.specs.FloatText.{float_text}
 use Rattle.ion_value.specs.Standing.{InRange}
 use Rattle.ion_value.specs.Value as value
 use Rattle.ion_value.specs.Value.{SymbolAt, UserSymbol, Scalar, map_scalar}
@@ -18,26 +20,32 @@ use Rattle.ion_value.specs.Writable.{scalar_symbols, HasText, IsText, AreBytes, 
 use Rattle.ion_text_in.specs.Blanks.{is_white}
 use Rattle.ion_text_in.specs.Beginnings.{EndsIdentifier, EndsNumber}
 use Rattle.ion_text_in.specs.Meaning.{Anything, counts, EndsNull, Means, solid}
-use Rattle.ion_text_in.specs.Token.{plain, text}
+use Rattle.ion_text_in.specs.Token.{plain, float, text}
 use Rattle.ion_text_out.specs.Escape.{byte_text}
 use Rattle.ion_text_out.specs.Text.{scalar_text}
 use Rattle.ion_transcode.specs.ShownAgain.{ScalarFits}
-use Rattle.ion_transcode.proofs.AfterValues.{After, AfterSymbol, ends-number, ends-identifier, ends-null}
+use Rattle.ion_transcode.proofs.AfterValues.{After, AfterSymbol, ends-number, ends-identifier, ends-null, ends-float}
 use Rattle.ion_transcode.proofs.QuotedBytes.{Quotes, chars-are}
-use Rattle.ion_transcode.proofs.ShortTexts.{null-short, bool-short, int-short, decimal-short, timestamp-short}
+use Rattle.ion_transcode.proofs.ShortTexts.{null-short, bool-short, int-short, decimal-short, float-short, timestamp-short}
 use Rattle.ion_transcode.proofs.SymbolTokens.{TextLaws, IsToken, means-token, SymbolIs, symbol-is}
 use Rattle.ion_transcode.proofs.Utf8Bytes.{utf8-bytes, all-append}
 
 -- the token of a scalar counts no more than limits allow that the scalar fits
 abbrev Counted : Scalar UserSymbol → Scalar SymbolAt → Type 0
 Counted body raw =
-    (limits : Limits) → 64 ≤ limits.scalar → ScalarFits limits body → (p : ℕ)
+    (limits : Rules) → 64 ≤ limits.scalar → ScalarFits limits body → (p : ℕ)
     → counts (plain raw) p (p + length (scalar_text body)) ≤ limits.scalar
 
--- what a scalar's text is in the grammar: the token of a plain value, a string, or a symbol
+-- so is that of a float
+abbrev FloatCounted : Float → Type 0
+FloatCounted x =
+    (limits : Rules) → 64 ≤ limits.scalar → (p : ℕ) → counts (float (Some x)) p (p + length (float_text x)) ≤ limits.scalar
+
+-- what a scalar's text is in the grammar: the token of a plain value, a float, a string, or a symbol
 pub data ScalarIs : Scalar UserSymbol → Type 0 where
   a_plain : {body : Scalar UserSymbol} (raw : Scalar SymbolAt) → IsToken After (scalar_text body) (plain raw)
       → ((t : Table) → map_scalar (user_at t) raw ≡ body) → ScalarStands system raw → Counted body raw → ScalarIs body
+  a_float : (x : Float) → IsToken After (float_text x) (float (Some x)) → FloatCounted x → ScalarIs (value.float x)
   a_string : (bytes : List ℕ) → IsToken After (scalar_text (value.string bytes)) (text bytes) → ScalarIs (value.string bytes)
   a_symbol : (s : UserSymbol) → SymbolIs s → ScalarIs (value.symbol s)
 
@@ -115,6 +123,10 @@ scalar-is laws (value.int i) range utf8 small texts =
     let ends = λ (rest : List ℕ) (b : After rest). ends-number laws.numbers_end rest b in
     plain-is _ (value.int i) _ EndsNumber ends (laws.ints i range) (λ u. refl) tt
     (λ limits wide fits p. short-counted limits.scalar p _ wide (int-short i range))
+scalar-is laws (value.float x) range utf8 small texts =
+    let ends = λ (rest : List ℕ) (b : After rest). ends-float laws.numbers_end laws.identifiers_end x rest b in
+    a_float x (means-token _ _ After _ _ refl ends (laws.floats x range))
+    (λ limits wide p. short-counted limits.scalar p _ wide (float-short x range))
 scalar-is laws (value.decimal d) range utf8 small texts =
     let ends = λ (rest : List ℕ) (b : After rest). ends-number laws.numbers_end rest b in
     plain-is _ (value.decimal d) _ EndsNumber ends (laws.decimals d range) (λ u. refl) tt

@@ -1,10 +1,12 @@
 -- The canonical text of a null, a bool, a number or a timestamp has 64 bytes at most.
-use Rattle.std.proofs.Common.{◌≡◌, ℕ, zero, suc, ◌+◌, ◌-◌, ◌*◌, ◌/◌, ◌^◌, ◌<◌, ◌≤◌, ℤ, pos, negsuc, Bool, true, false, ◌==◌, nat_lt, if◌then◌else◌, inl, inr, List, [], ◌∷◌, ◌++◌, length, decimal, Option, None, Some, sym, ap, ◌∙◌, arith, length-append, lit<}
+use Rattle.std.proofs.Common.{◌≡◌, ℕ, zero, suc, ◌+◌, ◌-◌, ◌*◌, ◌/◌, ◌^◌, ◌<◌, ◌≤◌, ℤ, pos, negsuc, Bool, true, false, ◌==◌, nat_lt, if◌then◌else◌, inl, inr, List, [], ◌∷◌, ◌++◌, length, decimal, T, Option, None, Some, sym, ap, ◌∙◌, arith, length-append, lit<}
 use Rattle.std.proofs.lemmas.Bool.{cases_Bool, ltb-true}
 use Rattle.std.proofs.lemmas.Fmt.{length-decimal-le_wide}
 use Rattle.std.proofs.lemmas.Int.{ints}
 use Rattle.std.proofs.lemmas.Nat.{pow-add}
 use Rattle.std.proofs.Math.Nat.{div-lt_iff_lt-mul, pow-le-pow_right}
+use lib.Ieee.{Float, nan, inf, fin, binary64, fits, to_bits}
+use lib.Ieee.Bits.{of_bits-to_bits, to_bits-lt}
 use Rattle.ion_value.specs.declared.decimal.Decimal.{Decimal}
 use Rattle.ion_value.specs.declared.int.Int.{Int}
 use Rattle.ion_value.specs.declared.ion_type.IonType.{IonType}
@@ -14,9 +16,15 @@ use Rattle.ion_value.specs.declared.timestamp.Precision.TheVariants as precision
 use Rattle.ion_value.specs.declared.timestamp.Timestamp.{Timestamp}
 use Rattle.ion_value.specs.Decimal.{IsExponent, IsDecimal, integer_text, pointed_text, power_text, magnitude_text, decimal_text}
 use Rattle.ion_value.specs.Digits.{fixed_digits}
+use Rattle.ion_value.specs.Float.{IsFloat}
+use Rattle.ion_value.specs.FloatText as float
+use Rattle.ion_value.specs.FloatText.{pointed, exponent_of, digits_text}
 use Rattle.ion_value.specs.Int.{IsInt, int_text}
 use Rattle.ion_value.specs.Name.{null_text, bool_text}
+use Rattle.ion_value.specs.Shortest.{shortest}
 use Rattle.ion_value.specs.Timestamp.{KeepsPrecision, IsTimestamp, day_text, minute_text, second_text, minutes_text, offset_text, text_to, timestamp_text}
+use Rattle.ion_float.proofs.FewDigits.{few-digits}
+use Rattle.ion_float.proofs.TextOfBits.{above-zero, digits-short, shortest-row}
 use Rattle.ion_value.proofs.FixedDigits.{length-fixed_digits, pow-pos}
 
 pub null-short : (t : IonType) → length (null_text t) ≤ 64
@@ -109,6 +117,43 @@ decimal-short d is =
     let few = magnitude-short d.coefficient d.exponent is.coefficient is.exponent in
     let signed = signed-short d.negative (magnitude_text d.coefficient d.exponent) 51 few in
     omega (arith, signed)
+
+-- ---- floats
+
+pointed-more : (ds : List ℕ) → length (pointed ds) ≤ suc (length ds)
+pointed-more [] = omega arith
+pointed-more (d ∷ []) = omega arith
+pointed-more (d ∷ f ∷ ds) = omega arith
+
+exponent-within : (count row : ℕ) → count ≤ 17 → row ≤ 651 → IsExponent (exponent_of count row)
+exponent-within count row few within = (omega (arith, ints), omega (arith, ints))
+
+number-short : (n row : ℕ) → n < 10 ^ 17 → row ≤ 651 → length (digits_text (n, row)) ≤ 30
+number-short n row small within =
+    let few = digits-short n small in
+    let after = integer-short (exponent_of (length (decimal n)) row) (exponent-within (length (decimal n)) row few within) in
+    let all = length-append (pointed (decimal n)) (101 ∷ integer_text (exponent_of (length (decimal n)) row)) in
+    omega (arith, all, few, pointed-more (decimal n), after)
+
+unsigned-fits : (s : Bool) (m : ℕ) (e : ℤ) → T (fits binary64 (fin s (suc m) e)) → T (fits binary64 (fin false (suc m) e))
+unfolding fits
+unsigned-fits s m e h = h
+
+finite-short : (s : Bool) (m : ℕ) (e : ℤ) → T (fits binary64 (fin s m e)) → length (float.magnitude_text m e) ≤ 30
+finite-short s zero e h = omega arith
+finite-short s (suc m) e h =
+    let x = fin false (suc m) e in
+    let fit = unsigned-fits s m e h in
+    let b = to_bits binary64 x in
+    let above = above-zero b m e (to_bits-lt binary64 x fit) (of_bits-to_bits binary64 x fit) in
+    number-short (shortest b).0 (shortest b).1 (few-digits b above) (shortest-row b)
+
+pub float-short : (x : Float) → IsFloat x → length (float.float_text x) ≤ 64
+float-short nan h = omega arith
+float-short (inf true) h = omega arith
+float-short (inf false) h = omega arith
+float-short (fin true m e) h = omega (arith, finite-short true m e h)
+float-short (fin false m e) h = omega (arith, finite-short false m e h)
 
 -- ---- timestamps
 

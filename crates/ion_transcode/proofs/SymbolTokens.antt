@@ -4,7 +4,7 @@ use Rattle.std.specs.List.{AllByRecursion, flat_map}
 use Rattle.std.proofs.lemmas.Bool.{false≢true, cases_Bool, and_parts, not-true}
 use Rattle.std.proofs.lemmas.Bool.Decides.{nat_tests}
 use Rattle.std.proofs.lemmas.Str.{is_utf8-from_IsUtf8}
-use Rattle.ion_meter.specs.declared.limits.Limits.{Limits}
+use Rattle.ion_meter.specs.declared.profile.Rules.{Rules}
 use Rattle.ion_meter.specs.Sources.{Cursor}
 use Rattle.ion_value.specs.declared.ion_type.Kind.{Kind}
 use Rattle.ion_value.specs.Name.{is_one_of, is_plain, is_identifier, is_id, is_version, keyword}
@@ -15,10 +15,10 @@ use Rattle.ion_symbols.specs.Tree.{user_at}
 use Rattle.ion_value.specs.Writable.{IsText, AreBytes}
 use Rattle.ion_text_in.specs.Beginnings.{EndsIdentifier, NumbersEnd, IdentifiersEnd, WhatBegins, IsOneOf}
 use Rattle.ion_text_in.specs.Grammar.{IsVersionWord, bare}
-use Rattle.ion_text_in.specs.Meaning.{at, counts, Means, EndsSymbol, Chars, quoted, NullTextIsRead, BoolTextIsRead, PlainSymbolIsRead, IdWordIsRead, IntTextIsRead, DecimalTextIsRead, TimestampTextIsRead, StringTextIsRead, QuotedSymbolIsRead, ClobTextIsRead, Base64IsRead}
+use Rattle.ion_text_in.specs.Meaning.{at, counts, Means, EndsSymbol, Chars, quoted, NullTextIsRead, BoolTextIsRead, PlainSymbolIsRead, IdWordIsRead, IntTextIsRead, DecimalTextIsRead, FloatTextIsRead, TimestampTextIsRead, StringTextIsRead, QuotedSymbolIsRead, ClobTextIsRead, Base64IsRead}
 use Rattle.ion_text_in.specs.Positions as positions
 use Rattle.ion_text_in.specs.Reading as reading
-use Rattle.ion_text_in.specs.Token.{First, a_run, a_word, a_quoted, a_short, a_long, a_lob, an_operator, an_infinity, a_begin, an_end, a_comma, a_colon, two_colons, no_token, first_at, Token, plain, name, text, colon, colons, token_of, token_at}
+use Rattle.ion_text_in.specs.Token.{First, a_run, a_word, a_quoted, a_short, a_long, a_lob, an_operator, an_infinity, a_begin, an_end, a_comma, a_colon, two_colons, no_token, first_at, Token, plain, float, name, text, colon, colons, token_of, token_at}
 use Rattle.ion_text_in.proofs.NumberEnds.{one_of-is}
 use Rattle.ion_text_out.specs.Escape.{byte_text, between_quotes}
 use Rattle.ion_text_out.specs.Text.{symbol_text}
@@ -36,6 +36,7 @@ pub record TextLaws : Type 0 where
   pub bools : BoolTextIsRead
   pub ints : IntTextIsRead
   pub decimals : DecimalTextIsRead
+  pub floats : FloatTextIsRead
   pub timestamps : TimestampTextIsRead
   pub strings : StringTextIsRead
   pub quoted_symbols : QuotedSymbolIsRead
@@ -79,6 +80,7 @@ each-of P _ b all (IsOneOf.other is) = each-of P _ b all.1 is
 -- a token that is a value, a symbol or a text
 abbrev pub speaks : Token → Bool
 speaks (plain body) = true
+speaks (float number) = true
 speaks (name quoted symbol) = true
 speaks (text bytes) = true
 speaks _ = false
@@ -142,7 +144,7 @@ pub record SymbolIs (s : UserSymbol) : Type 0 where
   pub no_version : (k : Option Kind) (annotations : List SymbolAt) → IsVersionWord k annotations quoted symbol → ⊥
   pub stands : SymbolStands system symbol
   pub costs : (place : ℕ) → reading.cost (positions.at symbol place) ≡ cost s
-  pub counted : (limits : Limits) → 64 ≤ limits.scalar → SymbolFits limits s → (p : ℕ)
+  pub counted : (limits : Rules) → 64 ≤ limits.scalar → SymbolFits limits s → (p : ℕ)
       → counts (name quoted symbol) p (p + length (symbol_text s)) ≤ limits.scalar
 
 in-quotes : (s : List ℕ) → AreBytes s → Chars 39 false (flat_map (byte_text 39 256) s) s

@@ -3,6 +3,7 @@ use Rattle.std.proofs.Common.{◌≡◌, ℕ, ◌≤◌, List, [], ◌∷◌, �
 use Rattle.std.proofs.lemmas.List.{map-append}
 use Rattle.ion_meter.specs.declared.fault.Reason.{Reason}
 use Rattle.ion_meter.specs.declared.limits.Limits.{Limits}
+use Rattle.ion_meter.specs.Rules.{strict}
 use Rattle.ion_value.specs.Value.{SymbolAt, UserSymbol, Top, Item, PlacedItem, user_item, user_items, top_items}
 use Rattle.ion_value.specs.Outcome.{Verdict, Accepted}
 use Rattle.ion_symbols.specs.declared.catalog_builder.Stage.TheVariants as stage
@@ -103,16 +104,16 @@ of-tables users_read read meant e limits bytes tops us tables w same users_are a
 
 -- ---- by the form of the stream
 
-written-to-nothing : (f : Form) (limits : Limits) (bytes : List ℕ) (v : Verdict) (out : List ℕ) → HasVerdictAs (resolved f to.Nothing) f [] limits bytes v out
-    → HasVerdictFrom (encoding_of f) to_nothing [] limits bytes v out
+written-to-nothing : (f : Form) (limits : Limits) (bytes : List ℕ) (v : Verdict) (out : List ℕ) → HasVerdictAs strict (resolved f to.Nothing) f [] limits bytes v out
+    → HasVerdictFrom (encoding_of strict f) to_nothing [] limits bytes v out
 written-to-nothing form.Binary limits bytes v out has = has
 written-to-nothing form.Text limits bytes v out has = has
 
 pub tables_are_catalogs : OneSpelling → UsersAreRead → CatalogsAreRead → CatalogsAreTables → TablesAreCatalogs
 tables_are_catalogs once users_read read meant limits bytes tops us tables count out has spelled users_are are cheap =
-    let e = encoding_of (form_of bytes) in
+    let e = encoding_of strict (form_of bytes) in
     let w = whole-of e to_nothing limits bytes (Accepted count) out count (written-to-nothing (form_of bytes) limits bytes (Accepted count) out has) refl in
-    of-tables users_read read meant e limits bytes tops us tables w ((once (form_of bytes)).stream bytes w.tops tops w.spelled spelled) users_are are cheap
+    of-tables users_read read meant e limits bytes tops us tables w ((once strict (form_of bytes)).stream bytes w.tops tops w.spelled spelled) users_are are cheap
 
 -- ---- one catalogue
 
@@ -121,6 +122,6 @@ same-tables o s t is e = ap (λ (r : Option (List Shared)). elim r [ None ↦ s 
 
 pub one_catalog : OneSpelling → OneCatalog
 one_catalog once limits bytes s t a b =
-    let tops : a.tops ≡ b.tops = (once (form_of bytes)).stream bytes a.tops b.tops a.spelled b.spelled in
+    let tops : a.tops ≡ b.tops = (once strict (form_of bytes)).stream bytes a.tops b.tops a.spelled b.spelled in
     let values : a.values ≡ b.values = same-values (user_tops [] system b.tops) b.values a.values b.users_are (sym (ap (user_tops [] system) tops) ∙ a.users_are) in
     same-tables (tables_of b.values) s t (sym (ap tables_of values) ∙ a.tables_are) b.tables_are

@@ -5,7 +5,8 @@ use Rattle.std.specs.List.{AllByRecursion}
 use Rattle.std.proofs.lemmas.Bool.Decides.{nat_tests}
 use Rattle.std.proofs.lemmas.List.{map-append}
 use Rattle.std.proofs.lemmas.Iterator.Adapters.{option_map_id}
-use Rattle.ion_meter.specs.declared.limits.Limits.{Limits}
+use Rattle.ion_meter.specs.declared.profile.Rules.{Rules}
+use Rattle.ion_meter.specs.Rules.{rules}
 use Rattle.ion_meter.specs.Sources.{Cursor}
 use Rattle.ion_value.specs.declared.ion_type.Kind.TheVariants as kind
 use Rattle.ion_value.specs.Items.{named, text_or_id}
@@ -96,7 +97,7 @@ record Sofar (catalog : List Shared) (start : Cursor) (done : List (Top UserSymb
   same : map unplaced_top users ≡ map unplaced_top done
   resolved : (limit : ℕ) (more : List (Top SymbolAt ℕ)) → AreResolved catalog limit system more
       → AreResolved catalog limit system (raw ++ more)
-  within : (limits : Limits) → 64 ≤ limits.scalar → AllByRecursion (FitsText limits) done
+  within : (limits : Rules) → 64 ≤ limits.scalar → AllByRecursion (FitsText limits) done
       → AllByRecursion (IsNoDeeper limits.depth) done → TopsWithin limits spells
 
 line-join : (a b rest : List ℕ) → (a ++ (b ++ codes "\n")) ++ rest ≡ a ++ (b ++ (10 ∷ rest))
@@ -133,6 +134,7 @@ scalar-then : (f : SymbolAt → UserSymbol) (v : Scalar SymbolAt)
 scalar-then f (value.null t) = refl
 scalar-then f (value.bool truth) = refl
 scalar-then f (value.int number) = refl
+scalar-then f (value.float number) = refl
 scalar-then f (value.decimal number) = refl
 scalar-then f (value.timestamp moment) = refl
 scalar-then f (value.symbol s) = refl
@@ -253,7 +255,7 @@ record TextSpells (catalog : List Shared) (tops : List (Top UserSymbol ℕ)) : T
   users_are : user_tops catalog system raw ≡ Some users
   same : map unplaced_top users ≡ map unplaced_top tops
   resolved : (limit : ℕ) → AreResolved catalog limit system raw
-  within : (limits : Limits) → 64 ≤ limits.scalar → AllByRecursion (FitsText limits) tops
+  within : (limits : Rules) → 64 ≤ limits.scalar → AllByRecursion (FitsText limits) tops
       → AllByRecursion (IsNoDeeper limits.depth) tops → TopsWithin limits stream.spells
 
 text-spells : TextLaws → (catalog : List Shared) (tops : List (Top UserSymbol ℕ)) → AreUsers tops → TextSpells catalog tops
@@ -284,13 +286,13 @@ text-is-read laws catalog tops users =
     record { raw = r.raw; users = r.users; form = r.form; stream = r.stream; users_are = r.users_are; same = r.same }
 
 pub text-is-read-within : TextLaws → StreamsWithinAreRead → TextIsReadWithin
-text-is-read-within laws within_are_read catalog limits tops wide users deep fits =
+text-is-read-within laws within_are_read profile catalog limits tops wide users deep fits =
     let r = text-spells laws catalog tops users in
     record {
       raw = r.raw;
       users = r.users;
       form = r.form;
-      read = within_are_read limits (text tops) r.raw r.stream (r.within limits wide fits deep);
+      read = within_are_read (rules limits profile) (text tops) r.raw r.stream (r.within (rules limits profile) wide fits deep);
       resolved = r.resolved limits.symbols;
       users_are = r.users_are;
       same = r.same;

@@ -6,6 +6,8 @@ use Prim.Native.String.{String}
 use lib.Utf8.{encode}
 use Rattle.ion_meter.specs.declared.fault.Reason.TheVariants.{BadVersion, BadToken, BadNumber, BadText, BadLob, BadAnnotation, Truncated, Range, Float, UnknownSymbol, SameForm, DepthLimit, ScalarLimit, ValueLimit, SymbolLimit}
 use Rattle.ion_meter.specs.declared.limits.Limits.{Limits}
+use Rattle.ion_meter.specs.declared.profile.Profile.{Profile}
+use Rattle.ion_meter.specs.Rules.{strict}
 use Rattle.ion_value.specs.Digits.{cut_at, fixed_digits}
 use Rattle.ion_value.specs.Number.{digits_within, var_cut}
 use Rattle.ion_value.specs.Int.{int_of_text}
@@ -34,10 +36,15 @@ use Rattle.ion_transcode.specs.ByItem.{verdict_for, output_for}
 abbrev pub usual : Limits
 usual = record { depth = 64; scalar = 1048576; symbols = 1048576; value = 16777216; input = 281474976710656 }
 
--- what a run writes of these bytes, and its verdict
-unfoldable pub told : List Shared → Limits → To → List ℕ → List ℕ × Verdict
+-- what a run with a profile writes of these bytes, and its verdict
+unfoldable pub told_with : Profile → List Shared → Limits → To → List ℕ → List ℕ × Verdict
 unfolding is_utf8 chars digits encode cut_at fixed_digits digits_within int_of_text decimal_of_text parts_of timestamp_of_text timestamp_text minute_number utc_of local_of scalar_of_run run_of blanks_at in_line opening in_block closing hex_after piece_at pieces_for segment_at segments_for group_of groups_for lob_at first_at word_token token_of may_come tells_version take part_at text.step text.reading octet_at var_at var_uint_at length_at shape_of marker_at bare_at nop_pad_at body_at scalar_at begin_at container_at sorted_at read_by_descriptor typed_value_at wrapper_at ids_at plain_at inner_at annotated_at value_at member_at binary.step binary.reading scalar_of_body decimal_of_bytes var_cut fields_cut timestamp_of_bytes decimal_body timestamp_body id_in with_symbol declaration is_over
-told catalog limits to bytes = (output_for catalog limits to bytes, verdict_for catalog limits to bytes)
+told_with profile catalog limits to bytes = (output_for profile catalog limits to bytes, verdict_for profile catalog limits to bytes)
+
+-- those of a run where no profile is given
+unfoldable pub told : List Shared → Limits → To → List ℕ → List ℕ × Verdict
+unfolding told_with
+told catalog limits to bytes = told_with strict catalog limits to bytes
 
 -- octets by their hexadecimal digits, with a space between two of them
 abbrev hex_value : ℕ → ℕ

@@ -3,6 +3,7 @@ use Rattle.std.specs.Prelude.{⊤}
 use Rattle.std.proofs.Common.{◌≡◌, ℕ, List, [], ◌∷◌, Option, Some, None, refl, ap, sym, ◌∙◌, subst}
 use Rattle.ion_meter.specs.declared.fault.Reason.{Reason}
 use Rattle.ion_meter.specs.declared.limits.Limits.{Limits}
+use Rattle.ion_meter.specs.declared.profile.Profile.{Profile}
 use Rattle.ion_value.specs.Value.{SymbolAt, UserSymbol, Members, Top, PlacedItem, top_items, user_items}
 use Rattle.ion_value.specs.Path.{Path, Nest, closed, opened, path_items}
 use Rattle.ion_value.specs.Reading.{Reading, Finished, More, items_then, Step, Ends, Stops, Gives, GoesOn}
@@ -72,9 +73,9 @@ module _ (users_read : UsersAreRead) (open_users_read : OpenUsersAreRead) where
       users-open catalog tops r.0 r.1 first nest mine r.2 r.3 r.4 r.5 (open_declaration r.1 nest) refl
 
   pub faultless_paths_are_read : FaultlessPathsAreRead
-  faultless_paths_are_read form target catalog limits bytes path mine s u faultless =
+  faultless_paths_are_read profile form target catalog limits bytes path mine s u faultless =
       users-along catalog limits.symbols path mine
-      (faultless-users (encoding_of form) (outputs_of target limits) catalog limits bytes (path_items path) s u mine faultless Finished)
+      (faultless-users (encoding_of profile form) (outputs_of target limits) catalog limits bytes (path_items path) s u mine faultless Finished)
 
 -- ---- what is refused
 
@@ -104,9 +105,9 @@ next_fault-same : (e : Encoding) (catalog : List Shared) (limits : Limits) (s : 
 next_fault-same e catalog limits s u a b same =
     step_fault-same _ _ (λ item. step_fault-same a b same (user_step catalog limits.symbols u item)) (e.step limits s)
 
-module _ (read : FaultlessPathsAreRead) (texts : PathTextIsThatOfItems) (form : Form) (to : Target) (catalog : List Shared) (limits : Limits) (bytes : List ℕ) where
+module _ (read : FaultlessPathsAreRead) (texts : PathTextIsThatOfItems) (profile : Profile) (form : Form) (to : Target) (catalog : List Shared) (limits : Limits) (bytes : List ℕ) where
   abbrev e : Encoding
-  e = encoding_of form
+  e = encoding_of profile form
 
   -- what there is after a path that is faultless
   refused-after : (path : Path SymbolAt ℕ) (mine : List PlacedItem) (s : e.State) (u : users.State) (reason : Reason) (place : ℕ)
@@ -114,7 +115,7 @@ module _ (read : FaultlessPathsAreRead) (texts : PathTextIsThatOfItems) (form : 
       → next_fault e ((outputs_of to limits).refusal mine) catalog limits s u ≡ Some (reason, place)
       → IsRefusedOutput e to catalog limits bytes reason place ((outputs_of to limits).open_output mine)
   refused-after path mine s u reason place at faultless fault =
-      let along = read form to catalog limits bytes path mine s u faultless in
+      let along = read profile form to catalog limits bytes path mine s u faultless in
       record {
         path = path;
         user_path = along.user_path;
@@ -138,6 +139,6 @@ module _ (read : FaultlessPathsAreRead) (texts : PathTextIsThatOfItems) (form : 
   refused-as _ _ (refused path mine s u reason place at faultless fault) = refused-after path mine s u reason place at faultless fault
 
 pub refused_output_is_that_of_a_path : FaultlessPathsAreRead → PathTextIsThatOfItems → RefusedOutputIsThatOfAPath
-refused_output_is_that_of_a_path read texts catalog limits to bytes target reason place out is has =
-    refused-as read texts (form_of bytes) target catalog limits bytes (Rejected reason place) out
-    (subst (λ r. HasVerdictAs r (form_of bytes) catalog limits bytes (Rejected reason place) out) is has)
+refused_output_is_that_of_a_path read texts profile catalog limits to bytes target reason place out is has =
+    refused-as read texts profile (form_of bytes) target catalog limits bytes (Rejected reason place) out
+    (subst (λ r. HasVerdictAs profile r (form_of bytes) catalog limits bytes (Rejected reason place) out) is has)

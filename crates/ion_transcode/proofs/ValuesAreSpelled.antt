@@ -5,11 +5,12 @@ use Rattle.std.specs.Bool.{⊤}
 use Rattle.std.proofs.lemmas.Bool.{false≢true, true≢false}
 use Rattle.std.proofs.lemmas.Iterator.Adapters.{option_map_id}
 use Rattle.std.proofs.lemmas.List.Sums.{sum_by-cons}
-use Rattle.ion_meter.specs.declared.limits.Limits.{Limits}
+use Rattle.ion_meter.specs.declared.profile.Rules.{Rules}
 use Rattle.ion_meter.specs.Sources.{Cursor}
 use Rattle.ion_value.specs.declared.ion_type.Kind.{Kind}
 use Rattle.ion_value.specs.declared.ion_type.Kind.TheVariants as kind
 use Rattle.ion_value.specs.Digits.{first_is}
+use Rattle.ion_value.specs.FloatText.{float_text}
 use Rattle.ion_value.specs.Standing.{in_struct}
 use Rattle.ion_value.specs.Value as value
 use Rattle.ion_value.specs.Value.{SymbolAt, UserSymbol, Known, Unknown, Scalar, Value, Members, scalar, container, nothing, member, map_scalar, map_value, map_members, no_place}
@@ -22,7 +23,7 @@ use Rattle.ion_text_in.specs.Meaning.{at}
 use Rattle.ion_text_in.specs.Positions as positions
 use Rattle.ion_text_in.specs.Positions.{is_sexp, in_sexp, has_commas}
 use Rattle.ion_text_in.specs.Reading as reading
-use Rattle.ion_text_in.specs.Token.{Token, plain, name, text}
+use Rattle.ion_text_in.specs.Token.{Token, plain, float, name, text}
 use Rattle.ion_text_in.specs.Within.{NamesWithin, AnnotationsWithin, FieldWithin, TxtWithin, InsideWithin}
 use Rattle.ion_text_out.specs.Text.{symbol_text, scalar_text, field_text, annotation_text, opener, closer, before_next, is_empty, value_text, members_text}
 use Rattle.ion_transcode.specs.Depth.{ValueIsNoDeeper, MembersAreNoDeeper}
@@ -30,7 +31,7 @@ use Rattle.ion_transcode.specs.ShownAgain.{SymbolFits, ScalarFits, cost, Annotat
 use Rattle.ion_transcode.proofs.AfterValues.{starts, After, AfterSymbol, no-colons}
 use Rattle.ion_transcode.proofs.TokensInText.{Gap, no_gap, a_space, counts-there, stands, comma-stands, colons-stand, colon-stands, end-stands, begin-stands, opener-starts, Opens, no-brace}
 use Rattle.ion_transcode.proofs.SymbolTokens.{TextLaws, token-begins, symbol-is}
-use Rattle.ion_transcode.proofs.ScalarTokens.{ScalarIs, a_plain, a_string, a_symbol, scalar-is}
+use Rattle.ion_transcode.proofs.ScalarTokens.{ScalarIs, a_plain, a_float, a_string, a_symbol, scalar-is}
 use Rattle.ion_transcode.proofs.Utf8Bytes.{all-left, all-right}
 
 -- ---- symbols of a value, in part
@@ -70,33 +71,33 @@ abbrev pub annotations_text : List UserSymbol → List ℕ
 annotations_text ss = flat_map annotation_text ss
 
 -- annotations that are within limits, where these allow that they fit
-record NamesRead (Fit : Limits → Type 0) (sexp : Bool) (c : Cursor) (own : List SymbolAt) (d : Cursor) : Type 0 where
+record NamesRead (Fit : Rules → Type 0) (sexp : Bool) (c : Cursor) (own : List SymbolAt) (d : Cursor) : Type 0 where
   spells : Annotations sexp c own d
-  within : (limits : Limits) → Fit limits → NamesWithin limits spells
+  within : (limits : Rules) → Fit limits → NamesWithin limits spells
 
-no-names : (Fit : Limits → Type 0) (sexp : Bool) (c : Cursor) → NamesRead Fit sexp c [] c
+no-names : (Fit : Rules → Type 0) (sexp : Bool) (c : Cursor) → NamesRead Fit sexp c [] c
 no-names Fit sexp c = record { spells = Annotations.nothing; within = λ limits fits. tt }
 
 -- the limit on scalars is 64 or more, and each of these symbols fits
-abbrev EachFits : Limits → List UserSymbol → Type 0
+abbrev EachFits : Rules → List UserSymbol → Type 0
 EachFits limits ss = (64 ≤ limits.scalar) × AllByRecursion (SymbolFits limits) ss
 
 -- so it is where together they cost no more than the limit
-each-fits : (limits : Limits) (ss : List UserSymbol) → sum_by cost ss ≤ limits.scalar → AllByRecursion (SymbolFits limits) ss
+each-fits : (limits : Rules) (ss : List UserSymbol) → sum_by cost ss ≤ limits.scalar → AllByRecursion (SymbolFits limits) ss
 each-fits limits [] fit = tt
 each-fits limits (Known t ∷ ss) fit =
     let all = sum_by-cons cost (Known t) ss in
     (omega (arith, fit, all), each-fits limits ss (omega (arith, fit, all)))
 each-fits limits (Unknown ∷ ss) fit = (tt, each-fits limits ss (omega (arith, fit, sum_by-cons cost Unknown ss)))
 
-abbrev NotesFit : List UserSymbol → Limits → Type 0
+abbrev NotesFit : List UserSymbol → Rules → Type 0
 NotesFit ss limits = (64 ≤ limits.scalar) × AnnotationsFit limits ss
 
-notes-fit : (ss : List UserSymbol) (limits : Limits) → NotesFit ss limits → EachFits limits ss
+notes-fit : (ss : List UserSymbol) (limits : Rules) → NotesFit ss limits → EachFits limits ss
 notes-fit ss limits fits = (fits.0, each-fits limits ss fits.1)
 
 -- annotations after others, and what stands between them and what follows
-record AnnotationsRead (Fit : Limits → Type 0) (sexp : Bool) (c : Cursor) (done : List SymbolAt) (ss : List UserSymbol)
+record AnnotationsRead (Fit : Rules → Type 0) (sexp : Bool) (c : Cursor) (done : List SymbolAt) (ss : List UserSymbol)
     (rest : List ℕ) : Type 0 where
   own : List SymbolAt
   gap : List ℕ
@@ -114,8 +115,8 @@ annotation-join s ss gap rest =
     let second = append_assoc (symbol_text s) (codes "::") (annotations_text ss ++ rest) in
     ap (λ (xs : List ℕ). gap ++ xs) (first ∙ second)
 
-annotations-read : TextLaws → (Fit : Limits → Type 0) (sexp : Bool) (c : Cursor) (done : List SymbolAt) (ss : List UserSymbol)
-    → Texts ss → ((limits : Limits) → Fit limits → EachFits limits ss) → (gap : List ℕ) → Gap gap → (p : ℕ) (rest : List ℕ)
+annotations-read : TextLaws → (Fit : Rules → Type 0) (sexp : Bool) (c : Cursor) (done : List SymbolAt) (ss : List UserSymbol)
+    → Texts ss → ((limits : Rules) → Fit limits → EachFits limits ss) → (gap : List ℕ) → Gap gap → (p : ℕ) (rest : List ℕ)
     → NamesRead Fit sexp c done (at p (gap ++ (annotations_text ss ++ rest))) → AnnotationsRead Fit sexp c done ss rest
 annotations-read laws Fit sexp c done [] texts fits gap g p rest prev = record {
   own = [];
@@ -142,7 +143,7 @@ annotations-read laws Fit sexp c done (s ∷ ss) texts fits gap g p rest prev =
           let each = fits limits fit in
           (moved.within limits fit, counts-there word limits.scalar (is.counted limits each.0 each.1.0));
     } in
-    let others : (limits : Limits) → Fit limits → EachFits limits ss =
+    let others : (limits : Rules) → Fit limits → EachFits limits ss =
     λ limits fit. ((fits limits fit).0, (fits limits fit).1.1) in
     let next = annotations-read laws Fit sexp c (done ++ own ∷ []) ss texts.1 others [] no_gap two.after rest then in
     record {
@@ -159,7 +160,7 @@ annotations-read laws Fit sexp c done (s ∷ ss) texts fits gap g p rest prev =
     }
 
 -- the annotations of a value, with what they cost
-notes-within : (limits : Limits) (ss : List UserSymbol) (sexp : Bool) (c : Cursor) (own : List SymbolAt) (d : Cursor)
+notes-within : (limits : Rules) (ss : List UserSymbol) (sexp : Bool) (c : Cursor) (own : List SymbolAt) (d : Cursor)
     (names : NamesRead (NotesFit ss) sexp c own d) → sum_by reading.cost own ≡ sum_by cost ss → 64 ≤ limits.scalar
     → AnnotationsFit limits ss → AnnotationsWithin limits names.spells
 notes-within limits ss sexp c own d names costs wide fit = (omega (arith, costs, fit), names.within limits (wide, fit))
@@ -169,6 +170,7 @@ notes-within limits ss sexp c own d names costs wide fit = (omega (arith, costs,
 scalar-starts : (body : Scalar UserSymbol) → ScalarIs body → (rest : List ℕ) → After rest
     → starts (scalar_text body ++ rest) ≡ true
 scalar-starts body (a_plain raw is same stand counted) rest after = token-begins After _ _ is rest after
+scalar-starts _ (a_float x is counted) rest after = token-begins After _ _ is rest after
 scalar-starts _ (a_string bytes is) rest after = token-begins After _ _ is rest after
 scalar-starts _ (a_symbol s is) rest after = token-begins AfterSymbol _ _ is.token rest (AfterSymbol.of_value after)
 
@@ -226,7 +228,7 @@ pub record ValueRead (k : Option Kind) (c : Cursor) (notes : List UserSymbol) (x
   pub value_is : (t : Table) → seen t raw ≡ unplaced x
   pub annotations_stand : AllByRecursion (symbols.Stands system) own
   pub value_stands : symbols.ValueStands system raw
-  pub within : (limits : Limits) (depth : ℕ) → 64 ≤ limits.scalar → AnnotationsFit limits notes → ValueFits limits x
+  pub within : (limits : Rules) (depth : ℕ) → 64 ≤ limits.scalar → AnnotationsFit limits notes → ValueFits limits x
       → ValueIsNoDeeper limits.depth depth x → TxtWithin limits depth spells
 
 -- whether a separator is due after members
@@ -238,7 +240,7 @@ full_of k (member before f annotations place x) = has_commas (Some k)
 abbrev Allowed : {k : Kind} {c d : Cursor} {raw : Members SymbolAt ℕ} {full : Bool} → Members UserSymbol ℕ
     → Inside k c raw full d → Type 0
 Allowed ms spells =
-    (limits : Limits) (depth : ℕ) → 64 ≤ limits.scalar → MembersFit limits ms → MembersAreNoDeeper limits.depth depth ms
+    (limits : Rules) (depth : ℕ) → 64 ≤ limits.scalar → MembersFit limits ms → MembersAreNoDeeper limits.depth depth ms
     → InsideWithin limits depth spells
 
 record MembersRead (k : Kind) (c : Cursor) (ms : Members UserSymbol ℕ) (full : Bool) (rest : List ℕ) : Type 0 where
@@ -315,7 +317,7 @@ record FieldRead (k : Kind) (c : Cursor) (f : Option UserSymbol) (rest : List �
   spells : Field (Some k) c own (at place (gap ++ rest))
   is : (t : Table) → option_map (user_at t) own ≡ f
   stands : symbols.FieldStands system own
-  within : (limits : Limits) → 64 ≤ limits.scalar → FieldFits limits f → FieldWithin limits spells
+  within : (limits : Rules) → 64 ≤ limits.scalar → FieldFits limits f → FieldWithin limits spells
 
 field-read : TextLaws → (k : Kind) (f : Option UserSymbol) → Texts (field_symbols f) → is_some f ≡ in_struct (k ∷ [])
     → (gap : List ℕ) → Gap gap → (p : ℕ) (rest : List ℕ) → starts rest ≡ true
@@ -414,7 +416,7 @@ record ScalarRead (k : Option Kind) (c : Cursor) (own : List SymbolAt) (d : Curs
   spells : Txt k c own place (scalar raw) (at after rest)
   is : (t : Table) → map_scalar (user_at t) raw ≡ body
   stands : symbols.ScalarStands system raw
-  within : (limits : Limits) (depth : ℕ) → 64 ≤ limits.scalar → AnnotationsWithin limits notes → ScalarFits limits body
+  within : (limits : Rules) (depth : ℕ) → 64 ≤ limits.scalar → AnnotationsWithin limits notes → ScalarFits limits body
       → TxtWithin limits depth spells
 
 scalar-read : TextLaws → (k : Option Kind) (c : Cursor) (own : List SymbolAt) (gap : List ℕ) → Gap gap → (p : ℕ)
@@ -430,6 +432,17 @@ scalar-read laws k c own gap g p body rest prev after (a_plain raw is same stand
       is = same;
       stands = stand;
       within = λ limits depth wide noted fits. (noted, counts-there w limits.scalar (counted limits wide fits));
+    }
+scalar-read laws k c own gap g p _ rest prev after (a_float x is counted) =
+    let w = stands After (float_text x) (float (Some x)) is (in_sexp k) gap g p rest after in
+    record {
+      place = w.first;
+      raw = value.float x;
+      after = w.after;
+      spells = Txt.of_float prev w.tok;
+      is = λ t. refl;
+      stands = tt;
+      within = λ limits depth wide noted fits. (noted, (counts-there w limits.scalar (counted limits wide), fits));
     }
 scalar-read laws k c own gap g p _ rest prev after (a_string bytes is) =
     let w = stands After (scalar_text (value.string bytes)) (text bytes) is (in_sexp k) gap g p rest after in
@@ -463,6 +476,7 @@ id-scalar (value.symbol s) = refl
 id-scalar (value.null t) = refl
 id-scalar (value.bool truth) = refl
 id-scalar (value.int number) = refl
+id-scalar (value.float number) = refl
 id-scalar (value.decimal number) = refl
 id-scalar (value.timestamp moment) = refl
 id-scalar (value.string b) = refl

@@ -1,11 +1,17 @@
 -- The user values of a text that was read under limits fit them in binary too.
-use Rattle.std.proofs.Common.{◌≡◌, inl, inr, ℕ, suc, ◌*◌, ◌≤◌, sum_by, List, [], ◌∷◌, length, map, Option, None, Some, IfSome, option_map, subst, arith}
+use Rattle.std.proofs.Common.{◌≡◌, inl, inr, ℕ, suc, ◌*◌, ◌≤◌, Bool, true, false, if◌then◌else◌, sum_by, List, [], ◌∷◌, length, map, Option, None, Some, IfSome, option_map, subst, arith}
 use Rattle.std.specs.List.{AllByRecursion}
 use Rattle.std.specs.Bool.{⊤}
+use Rattle.std.specs.Int.{w32, w64, to_be_bytes}
+use lib.Ieee.{Float, binary32, binary64, fits, to_bits}
 use Rattle.std.proofs.lemmas.List.Sums.{sum_by-cons}
 use Rattle.ion_meter.specs.declared.limits.Limits.{Limits}
+use Rattle.ion_meter.specs.declared.profile.Profile.{Profile}
+use Rattle.ion_meter.specs.declared.profile.Rules.{Rules}
+use Rattle.ion_meter.specs.Rules.{rules}
 use Rattle.ion_value.specs.declared.ion_type.Kind.{Kind}
 use Rattle.ion_value.specs.declared.int.Int.{Int}
+use Rattle.ion_value.specs.FloatOctets.{float_octets, is_positive_zero}
 use Rattle.ion_value.specs.Int.{IsInt}
 use Rattle.ion_value.specs.Number.{uint_octets}
 use Rattle.ion_value.specs.Standing.{InRange}
@@ -25,9 +31,18 @@ use Rattle.ion_text_in.specs.Reading.{cost}
 use Rattle.ion_transcode.specs.WrittenAgain.{IsSystem, DeclareNothing, TextsFit, DeclarationsFit}
 use Rattle.ion_text_in.specs.ReadWithin.{SymbolIsWithin, ScalarIsWithin, AnnotationsAreWithin, ValueIsWithin, MembersAreWithin, TopIsWithin}
 
+-- a float has eight octets at most
+eight-most : (z f : Bool) (a b : ℕ) → length (if z then [] else (if f then to_be_bytes w32 a else to_be_bytes w64 b)) ≤ 8
+eight-most true f a b = omega arith
+eight-most false true a b = omega arith
+eight-most false false a b = omega arith
+
+float-fewer : (x : Float) → length (float_octets x) ≤ 8
+float-fewer x = eight-most (is_positive_zero x) (fits binary32 x) (to_bits binary32 x) (to_bits binary64 x)
+
 -- ---- texts
 
-module _ (limits : Limits) where
+module _ (limits : Rules) where
   abbrev Short : List ℕ → Type 0
   Short = IsShort limits.scalar
 
@@ -50,6 +65,7 @@ module _ (limits : Limits) where
   scalar-short (value.null type) h = tt
   scalar-short (value.bool truth) h = tt
   scalar-short (value.int number) h = tt
+  scalar-short (value.float number) h = tt
   scalar-short (value.decimal number) h = tt
   scalar-short (value.timestamp moment) h = tt
   scalar-short (value.symbol name) h = tt
@@ -94,6 +110,7 @@ module _ (limits : Limits) where
     scalar-fits (value.null type) range h = tt
     scalar-fits (value.bool truth) range h = tt
     scalar-fits (value.int number) range h = int-fits number range enough
+    scalar-fits (value.float number) range h = (omega (arith, float-fewer number, enough), h.0)
     scalar-fits (value.decimal number) range h = (numbers limits enough).0 number h.0 range h.1 h.2
     scalar-fits (value.timestamp moment) range h = (numbers limits enough).1 moment h.0 range h.1 h.2
     scalar-fits (value.symbol name) range h = id-fits (f name) enough
@@ -209,22 +226,26 @@ module _ (limits : Limits) where
   declared-fit allow (tree first annotations place x ∷ us) h k =
       ((h.0.0, h.0.1, k.0, all-may allow (value_symbols None annotations x)), declared-fit allow us h.1 k.1)
 
-  -- what was read within the limits has user values that fit them, where their declared texts do
+-- what was read within the limits has user values that fit them, where their declared texts do
+module _ (profile : Profile) (limits : Limits) where
+  abbrev own : Rules
+  own = rules limits profile
+
   pub users-of-read-fit : NumbersInTextFit → 16 ≤ limits.scalar → TextsOfUsersAreShort → TextsWithinFit
-      → (catalog : List Shared) (tops : List (Top SymbolAt ℕ)) (us : List (Top UserSymbol ℕ)) → DeclarationsFit limits catalog us
-      → AllByRecursion IsRaw tops → AllByRecursion (TopIsWithin limits) tops → AreWithin limits [] us → user_tops catalog system tops ≡ Some us
-      → AllByRecursion (FitsBinary limits) us
+      → (catalog : List Shared) (tops : List (Top SymbolAt ℕ)) (us : List (Top UserSymbol ℕ)) → DeclarationsFit profile limits catalog us
+      → AllByRecursion IsRaw tops → AllByRecursion (TopIsWithin own) tops → AreWithin limits [] us → user_tops catalog system tops ≡ Some us
+      → AllByRecursion (FitsBinary own) us
   users-of-read-fit numbers enough short fit catalog tops us declared raw h within e =
       by declared
     where
-      values : TopsFit us
-      values = subst (λ o. IfSome o TopsFit) e (tops-fit numbers enough catalog tops raw h system)
+      values : TopsFit own us
+      values = subst (λ o. IfSome o (TopsFit own)) e (tops-fit own numbers enough catalog tops raw h system)
 
-      fit-by : TextsFit limits catalog us → AllByRecursion (SymbolsFit limits) us
-      fit-by (inl s) = symbols-fit us s
-      fit-by (inr (inl c)) = symbols-fit us (short limits.scalar catalog tops us c (tops-short tops h) e)
-      fit-by (inr (inr room)) = fit limits us room within
+      fit-by : TextsFit limits catalog us → AllByRecursion (SymbolsFit own) us
+      fit-by (inl s) = symbols-fit own us s
+      fit-by (inr (inl c)) = symbols-fit own us (short limits.scalar catalog tops us c (tops-short own tops h) e)
+      fit-by (inr (inr room)) = fit limits profile us room within
 
-      by : DeclarationsFit limits catalog us → AllByRecursion (FitsBinary limits) us
-      by (inl none) = undeclared-fit us values none
-      by (inr d) = declared-fit d.0 us values (fit-by d.1)
+      by : DeclarationsFit profile limits catalog us → AllByRecursion (FitsBinary own) us
+      by (inl none) = undeclared-fit own us values none
+      by (inr d) = declared-fit own d.0 us values (fit-by d.1)

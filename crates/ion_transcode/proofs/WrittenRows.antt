@@ -3,6 +3,7 @@ use Rattle.std.proofs.Common.{inl, inr, arith}
 use Rattle.std.specs.Prelude.{◌≡◌, refl, codes, ℕ, false, List, [], ◌∷◌, ◌++◌, length, Some, None}
 use Rattle.ion_meter.specs.declared.fault.Reason.TheVariants.{AnnotationLimit, DepthLimit, ScalarLimit}
 use Rattle.ion_meter.specs.declared.limits.Limits.{Limits}
+use Rattle.ion_meter.specs.Rules.{strict}
 use Rattle.ion_value.specs.declared.ion_type.Kind.TheVariants as kind
 use Rattle.ion_value.specs.Number.{digits_within, uint_octets}
 use Rattle.ion_value.specs.Outcome.{Accepted, Rejected}
@@ -83,7 +84,7 @@ a_list_shown = refl
 its_user_values : user_tops [] system a_list ≡ Some a_list
 its_user_values = refl
 
-it_declares_nothing : WrittenFits (within 1 16 64) [] a_list
+it_declares_nothing : WrittenFits strict (within 1 16 64) [] a_list
 it_declares_nothing = inl (omega arith, inl (tt, tt))
 
 -- the catalogue has a text that is too long, and no value uses it
@@ -94,7 +95,7 @@ a_five_converted = refl
 abbrev just_five : List (Top UserSymbol ℕ)
 just_five = tree 0 [] 0 (an_int 5) ∷ []
 
-a_five : WrittenFits (within 2 16 33) long_text just_five
+a_five : WrittenFits strict (within 2 16 33) long_text just_five
 a_five = inl (omega arith, inl (tt, tt))
 
 -- and under the least limits, by its one octet
@@ -106,11 +107,11 @@ five_octets : length (uint_octets 5) ≡ 1
 unfolding digits_within
 five_octets = refl
 
-by_its_octet : WrittenFits (within 0 1 0) [] just_five
+by_its_octet : WrittenFits strict (within 0 1 0) [] just_five
 by_its_octet = inr ((omega arith, omega (arith, five_octets), tt, tt), tt)
 
 abbrev just_a : Value UserSymbol ℕ
 just_a = value.scalar (value.symbol (Known (codes "a")))
 
-a_short_text : WrittenFits (within 2 16 33) long_text (tree 0 [] 0 just_a ∷ [])
+a_short_text : WrittenFits strict (within 2 16 33) long_text (tree 0 [] 0 just_a ∷ [])
 a_short_text = inl (omega arith, inr (record { depth = omega arith; scalar = omega arith }, inl ((λ e. omega arith, tt), tt)))

@@ -1,10 +1,11 @@
--- What is read of a catalogue: a stream of shared tables, and nothing else.
+-- What is read of a catalogue: a stream of shared tables, and nothing else. It is read under the strict profile.
 use Rattle.std.specs.Prelude.{◌≡◌, ◌≢◌, ℕ, ◌+◌, ◌<◌, ◌≤◌, List, [], length, Some, Result, Ok, Err, max}
 use Rattle.ion_meter.specs.Counts.{Counts}
 use Rattle.ion_meter.specs.declared.fault.Fault.{Fault}
 use Rattle.ion_meter.specs.declared.fault.Fault.TheVariants.{Refused, Memory, ReadFault, WriteFault, InputLimit}
 use Rattle.ion_meter.specs.declared.fault.Reason.{Reason}
 use Rattle.ion_meter.specs.declared.limits.Limits.{Limits}
+use Rattle.ion_meter.specs.Rules.{strict}
 use Rattle.ion_value.specs.Value.{SymbolAt, UserSymbol, Top, user_items}
 use Rattle.ion_value.specs.Reading.{Reading, items_of}
 use Rattle.ion_value.specs.Outcome.{Verdict, Accepted, Rejected}
@@ -30,7 +31,7 @@ as_catalog limits = record { whole_output = λ us. []; open_output = λ mine. []
 
 -- the verdict on a stream as a catalogue: that on its form where nothing is written, under the empty catalogue, with these fault rules
 abbrev pub HasCatalogVerdict : Limits → List ℕ → Verdict → Type 0
-HasCatalogVerdict limits bytes v = HasVerdictFrom (encoding_of (form_of bytes)) (as_catalog limits) [] limits bytes v []
+HasCatalogVerdict limits bytes v = HasVerdictFrom (encoding_of strict (form_of bytes)) (as_catalog limits) [] limits bytes v []
 
 -- the stream is accepted, and its user values are these tables in order, within the limit
 pub record IsCatalogIn (e : Encoding) (limits : Limits) (bytes : List ℕ) (tables : List Shared) : Type 0 where
@@ -44,13 +45,13 @@ pub record IsCatalogIn (e : Encoding) (limits : Limits) (bytes : List ℕ) (tabl
 
 -- so it is in the form that the stream's first byte tells
 abbrev pub IsCatalog : Limits → List ℕ → List Shared → Type 0
-IsCatalog limits bytes tables = IsCatalogIn (encoding_of (form_of bytes)) limits bytes tables
+IsCatalog limits bytes tables = IsCatalogIn (encoding_of strict (form_of bytes)) limits bytes tables
 
 -- ---- as it is read item by item
 
 -- the raw items of a stream and how they end, in the form that its first byte tells
 abbrev pub catalog_reading : Limits → List ℕ → Reading
-catalog_reading limits bytes = reading_of (form_of bytes) limits bytes
+catalog_reading limits bytes = reading_of strict (form_of bytes) limits bytes
 
 -- the user items of a raw reading, under the empty catalogue
 abbrev pub catalog_users : Limits → Reading → Reading
@@ -120,7 +121,7 @@ abbrev pub TablesAreCatalogs : Type 0
 TablesAreCatalogs =
     (limits : Limits) (bytes : List ℕ) (tops : List (Top SymbolAt ℕ)) (us : List (Top UserSymbol ℕ)) (tables : List Shared) (count : ℕ) (out : List ℕ)
     → HasVerdict [] limits to.Nothing bytes (Accepted count) out
-    → (encoding_of (form_of bytes)).Stream bytes tops → user_tops [] system tops ≡ Some us → tables_of us ≡ Some tables → catalog_cost tables ≤ limits.symbols
+    → (encoding_of strict (form_of bytes)).Stream bytes tops → user_tops [] system tops ≡ Some us → tables_of us ≡ Some tables → catalog_cost tables ≤ limits.symbols
     → IsCatalog limits bytes tables
 
 -- a stream has one verdict as a catalogue at most

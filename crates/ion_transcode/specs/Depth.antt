@@ -3,6 +3,7 @@
 use Rattle.std.specs.Prelude.{◌≡◌, ℕ, suc, ◌<◌, List, Some, ⊤}
 use Rattle.std.specs.List.{AllByRecursion}
 use Rattle.ion_meter.specs.declared.limits.Limits.{Limits}
+use Rattle.ion_meter.specs.declared.profile.Profile.{Profile}
 use Rattle.ion_value.specs.Path.{closed, path_items}
 use Rattle.ion_value.specs.Reading.{Finished, items_then}
 use Rattle.ion_value.specs.Value.{SymbolAt, UserSymbol, Value, Members, scalar, container, nothing, member, Top, version, tree}
@@ -31,7 +32,7 @@ IsNoDeeper most (tree first annotations place x) = ValueIsNoDeeper most 0 x
 -- the values of a stream that is read to its end open no more than the limit says, and so do its user values
 abbrev pub WhatIsReadIsNoDeeper : Type 0
 WhatIsReadIsNoDeeper =
-    (form : Form) (catalog : List Shared) (limits : Limits) (bytes : List ℕ) (tops : List (Top SymbolAt ℕ))
+    (profile : Profile) (form : Form) (catalog : List Shared) (limits : Limits) (bytes : List ℕ) (tops : List (Top SymbolAt ℕ))
     (us : List (Top UserSymbol ℕ))
-    → reading_of form limits bytes ≡ items_then (path_items (closed tops)) Finished → user_tops catalog system tops ≡ Some us
+    → reading_of profile form limits bytes ≡ items_then (path_items (closed tops)) Finished → user_tops catalog system tops ≡ Some us
     → AllByRecursion (IsNoDeeper limits.depth) tops × AllByRecursion (IsNoDeeper limits.depth) us

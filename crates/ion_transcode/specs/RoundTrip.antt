@@ -3,6 +3,7 @@
 use Rattle.std.specs.Prelude.{◌≡◌, ℕ, List, [], map, Some}
 use Rattle.ion_meter.specs.Limits.{AreChecked}
 use Rattle.ion_meter.specs.declared.limits.Limits.{Limits}
+use Rattle.ion_meter.specs.declared.profile.Profile.{Profile}
 use Rattle.ion_value.specs.Outcome.{Accepted}
 use Rattle.ion_value.specs.Value.{SymbolAt, UserSymbol, Top, unplaced_top}
 use Rattle.ion_value.specs.Writable.{AreBytes}
@@ -19,7 +20,7 @@ use Rattle.ion_transcode.specs.declared.to.To.{To}
 use Rattle.ion_transcode.specs.declared.to.To.TheVariants as to
 use Rattle.ion_transcode.specs.Forms.{encoding_of, form_of}
 use Rattle.ion_transcode.specs.Outputs.{resolved}
-use Rattle.ion_transcode.specs.Verdict.{HasVerdict}
+use Rattle.ion_transcode.specs.Verdict.{HasVerdictWith}
 
 -- ---- values
 
@@ -41,47 +42,48 @@ TextIsRead = (catalog : List Shared) (tops : List (Top UserSymbol ℕ)) → AreU
 -- UTF-8
 abbrev pub ValuesOfStreams : Type 0
 ValuesOfStreams =
-    (form : Form) (catalog : List Shared) (bytes : List ℕ) (tops : List (Top SymbolAt ℕ)) (us : List (Top UserSymbol ℕ))
-    → AreBytes bytes → CatalogIsText catalog → (encoding_of form).Stream bytes tops → user_tops catalog system tops ≡ Some us
+    (profile : Profile) (form : Form) (catalog : List Shared) (bytes : List ℕ) (tops : List (Top SymbolAt ℕ)) (us : List (Top UserSymbol ℕ))
+    → AreBytes bytes → CatalogIsText catalog → (encoding_of profile form).Stream bytes tops → user_tops catalog system tops ≡ Some us
     → AreUsers us
 
 -- the canonical text of the user values of a stream, in either form, is a stream of these values, and so is their canonical
 -- binary, where no value and no declaration in it is too long: whatever the catalogue is by which they are read again
 abbrev pub RoundTrip : Type 0
 RoundTrip =
-    (form : Form) (catalog other : List Shared) (limit : ℕ) (bytes : List ℕ) (tops : List (Top SymbolAt ℕ))
-    (us : List (Top UserSymbol ℕ)) → AreBytes bytes → CatalogIsText catalog → (encoding_of form).Stream bytes tops
+    (profile : Profile) (form : Form) (catalog other : List Shared) (limit : ℕ) (bytes : List ℕ) (tops : List (Top SymbolAt ℕ))
+    (us : List (Top UserSymbol ℕ)) → AreBytes bytes → CatalogIsText catalog → (encoding_of profile form).Stream bytes tops
     → user_tops catalog system tops ≡ Some us → IsTextRead other us × (AreShort limit [] us → IsRead other limit us)
 
 -- ---- runs
 
 -- a run to text over what a run to text wrote writes the same bytes, and counts as many values, where both are accepted: whatever
--- their catalogues and their limits are
+-- their catalogues, their limits and their profiles are
 abbrev pub ShowOnce : Type 0
 ShowOnce =
-    (catalog other : List Shared) (limits wide : Limits) (asked : To) (bytes shown again : List ℕ) (n m : ℕ)
+    (profile next : Profile) (catalog other : List Shared) (limits wide : Limits) (asked : To) (bytes shown again : List ℕ) (n m : ℕ)
     → AreBytes bytes → CatalogIsText catalog → resolved (form_of bytes) asked ≡ Some target.Text
-    → HasVerdict catalog limits asked bytes (Accepted n) shown
-    → HasVerdict other wide to.Text shown (Accepted m) again → (again ≡ shown) × (m ≡ n)
+    → HasVerdictWith profile catalog limits asked bytes (Accepted n) shown
+    → HasVerdictWith next other wide to.Text shown (Accepted m) again → (again ≡ shown) × (m ≡ n)
 
 -- of a text with these user values: what was shown back is their canonical text, and counts as many values; a run to text over the
--- text itself is accepted under these limits, and shows the same; and so does each that is accepted, whatever its limits are
-pub record IsShownBack (catalog : List Shared) (limits : Limits) (bytes back : List ℕ) (n m : ℕ) : Type 0 where
+-- text itself is accepted under these limits, and shows the same; and so does each that is accepted, whatever its limits and its
+-- profile are
+pub record IsShownBack (profile : Profile) (catalog : List Shared) (limits : Limits) (bytes back : List ℕ) (n m : ℕ) : Type 0 where
   pub tops : List (Top SymbolAt ℕ)
   pub us : List (Top UserSymbol ℕ)
   pub stream : text_grammar.Stream bytes tops
   pub users_are : user_tops catalog system tops ≡ Some us
   pub output : back ≡ text us
   pub count : m ≡ n
-  pub shown : HasVerdict catalog limits to.Text bytes (Accepted n) (text us)
-  pub shown_by : (most : Limits) (out : List ℕ) (k : ℕ) → HasVerdict catalog most to.Text bytes (Accepted k) out
+  pub shown : HasVerdictWith profile catalog limits to.Text bytes (Accepted n) (text us)
+  pub shown_by : (next : Profile) (most : Limits) (out : List ℕ) (k : ℕ) → HasVerdictWith next catalog most to.Text bytes (Accepted k) out
       → (out ≡ back) × (k ≡ n)
 
--- so it is where a run to binary accepts a text, and a run to text accepts what it wrote: whatever the limits of the second are,
--- and the catalogue by which the binary is read
+-- so it is where a run to binary accepts a text, and a run to text accepts what it wrote: whatever the limits and the profile
+-- of the second are, and the catalogue by which the binary is read
 abbrev pub ThereAndBack : Type 0
 ThereAndBack =
-    (catalog other : List Shared) (limits wide : Limits) (asked shown : To) (bytes written back : List ℕ) (n m : ℕ)
+    (profile next : Profile) (catalog other : List Shared) (limits wide : Limits) (asked shown : To) (bytes written back : List ℕ) (n m : ℕ)
     → CatalogIsText catalog → AreChecked limits → resolved (form_of bytes) asked ≡ Some target.Binary
-    → HasVerdict catalog limits asked bytes (Accepted n) written → resolved (form_of written) shown ≡ Some target.Text
-    → HasVerdict other wide shown written (Accepted m) back → IsShownBack catalog limits bytes back n m
+    → HasVerdictWith profile catalog limits asked bytes (Accepted n) written → resolved (form_of written) shown ≡ Some target.Text
+    → HasVerdictWith next other wide shown written (Accepted m) back → IsShownBack profile catalog limits bytes back n m

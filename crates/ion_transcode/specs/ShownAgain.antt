@@ -1,7 +1,10 @@
--- What was shown is accepted: which values limits allow in canonical text, by lengths and numbers alone. Laws that contracts cite.
-use Rattle.std.specs.Prelude.{◌≡◌, ℕ, ◌+◌, ◌≤◌, List, [], length, map, sum_by, Option, Some, None, ⊤}
+-- What was shown is accepted: which values rules allow in canonical text, by lengths and numbers alone. Laws that contracts cite.
+use Rattle.std.specs.Prelude.{◌≡◌, ℕ, ◌+◌, ◌≤◌, List, [], length, map, sum_by, true, Option, Some, None, ⊤}
 use Rattle.std.specs.List.{AllByRecursion}
 use Rattle.ion_meter.specs.declared.limits.Limits.{Limits}
+use Rattle.ion_meter.specs.declared.profile.Profile.{Profile}
+use Rattle.ion_meter.specs.declared.profile.Rules.{Rules}
+use Rattle.ion_meter.specs.Rules.{rules}
 use Rattle.ion_value.specs.Outcome.{Accepted}
 use Rattle.ion_value.specs.Path.{closed, path_items}
 use Rattle.ion_value.specs.Reading.{Finished, items_then}
@@ -21,21 +24,22 @@ use Rattle.ion_transcode.specs.declared.to.To.TheVariants as to
 use Rattle.ion_transcode.specs.Depth.{IsNoDeeper}
 use Rattle.ion_transcode.specs.Forms.{encoding_of, form_of}
 use Rattle.ion_transcode.specs.Outputs.{resolved}
-use Rattle.ion_transcode.specs.Verdict.{HasVerdict}
+use Rattle.ion_transcode.specs.Verdict.{HasVerdictWith}
 
--- ---- which values limits allow in canonical text
+-- ---- which values rules allow in canonical text
 
 -- the text of a symbol is no longer than the limit on scalars; one of unknown text is written `$0`
-abbrev pub SymbolFits : Limits → UserSymbol → Type 0
+abbrev pub SymbolFits : Rules → UserSymbol → Type 0
 SymbolFits limits (Known t) = length t ≤ limits.scalar
 SymbolFits limits Unknown = ⊤
 
 -- the bytes of a string, a clob or a blob, and the text of a symbol, are no more than the limit on scalars; a null, a bool, a
--- number and a timestamp have 64 bytes of text at most
-abbrev pub ScalarFits : Limits → Scalar UserSymbol → Type 0
+-- number and a timestamp have 64 bytes of text at most; and floats are read, if it is one
+abbrev pub ScalarFits : Rules → Scalar UserSymbol → Type 0
 ScalarFits limits (value.null type) = ⊤
 ScalarFits limits (value.bool truth) = ⊤
 ScalarFits limits (value.int number) = ⊤
+ScalarFits limits (value.float number) = limits.floats ≡ true
 ScalarFits limits (value.decimal number) = ⊤
 ScalarFits limits (value.timestamp moment) = ⊤
 ScalarFits limits (value.symbol name) = SymbolFits limits name
@@ -49,28 +53,28 @@ cost (Known t) = 16 + length t
 cost Unknown = 16
 
 -- annotations cost no more than the limit on scalars
-abbrev pub AnnotationsFit : Limits → List UserSymbol → Type 0
+abbrev pub AnnotationsFit : Rules → List UserSymbol → Type 0
 AnnotationsFit limits annotations = sum_by cost annotations ≤ limits.scalar
 
 -- the name of a field, where there is one, is no longer than that limit
-abbrev pub FieldFits : Limits → Option UserSymbol → Type 0
+abbrev pub FieldFits : Rules → Option UserSymbol → Type 0
 FieldFits limits None = ⊤
 FieldFits limits (Some s) = SymbolFits limits s
 
 abbrev mutual
   -- the scalars of a value fit, and the fields and annotations of all that it contains
-  pub ValueFits : {P : Type 0} → Limits → Value UserSymbol P → Type 0
+  pub ValueFits : {P : Type 0} → Rules → Value UserSymbol P → Type 0
   ValueFits limits (scalar body) = ScalarFits limits body
   ValueFits limits (container kind members last) = MembersFit limits members
 
   -- so it is with each member of a container
-  pub MembersFit : {P : Type 0} → Limits → Members UserSymbol P → Type 0
+  pub MembersFit : {P : Type 0} → Rules → Members UserSymbol P → Type 0
   MembersFit limits nothing = ⊤
   MembersFit limits (member before f annotations place x) =
       MembersFit limits before × FieldFits limits f × AnnotationsFit limits annotations × ValueFits limits x
 
 -- a value at top level fits, with its annotations
-abbrev pub FitsText : {P : Type 0} → Limits → Top UserSymbol P → Type 0
+abbrev pub FitsText : {P : Type 0} → Rules → Top UserSymbol P → Type 0
 FitsText limits (version place) = ⊤
 FitsText limits (tree first annotations place x) = AnnotationsFit limits annotations × ValueFits limits x
 
@@ -78,11 +82,11 @@ FitsText limits (tree first annotations place x) = AnnotationsFit limits annotat
 
 -- the canonical text of values is read to its end, its symbols are all resolved whatever the catalogue is, and its user values
 -- are these again, in all but their places
-pub record IsReadWithin (catalog : List Shared) (limits : Limits) (tops : List (Top UserSymbol ℕ)) : Type 0 where
+pub record IsReadWithin (profile : Profile) (catalog : List Shared) (limits : Limits) (tops : List (Top UserSymbol ℕ)) : Type 0 where
   pub raw : List (Top SymbolAt ℕ)
   pub users : List (Top UserSymbol ℕ)
   pub form : form_of (text tops) ≡ form.Text
-  pub read : reading limits (text tops) ≡ items_then (path_items (closed raw)) Finished
+  pub read : reading (rules limits profile) (text tops) ≡ items_then (path_items (closed raw)) Finished
   pub resolved : AreResolved catalog limits.symbols system raw
   pub users_are : user_tops catalog system raw ≡ Some users
   pub same : map unplaced_top users ≡ map unplaced_top tops
@@ -91,20 +95,20 @@ pub record IsReadWithin (catalog : List Shared) (limits : Limits) (tops : List (
 -- or more
 abbrev pub TextIsReadWithin : Type 0
 TextIsReadWithin =
-    (catalog : List Shared) (limits : Limits) (tops : List (Top UserSymbol ℕ)) → 64 ≤ limits.scalar → AreUsers tops
-    → AllByRecursion (IsNoDeeper limits.depth) tops → AllByRecursion (FitsText limits) tops → IsReadWithin catalog limits tops
+    (profile : Profile) (catalog : List Shared) (limits : Limits) (tops : List (Top UserSymbol ℕ)) → 64 ≤ limits.scalar → AreUsers tops
+    → AllByRecursion (IsNoDeeper limits.depth) tops → AllByRecursion (FitsText (rules limits profile)) tops → IsReadWithin profile catalog limits tops
 
 -- ---- what was shown is accepted
 
 -- what a run to text wrote is accepted by a run to text, which writes the same bytes, and by a run to nothing, and both count as
--- many values: whatever the catalogue is, where the values fit these runs' limits, of which that on scalars is 64 or more and that
--- on depth is no lower than the first run's. `tops` and `us` are what the first run read, and its user values
+-- many values: whatever the catalogue is, where the values fit these runs' limits and profile, and of the limits that on scalars is
+-- 64 or more and that on depth is no lower than the first run's. `tops` and `us` are what the first run read, and its user values
 abbrev pub WhatIsShownIsAccepted : Type 0
 WhatIsShownIsAccepted =
-    (catalog other : List Shared) (limits wide : Limits) (asked : To) (bytes shown : List ℕ) (n : ℕ)
+    (profile next : Profile) (catalog other : List Shared) (limits wide : Limits) (asked : To) (bytes shown : List ℕ) (n : ℕ)
     (tops : List (Top SymbolAt ℕ)) (us : List (Top UserSymbol ℕ))
     → AreBytes bytes → CatalogIsText catalog → resolved (form_of bytes) asked ≡ Some target.Text
-    → HasVerdict catalog limits asked bytes (Accepted n) shown → (encoding_of (form_of bytes)).Stream bytes tops
+    → HasVerdictWith profile catalog limits asked bytes (Accepted n) shown → (encoding_of profile (form_of bytes)).Stream bytes tops
     → user_tops catalog system tops ≡ Some us → 64 ≤ wide.scalar → limits.depth ≤ wide.depth
-    → AllByRecursion (FitsText wide) us
-    → HasVerdict other wide to.Text shown (Accepted n) shown × HasVerdict other wide to.Nothing shown (Accepted n) []
+    → AllByRecursion (FitsText (rules wide next)) us
+    → HasVerdictWith next other wide to.Text shown (Accepted n) shown × HasVerdictWith next other wide to.Nothing shown (Accepted n) []

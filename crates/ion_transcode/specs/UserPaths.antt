@@ -2,6 +2,7 @@
 use Rattle.std.specs.Prelude.{◌≡◌, ℕ, List, [], Option, Some, None}
 use Rattle.ion_meter.specs.declared.fault.Reason.{Reason}
 use Rattle.ion_meter.specs.declared.limits.Limits.{Limits}
+use Rattle.ion_meter.specs.declared.profile.Profile.{Profile}
 use Rattle.ion_value.specs.Value.{SymbolAt, UserSymbol, Members, Top, PlacedItem, user_items}
 use Rattle.ion_value.specs.Path.{Path, Nest, closed, opened, path_items}
 use Rattle.ion_value.specs.Outcome.{Rejected}
@@ -19,7 +20,7 @@ use Rattle.ion_transcode.specs.declared.to.Target.TheVariants as target
 use Rattle.ion_transcode.specs.Encoding.{Encoding}
 use Rattle.ion_transcode.specs.Outputs.{outputs_of, resolved, whole_tops}
 use Rattle.ion_transcode.specs.Forms.{form_of, encoding_of}
-use Rattle.ion_transcode.specs.Verdict.{Faultless, next_fault, HasVerdict}
+use Rattle.ion_transcode.specs.Verdict.{Faultless, next_fault, HasVerdictWith}
 
 -- the user values of a path: its whole values without version markers and declarations, and the containers that are open with their symbols as
 -- they are in the table after these, unless they are a declaration's
@@ -43,9 +44,9 @@ pub record UsersAlong (catalog : List Shared) (path : Path SymbolAt ℕ) (mine :
 -- so it is with every path that is faultless, of each form, whatever is written
 abbrev pub FaultlessPathsAreRead : Type 0
 FaultlessPathsAreRead =
-    (form : Form) (target : Target) (catalog : List Shared) (limits : Limits) (bytes : List ℕ) (path : Path SymbolAt ℕ) (mine : List PlacedItem)
-    (s : (encoding_of form).State) (u : users.State)
-    → Faultless (encoding_of form) (outputs_of target limits) catalog limits bytes (path_items path) s u mine → UsersAlong catalog path mine
+    (profile : Profile) (form : Form) (target : Target) (catalog : List Shared) (limits : Limits) (bytes : List ℕ) (path : Path SymbolAt ℕ) (mine : List PlacedItem)
+    (s : (encoding_of profile form).State) (u : users.State)
+    → Faultless (encoding_of profile form) (outputs_of target limits) catalog limits bytes (path_items path) s u mine → UsersAlong catalog path mine
 
 -- ---- what is refused
 
@@ -78,6 +79,6 @@ pub record IsRefusedOutput (e : Encoding) (to : Target) (catalog : List Shared) 
 -- so it is with every stream that is refused, whatever is written of it
 abbrev pub RefusedOutputIsThatOfAPath : Type 0
 RefusedOutputIsThatOfAPath =
-    (catalog : List Shared) (limits : Limits) (to : To) (bytes : List ℕ) (target : Target) (reason : Reason) (place : ℕ) (out : List ℕ)
-    → resolved (form_of bytes) to ≡ Some target → HasVerdict catalog limits to bytes (Rejected reason place) out
-    → IsRefusedOutput (encoding_of (form_of bytes)) target catalog limits bytes reason place out
+    (profile : Profile) (catalog : List Shared) (limits : Limits) (to : To) (bytes : List ℕ) (target : Target) (reason : Reason) (place : ℕ) (out : List ℕ)
+    → resolved (form_of bytes) to ≡ Some target → HasVerdictWith profile catalog limits to bytes (Rejected reason place) out
+    → IsRefusedOutput (encoding_of profile (form_of bytes)) target catalog limits bytes reason place out

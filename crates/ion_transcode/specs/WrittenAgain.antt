@@ -1,8 +1,10 @@
--- What was written as binary is accepted under the limits of its run, and shows what the text shows. Laws that contracts cite.
+-- What was written as binary is accepted under the limits and the profile of its run, and shows what the text shows. Laws that contracts cite.
 use Rattle.std.specs.Prelude.{◌≡◌, ◌⊎◌, ℕ, ◌≤◌, List, [], Some, None}
 use Rattle.std.specs.List.{AllByRecursion}
 use Rattle.ion_meter.specs.Limits.{AreChecked}
 use Rattle.ion_meter.specs.declared.limits.Limits.{Limits}
+use Rattle.ion_meter.specs.declared.profile.Profile.{Profile}
+use Rattle.ion_meter.specs.Rules.{rules}
 use Rattle.ion_value.specs.Outcome.{Accepted}
 use Rattle.ion_value.specs.Value.{SymbolAt, UserSymbol, Top}
 use Rattle.ion_symbols.specs.Table.{Shared, system}
@@ -18,7 +20,7 @@ use Rattle.ion_transcode.specs.declared.to.To.{To}
 use Rattle.ion_transcode.specs.declared.to.To.TheVariants as to
 use Rattle.ion_transcode.specs.Forms.{form_of}
 use Rattle.ion_transcode.specs.Outputs.{resolved}
-use Rattle.ion_transcode.specs.Verdict.{HasVerdict}
+use Rattle.ion_transcode.specs.Verdict.{HasVerdictWith}
 
 -- ---- what is declared when values are written as binary: each text of their symbols that the system symbol table has not
 
@@ -37,13 +39,15 @@ TextsFit limits catalog us =
     AllByRecursion (UserTopHas (IsShort limits.scalar)) us ⊎ (CatalogHas (IsShort limits.scalar) catalog ⊎ limits.symbols ≤ limits.scalar)
 
 -- limits allow what is declared, if anything is
-abbrev pub DeclarationsFit : Limits → List Shared → List (Top UserSymbol ℕ) → Type 0
-DeclarationsFit limits catalog us = DeclareNothing us ⊎ (AllowDeclarations limits × TextsFit limits catalog us)
+abbrev pub DeclarationsFit : Profile → Limits → List Shared → List (Top UserSymbol ℕ) → Type 0
+DeclarationsFit profile limits catalog us = DeclareNothing us ⊎ (AllowDeclarations (rules limits profile) × TextsFit limits catalog us)
 
 -- limits allow what is written of these values: 16 octets of a scalar, so that each number fits that a text has, and each id, and
--- what is declared, if anything is; or, whatever the limits are, the values fit by their own lengths and numbers
-abbrev pub WrittenFits : Limits → List Shared → List (Top UserSymbol ℕ) → Type 0
-WrittenFits limits catalog us = ((16 ≤ limits.scalar) × DeclarationsFit limits catalog us) ⊎ AllByRecursion (FitsBinary limits) us
+-- what is declared, if anything is; or, whatever the limits are, the values fit by their own lengths and numbers, and
+-- the profile permits them
+abbrev pub WrittenFits : Profile → Limits → List Shared → List (Top UserSymbol ℕ) → Type 0
+WrittenFits profile limits catalog us =
+    ((16 ≤ limits.scalar) × DeclarationsFit profile limits catalog us) ⊎ AllByRecursion (FitsBinary (rules limits profile)) us
 
 -- something is true of the user values of a text
 abbrev pub OfUsers : List Shared → List ℕ → (List (Top UserSymbol ℕ) → Type 0) → Type 0
@@ -54,20 +58,20 @@ OfUsers catalog bytes P =
 
 -- of a text with these user values: a run to text accepts it, and writes their canonical text; so does one over the binary that was
 -- written of it, whatever the catalogue is by which that is read; and one to nothing accepts it too. All count as many values
-pub record IsAcceptedAgain (catalog other : List Shared) (limits : Limits) (bytes written : List ℕ) (n : ℕ) : Type 0 where
+pub record IsAcceptedAgain (profile : Profile) (catalog other : List Shared) (limits : Limits) (bytes written : List ℕ) (n : ℕ) : Type 0 where
   pub tops : List (Top SymbolAt ℕ)
   pub us : List (Top UserSymbol ℕ)
   pub stream : text_grammar.Stream bytes tops
   pub users_are : user_tops catalog system tops ≡ Some us
-  pub shown : HasVerdict catalog limits to.Text bytes (Accepted n) (text us)
-  pub as_text : HasVerdict other limits to.Text written (Accepted n) (text us)
-  pub as_other : HasVerdict other limits to.Other written (Accepted n) (text us)
-  pub as_nothing : HasVerdict other limits to.Nothing written (Accepted n) []
+  pub shown : HasVerdictWith profile catalog limits to.Text bytes (Accepted n) (text us)
+  pub as_text : HasVerdictWith profile other limits to.Text written (Accepted n) (text us)
+  pub as_other : HasVerdictWith profile other limits to.Other written (Accepted n) (text us)
+  pub as_nothing : HasVerdictWith profile other limits to.Nothing written (Accepted n) []
 
 -- so it is with each run to binary that accepts its text, under checked limits that allow what is written
 abbrev pub WrittenBinaryIsAccepted : Type 0
 WrittenBinaryIsAccepted =
-    (catalog other : List Shared) (limits : Limits) (asked : To) (bytes written : List ℕ) (n : ℕ)
-    → CatalogIsText catalog → AreChecked limits → OfUsers catalog bytes (WrittenFits limits catalog)
-    → resolved (form_of bytes) asked ≡ Some target.Binary → HasVerdict catalog limits asked bytes (Accepted n) written
-    → IsAcceptedAgain catalog other limits bytes written n
+    (profile : Profile) (catalog other : List Shared) (limits : Limits) (asked : To) (bytes written : List ℕ) (n : ℕ)
+    → CatalogIsText catalog → AreChecked limits → OfUsers catalog bytes (WrittenFits profile limits catalog)
+    → resolved (form_of bytes) asked ≡ Some target.Binary → HasVerdictWith profile catalog limits asked bytes (Accepted n) written
+    → IsAcceptedAgain profile catalog other limits bytes written n

@@ -1,10 +1,12 @@
-//! Laws of the verdicts of streams, each the contract of a function that does nothing.
+//! Laws of the verdicts of streams, under whatever profiles, each the contract of a function that
+//! does nothing.
+ghost use Rattle.ion_meter.specs.declared.profile.Profile.{Profile};
 ghost use Rattle.ion_transcode.specs.Acceptance.{GoodStreamsAreAccepted, WhatIsAcceptedIsRead, WhatIsReadIsAccepted};
 ghost use Rattle.ion_transcode.specs.AcceptedTrees.{TreesInOrderAreAccepted};
 ghost use Rattle.ion_transcode.specs.Catalogues.{CatalogVerdictsAreRead, CatalogsAreLoaded, CatalogsAreText, OneCatalog, OneCatalogVerdict, TablesAreCatalogs};
 ghost use Rattle.ion_transcode.specs.Depth.{WhatIsReadIsNoDeeper};
 ghost use Rattle.ion_transcode.specs.Forms.{binary_encoding, text_encoding};
-ghost use Rattle.ion_transcode.specs.Laws.{BinaryIsComplete, BinaryIsSound, OneSpelling, OneVerdict, SpellsOnce, StreamsAreRead, TextIsComplete, TextIsSound};
+ghost use Rattle.ion_transcode.specs.Laws.{BinaryIsComplete, BinaryIsSound, OneSpelling, OneVerdict, SpellsOnce, StreamsAreRead, TextIsComplete, TextIsSound, WhatStrictAcceptsIsAccepted};
 ghost use Rattle.ion_transcode.specs.RoundTrip.{RoundTrip, ShowOnce, TextIsRead, ThereAndBack, ValuesOfStreams};
 ghost use Rattle.ion_transcode.specs.ShownAgain.{TextIsReadWithin, WhatIsShownIsAccepted};
 ghost use Rattle.ion_transcode.specs.UserPaths.{FaultlessPathsAreRead, RefusedOutputIsThatOfAPath};
@@ -37,8 +39,9 @@ pub fn text_is_sound()
     text::each_step_falls();
 }
 
-/// Under limits that allow as many bytes as there are, what binary spells is read, and where a reading
-/// stops for another reason than a limit, the input is no stream of binary.
+/// Under limits that allow as many bytes as there are, what binary spells and the profile permits is
+/// read, and where a reading stops for another reason than a limit, the input is no such stream of
+/// binary.
 pub fn binary_is_complete()
     ensures { BinaryIsComplete }
 {
@@ -47,8 +50,8 @@ pub fn binary_is_complete()
     binary::rightly_refused();
 }
 
-/// Under limits that allow as many bytes as there are, what text spells is read, and where a
-/// reading stops for another reason than a limit, the input is no text.
+/// Under limits that allow as many bytes as there are, what text spells and the profile permits is
+/// read, and where a reading stops for another reason than a limit, the input is no such text.
 pub fn text_is_complete()
     ensures { TextIsComplete }
 {
@@ -59,7 +62,7 @@ pub fn text_is_complete()
 
 /// Binary is one stream at most, and of two of its paths the items of one begin the other's.
 pub fn binary_is_spelled_once()
-    ensures { SpellsOnce binary_encoding }
+    ensures { (profile : Profile) → SpellsOnce (binary_encoding profile) }
 {
     binary::one_path();
     binary::one_stream();
@@ -67,7 +70,7 @@ pub fn binary_is_spelled_once()
 
 /// So is text.
 pub fn text_is_spelled_once()
-    ensures { SpellsOnce text_encoding }
+    ensures { (profile : Profile) → SpellsOnce (text_encoding profile) }
 {
     text::one_path();
     text::one_stream();
@@ -189,6 +192,7 @@ pub fn text_is_read()
     text::bool_text_is_read();
     text::int_text_is_read();
     text::decimal_text_is_read();
+    text::float_text_is_read();
     text::timestamp_text_is_read();
     text::string_text_is_read();
     text::quoted_symbol_is_read();
@@ -260,8 +264,8 @@ pub fn what_is_read_is_accepted()
     binary::items_put_the_form();
 }
 
-/// So is each stream of the grammar of its form that passes no limit, has its symbols resolved, and
-/// values of which the writer refuses nothing.
+/// So is each stream of the grammar of its form that the profile permits and that passes no limit, has
+/// its symbols resolved, and values of which the writer refuses nothing.
 pub fn good_streams_are_accepted()
     ensures { GoodStreamsAreAccepted }
 {
@@ -270,9 +274,9 @@ pub fn good_streams_are_accepted()
     text::streams_within_limits_are_read();
 }
 
-/// So, told by its trees alone, is each stream of the grammar of its form that passes no limit, of whose
-/// declarations each is in order and finds its tables, whose other symbols stand in the table at their
-/// place, and of whose values the writer refuses nothing.
+/// So, told by its trees alone, is each stream of the grammar of its form that the profile permits and
+/// that passes no limit, of whose declarations each is in order and finds its tables, whose other
+/// symbols stand in the table at their place, and of whose values the writer refuses nothing.
 pub fn trees_in_order_are_accepted()
     ensures { TreesInOrderAreAccepted }
 {
@@ -296,6 +300,17 @@ pub fn what_is_accepted_is_read()
     text::one_stream();
 }
 
+/// What the strict profile accepts, the one that reads floats accepts too: as many values, with the same
+/// output.
+pub fn what_strict_accepts_is_accepted()
+    ensures { WhatStrictAcceptsIsAccepted }
+{
+    what_is_accepted_is_read();
+    what_is_read_is_accepted();
+    binary::limits_only_cut_short();
+    text::strict_is_read_alike();
+}
+
 /// The values of a stream that is read to its end open no more containers inside each other than
 /// the limit says.
 pub fn what_is_read_is_no_deeper()
@@ -315,6 +330,7 @@ pub fn text_is_read_within()
     text::bool_text_is_read();
     text::int_text_is_read();
     text::decimal_text_is_read();
+    text::float_text_is_read();
     text::timestamp_text_is_read();
     text::string_text_is_read();
     text::quoted_symbol_is_read();

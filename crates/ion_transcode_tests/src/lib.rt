@@ -12,6 +12,8 @@ mod devices;
 #[cfg(test)]
 mod failing_devices;
 #[cfg(test)]
+mod floats;
+#[cfg(test)]
 mod growth_rows;
 #[cfg(test)]
 mod growths;

@@ -10,6 +10,8 @@ mod binary_scalars;
 mod binary_timestamps;
 mod catalogues;
 mod endings;
+mod floats_binary;
+mod floats_text;
 mod symbols_binary;
 mod symbols_imports;
 mod symbols_text;
@@ -29,10 +31,11 @@ use super::same::{same, same_at};
 use ion_meter::fault::{Fault, Reason};
 use ion_meter::limits::Limits;
 use ion_meter::meter::Meter;
+use ion_meter::profile::Profile;
 use ion_meter::stream::{FromRead, ToWrite};
 use ion_test_support::fields::{Fields, is_row};
 use ion_transcode::load::load_catalog;
-use ion_transcode::run::run;
+use ion_transcode::run::run_with;
 use ion_transcode::to::{Form, Summary, To};
 use std::alloc::Global;
 use std::process::Abort;
@@ -96,6 +99,8 @@ fn put_answer(sum: u64, answer: &Answer) -> u64 {
 enum Beside<'a> {
     /// The inputs are streams, read with this catalogue.
     Catalogue(&'a [u8]),
+    /// The inputs are streams, read with no catalogue, in which all floats are read.
+    Floats,
     /// The inputs are catalogues, with which this stream is read.
     Stream(&'a [u8]),
 }
@@ -105,6 +110,7 @@ enum Beside<'a> {
 fn answer_with(
     rt: &impl Abort,
     alloc: Global,
+    profile: Profile,
     catalogue: Giving<'_>,
     stream: Giving<'_>,
     to: To,
@@ -119,7 +125,9 @@ fn answer_with(
     let mut meter = Meter::new(alloc);
     let input = FromRead::new(stream);
     let output = ToWrite::new(Vec::new(alloc));
-    let (outcome, _input, output) = run(&mut meter, &catalog, LIMITS, to, input, output);
+    let (outcome, _input, output) = run_with(
+        &mut meter, &catalog, LIMITS, profile, to, input, output,
+    );
     same(rt, meter.held(), 0);
     catalog.release(&mut kept);
     same(rt, kept.held(), 0);
@@ -128,20 +136,12 @@ fn answer_with(
 
 /// What a run answers of an input.
 fn answer(rt: &impl Abort, alloc: Global, beside: Beside<'_>, input: Giving<'_>, to: To) -> Answer {
-    match beside {
-        Beside::Catalogue(catalogue) => {
-            answer_with(
-                rt,
-                alloc,
-                Giving::all(catalogue, catalogue.len()),
-                input,
-                to,
-            )
-        }
-        Beside::Stream(stream) => {
-            answer_with(rt, alloc, input, Giving::all(stream, stream.len()), to)
-        }
-    }
+    let (profile, catalogue, stream) = match beside {
+        Beside::Catalogue(bytes) => (Profile::strict(), Giving::all(bytes, bytes.len()), input),
+        Beside::Floats => (Profile::floats(), Giving::all(b"", 0), input),
+        Beside::Stream(bytes) => (Profile::strict(), input, Giving::all(bytes, bytes.len())),
+    };
+    answer_with(rt, alloc, profile, catalogue, stream, to)
 }
 
 /// What is wanted of a whole input.
@@ -151,7 +151,7 @@ fn wanted<'a>(
     to: To,
 ) -> (Result<Summary, Fault>, &'a [u8]) {
     let form = match beside {
-        Beside::Catalogue(_) if vector.input.starts_with(b"\xE0") => Form::Binary,
+        Beside::Catalogue(_) | Beside::Floats if vector.input.starts_with(b"\xE0") => Form::Binary,
         _ => Form::Text,
     };
     let written = match (to, form) {
@@ -338,6 +338,12 @@ fn tokens_of_text(rt: HostRuntime) {
 fn numbers_of_text(rt: HostRuntime) {
     let beside = Beside::Catalogue(b"");
     expect_rows(&rt, rt.alloc(), beside, text_numbers::ROWS);
+}
+
+#[test]
+fn floats_of_both_forms(rt: HostRuntime) {
+    expect_rows(&rt, rt.alloc(), Beside::Floats, floats_text::ROWS);
+    expect_rows(&rt, rt.alloc(), Beside::Floats, floats_binary::ROWS);
 }
 
 #[test]

@@ -48,6 +48,7 @@ head-kept : (texts : ℕ → Option (List ℕ)) (head : Head SymbolAt) → texts
 head-kept texts (value.whole (value.null type)) none known = refl
 head-kept texts (value.whole (value.bool truth)) none known = refl
 head-kept texts (value.whole (value.int number)) none known = refl
+head-kept texts (value.whole (value.float number)) none known = refl
 head-kept texts (value.whole (value.decimal number)) none known = refl
 head-kept texts (value.whole (value.timestamp moment)) none known = refl
 head-kept texts (value.whole (value.symbol s)) none known = ap (λ (x : Symbol). value.whole (value.symbol (record { symbol = x; place = s.place }))) (zero-kept texts s.symbol none known)

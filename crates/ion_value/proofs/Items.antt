@@ -2,7 +2,7 @@
 use Rattle.std.proofs.Common.{◌≡◌, ℕ, ◌<◌, ap, refl, ◌∙◌, map, List, [], ◌∷◌, length, get_or, slice_get, Option, Some, None}
 use Rattle.std.specs.Prelude.{option_map}
 use Rattle.std.proofs.lemmas.Option.{slice_get-map, slice_get-get_or}
-use Rattle.ion_value.specs.Value.{Symbol, Text, Id, SymbolAt, PlacedItem, Head, whole, begin, end, marker, null, bool, int, decimal, timestamp, symbol, string, clob, blob, map_head}
+use Rattle.ion_value.specs.Value.{Symbol, Text, Id, SymbolAt, PlacedItem, Head, whole, begin, end, marker, null, bool, int, float, decimal, timestamp, symbol, string, clob, blob, map_head}
 use Rattle.ion_value.specs.Items.{named_at, named_item}
 
 -- a mapped list has the mapped element
@@ -31,6 +31,7 @@ named_head-none : (head : Head SymbolAt) → map_head (named_at (λ _. None)) he
 named_head-none (whole (null type)) = refl
 named_head-none (whole (bool truth)) = refl
 named_head-none (whole (int number)) = refl
+named_head-none (whole (float number)) = refl
 named_head-none (whole (decimal number)) = refl
 named_head-none (whole (timestamp moment)) = refl
 named_head-none (whole (symbol name)) = ap (λ n. whole (symbol n)) (named_at-none name)

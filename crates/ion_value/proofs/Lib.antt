@@ -5,6 +5,7 @@ pub mod Octets
 pub mod VarOctets
 pub mod DecimalOctets
 pub mod Days
+pub mod FloatBits
 pub mod TimestampOctets
 pub mod YearsBeside
 pub mod TimestampBodies
@@ -29,6 +30,7 @@ pub mod ReadingLaws
 pub mod Faults
 pub mod Paths
 pub mod GrowingPaths
+pub mod Permitted
 pub mod Items
 pub mod Outcomes
 pub mod ValueRows

@@ -4,14 +4,14 @@ use Rattle.ion_meter.specs.Counts.{Counts}
 use Rattle.ion_meter.specs.declared.device.Input.{Ghosts as InputOf}
 use Rattle.ion_meter.specs.declared.fault.Fault.{Fault}
 use Rattle.ion_meter.specs.declared.fault.Reason.{Reason}
-use Rattle.ion_meter.specs.declared.limits.Limits.{Limits}
+use Rattle.ion_meter.specs.declared.profile.Rules.{Rules}
 use Rattle.ion_meter.specs.Windows.{Incoming}
 use Rattle.ion_meter.specs.Sources.{Cursor, cursor, Exceeds, Stands, Moves, Causes}
 use Rattle.ion_value.specs.Shares.{Charges, ReadCauses, fault_of}
 use Rattle.ion_value.specs.Answers.{Answers}
 
 -- a call that may take so many counted bytes more may begin, the buffer being of this text
-pub record CanRead {I : Type 0} (limits : Limits) (most : ℕ) (source : Incoming I) (text : List ℕ) (meter : Counts) : Type 0 where
+pub record CanRead {I : Type 0} (limits : Rules) (most : ℕ) (source : Incoming I) (text : List ℕ) (meter : Counts) : Type 0 where
   pub stands : Stands source
   pub holds : length text ≤ meter.held
   pub room : meter.held + most < 2 ^ 63

@@ -9,6 +9,7 @@ use Rattle.ion_value.specs.declared.item.Head.{Head}
 use Rattle.ion_value.specs.declared.item.Head.TheVariants as code
 use Rattle.ion_value.specs.declared.item.Annotations.{Annotations}
 use Rattle.ion_value.specs.declared.item.Item.{Item}
+use Rattle.ion_value.specs.Float.{value_of}
 use Rattle.ion_value.specs.Value as value
 use Rattle.ion_value.specs.Value.{Symbol, SymbolAt, PlacedItem, map_item}
 
@@ -35,6 +36,7 @@ abbrev pub raw_head : Head → value.Head SymbolAt
 raw_head (code.Null type) = value.whole (value.null type)
 raw_head (code.Bool truth) = value.whole (value.bool truth)
 raw_head (code.Int number) = value.whole (value.int number)
+raw_head (code.Float float) = value.whole (value.float (value_of float))
 raw_head (code.Decimal number) = value.whole (value.decimal number)
 raw_head (code.Timestamp moment) = value.whole (value.timestamp moment)
 raw_head (code.Symbol at) = value.whole (value.symbol (symbol_at at))

@@ -3,6 +3,10 @@ pub mod Digits
 pub mod Int
 pub mod Decimal
 pub mod Timestamp
+pub mod Float
+pub mod FloatOctets
+pub mod Shortest
+pub mod FloatText
 pub mod Name
 pub mod Value
 pub mod Scalar

@@ -1,5 +1,5 @@
 -- What is seen of plain items: those whose names and annotations are texts, with two annotations at most.
-use Rattle.std.specs.Prelude.{◌≡◌, ◌==◌, ℕ, true, false, List, [], ◌∷◌, ◌++◌, Option, Some, None, option_map, IfSome, ⊤}
+use Rattle.std.specs.Prelude.{◌≡◌, ◌==◌, ℕ, false, List, [], ◌∷◌, ◌++◌, Option, Some, None, option_map, IfSome, ⊤}
 use Rattle.ion_value.specs.declared.plain_item.TextAt.{TextAt}
 use Rattle.ion_value.specs.declared.quoting.Quoting.{Quoting}
 use Rattle.ion_value.specs.declared.quoting.Quoting.TheVariants as quoting
@@ -10,7 +10,7 @@ use Rattle.ion_value.specs.Int.{int_text}
 use Rattle.ion_value.specs.Name.{coded, IsQuotedAs}
 use Rattle.ion_value.specs.Items.{raw_head}
 use Rattle.ion_value.specs.Timestamp.{timestamp_text}
-use Rattle.ion_value.specs.Value.{Symbol, Text, Id, SymbolAt, Scalar, null, bool, int, decimal, timestamp, symbol, string, clob, blob, Head, whole, begin, end, marker, PlacedItem}
+use Rattle.ion_value.specs.Value.{Symbol, Text, Id, SymbolAt, Scalar, null, bool, int, float, decimal, timestamp, symbol, string, clob, blob, Head, whole, begin, end, marker, PlacedItem}
 
 -- a text with its place, as a symbol
 abbrev pub placed_text : TextAt → SymbolAt
@@ -78,6 +78,7 @@ abbrev pub IsPlainScalar : Scalar SymbolAt → Type 0
 IsPlainScalar (null type) = ⊤
 IsPlainScalar (bool truth) = ⊤
 IsPlainScalar (int number) = ⊤
+IsPlainScalar (float number) = ⊤
 IsPlainScalar (decimal number) = ⊤
 IsPlainScalar (timestamp moment) = ⊤
 IsPlainScalar (symbol s) = IsKnownOrZero s.symbol

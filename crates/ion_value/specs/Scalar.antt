@@ -1,5 +1,5 @@
 -- Scalars: what their octets and their runs of text mean, and the octets that are written.
-use Rattle.std.specs.Prelude.{ℕ, true, false, nat_eq, if◌then◌else◌, List, [], Result, Ok, Err}
+use Rattle.std.specs.Prelude.{ℕ, true, false, nat_eq, if◌then◌else◌, List, [], Option, Some, None, Result, Ok, Err}
 use Rattle.std.specs.Str.{is_utf8}
 use Rattle.ion_meter.specs.declared.fault.Reason.{Reason}
 use Rattle.ion_meter.specs.declared.fault.Reason.TheVariants.{BadDescriptor, BadText, BadToken}
@@ -8,12 +8,14 @@ use Rattle.ion_value.specs.declared.decimal.Decimal.{Decimal}
 use Rattle.ion_value.specs.declared.timestamp.Timestamp.{Timestamp}
 use Rattle.ion_value.specs.declared.ion_type.IonType.{IonType}
 use Rattle.ion_value.specs.declared.ion_type.IonType.TheVariants as type
+use lib.Ieee.{Float}
+use Rattle.ion_value.specs.FloatOctets.{float_of_octets, float_octets}
 use Rattle.ion_value.specs.Number.{uint, uint_octets}
 use Rattle.ion_value.specs.Int.{int_of_bytes, int_of_text}
 use Rattle.ion_value.specs.Decimal.{decimal_of_bytes, decimal_body, decimal_of_text}
 use Rattle.ion_value.specs.Timestamp.{timestamp_of_bytes, timestamp_body, timestamp_of_text}
 use Rattle.ion_value.specs.Name.{raw_id}
-use Rattle.ion_value.specs.Value.{Symbol, Id, Scalar, null, bool, int, decimal, timestamp, symbol, string, clob, blob}
+use Rattle.ion_value.specs.Value.{Symbol, Id, Scalar, null, bool, int, float, decimal, timestamp, symbol, string, clob, blob}
 
 -- ---- octets (binary encoding, "Typed Value Formats")
 
@@ -26,18 +28,24 @@ with_value f (Err reason) = Err reason
 abbrev pub string_of : List ℕ → Result (Scalar Symbol) Reason
 string_of body = if is_utf8 body then Ok (string body) else Err BadText
 
--- the scalar of a type code and a body, or why there is none; null, bools and floats have their whole value in the descriptor
+-- the float that octets spell, or `BadDescriptor` where there are not none, four or eight of them
+abbrev pub float_of_body : Option Float → Result (Scalar Symbol) Reason
+float_of_body (Some x) = Ok (float x)
+float_of_body None = Err BadDescriptor
+
+-- the scalar of a type code and a body, or why there is none; null and bools have their whole value in the descriptor
 unfoldable pub scalar_of_body : ℕ → List ℕ → Result (Scalar Symbol) Reason
 scalar_of_body t body =
     if nat_eq t 2 then with_value int (int_of_bytes false body)
     else (if nat_eq t 3 then with_value int (int_of_bytes true body)
+    else (if nat_eq t 4 then float_of_body (float_of_octets body)
     else (if nat_eq t 5 then with_value decimal (decimal_of_bytes body)
     else (if nat_eq t 6 then with_value timestamp (timestamp_of_bytes body)
     else (if nat_eq t 7 then Ok (symbol (Id (raw_id (uint body))))
     else (if nat_eq t 8 then string_of body
     else (if nat_eq t 9 then Ok (clob body)
     else (if nat_eq t 10 then Ok (blob body)
-    else Err BadDescriptor)))))))
+    else Err BadDescriptor))))))))
 
 -- the code of a type, an int being positive
 abbrev pub type_code : IonType → ℕ
@@ -60,6 +68,7 @@ abbrev pub type_of : {S : Type 0} → Scalar S → IonType
 type_of (null t) = t
 type_of (bool truth) = type.Bool
 type_of (int number) = type.Int
+type_of (float number) = type.Float
 type_of (decimal number) = type.Decimal
 type_of (timestamp moment) = type.Timestamp
 type_of (symbol name) = type.Symbol
@@ -77,6 +86,7 @@ abbrev pub scalar_body : {S : Type 0} → (S → ℕ) → Scalar S → List ℕ
 scalar_body id (null t) = []
 scalar_body id (bool truth) = []
 scalar_body id (int number) = uint_octets number.magnitude
+scalar_body id (float number) = float_octets number
 scalar_body id (decimal number) = decimal_body number
 scalar_body id (timestamp moment) = timestamp_body moment
 scalar_body id (symbol name) = uint_octets (id name)

@@ -5,8 +5,9 @@ use Rattle.ion_value.specs.declared.ion_type.Kind.{Kind}
 use Rattle.ion_value.specs.declared.ion_type.Kind.TheVariants.{Struct}
 use Rattle.ion_value.specs.Int.{IsInt}
 use Rattle.ion_value.specs.Decimal.{IsDecimal}
+use Rattle.ion_value.specs.Float.{IsFloat}
 use Rattle.ion_value.specs.Timestamp.{IsTimestamp}
-use Rattle.ion_value.specs.Value.{Scalar, null, bool, int, decimal, timestamp, symbol, string, clob, blob, Head, whole, begin, end, marker, Item, PlacedItem}
+use Rattle.ion_value.specs.Value.{Scalar, null, bool, int, float, decimal, timestamp, symbol, string, clob, blob, Head, whole, begin, end, marker, Item, PlacedItem}
 
 -- the kinds of the open containers after an item, the innermost first
 abbrev pub open_after : {S : Type 0} → List Kind → Head S → List Kind
@@ -24,6 +25,7 @@ in_struct (_ ∷ kinds) = false
 -- numbers and timestamps are those of this library
 abbrev pub InRange : {S : Type 0} → Scalar S → Type 0
 InRange (int number) = IsInt number
+InRange (float number) = IsFloat number
 InRange (decimal number) = IsDecimal number
 InRange (timestamp moment) = IsTimestamp moment
 InRange (null type) = ⊤

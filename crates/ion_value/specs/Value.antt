@@ -2,6 +2,7 @@
 use Rattle.std.specs.Prelude.{ℕ, Bool, List, [], ◌∷◌, ◌++◌, map, Option, None, option_map, ⊤}
 use Rattle.ion_value.specs.declared.ion_type.IonType.{IonType}
 use Rattle.ion_value.specs.declared.ion_type.Kind.{Kind}
+use lib.Ieee.{Float}
 use Rattle.ion_value.specs.declared.int.Int.{Int}
 use Rattle.ion_value.specs.declared.decimal.Decimal.{Decimal}
 use Rattle.ion_value.specs.declared.timestamp.Timestamp.{Timestamp}
@@ -26,6 +27,7 @@ pub data Scalar (S : Type 0) : Type 0 where
   null : (type : IonType) → Scalar S
   bool : (truth : Bool) → Scalar S
   int : (number : Int) → Scalar S
+  float : (number : Float) → Scalar S
   decimal : (number : Decimal) → Scalar S
   timestamp : (moment : Timestamp) → Scalar S
   symbol : (name : S) → Scalar S
@@ -104,6 +106,7 @@ abbrev pub map_scalar : {S T : Type 0} → (S → T) → Scalar S → Scalar T
 map_scalar f (null type) = null type
 map_scalar f (bool truth) = bool truth
 map_scalar f (int number) = int number
+map_scalar f (float number) = float number
 map_scalar f (decimal number) = decimal number
 map_scalar f (timestamp moment) = timestamp moment
 map_scalar f (symbol name) = symbol (f name)

@@ -3,6 +3,7 @@ ghost use Rattle.std.specs.Prelude.{◌≡◌, ⊤, map, length, slice_get, slic
 ghost use Rattle.ion_value.specs.Items.{symbol_at, named_at, raw_field, raw_head, raw_annotation, raw_annotations, raw_item, named_item, annotations_of, item_names, item_of, names_of, is_none_left};
 
 use crate::decimal::Decimal;
+use crate::float::Float64;
 use crate::int::Int;
 use crate::ion_type::{IonType, Kind};
 use crate::names::{Names, NoNames};
@@ -59,6 +60,8 @@ pub enum Head<'a> {
     Bool(bool),
     /// An int.
     Int(Int),
+    /// A float.
+    Float(Float64),
     /// A decimal.
     Decimal(Decimal),
     /// A timestamp in local time.

@@ -11,6 +11,7 @@ pub mod decimal;
 mod decimal_text;
 mod digit_text;
 mod digits;
+pub mod float;
 pub mod int;
 mod int_field;
 mod int_text;

@@ -14,7 +14,7 @@ impl TextReader<'_, '_> {
                 if self.lim.scalar < 4 {
                     return refuse(Reason::ScalarLimit, place);
                 }
-                return refuse(Reason::Float, place);
+                return self.infinity(h, c, place);
             }
         }
         if self.k != SEXP {
@@ -37,6 +37,18 @@ impl TextReader<'_, '_> {
         let s = self.w.pos;
         h.symbol(Sym { text: self.w.slice(s, s + n), form: S_QUOTED }, self.at(s))?;
         self.w.pos += n;
+        Ok(())
+    }
+
+    /// `+inf` or `-inf` at `pos`.
+    fn infinity<H: Handler>(&mut self, h: &mut H, sign: u8, place: u64) -> Res {
+        if !self.lim.floats {
+            return refuse(Reason::Float, place);
+        }
+        self.ready(h)?;
+        let x = if sign == b'+' { f64::INFINITY } else { f64::NEG_INFINITY };
+        h.float(x, self.at(self.w.pos))?;
+        self.w.pos += 4;
         Ok(())
     }
 
@@ -136,6 +148,62 @@ impl TextReader<'_, '_> {
         }
     }
 
+    /// A float of at most 19 digits and a short exponent; false leaves it to the slow way. It reads its first digits again, so
+    /// that `number` need not keep their value where nothing else wants it.
+    #[inline(always)]
+    fn float<H: Handler>(&mut self, h: &mut H) -> Res<bool> {
+        let s = self.w.pos;
+        let d = s + (self.w.b(s) == b'-') as usize;
+        let Some((digits, power, end)) = self.short_float(d) else { return Ok(false) };
+        if (end - s) as u64 > self.lim.scalar {
+            return refuse(Reason::ScalarLimit, self.w.place(s));
+        }
+        let x = match float::exact(digits, power) {
+            Some(x) if d > s => -x,
+            Some(x) => x,
+            // SAFETY: signs, digits, a point and a letter
+            None => unsafe { std::str::from_utf8_unchecked(self.w.slice(s, end)) }.parse().unwrap(),
+        };
+        if x.is_infinite() {
+            return refuse(Reason::Range, self.w.place(s));
+        }
+        self.ready(h)?;
+        h.float(x, self.at(s))?;
+        self.w.pos = end;
+        Ok(true)
+    }
+
+    /// The digits of such a float from `d` on, their power of ten and its end.
+    #[inline(always)]
+    fn short_float(&self, d: usize) -> Option<(u64, i64, usize)> {
+        // SAFETY: a place up to the end and its slack
+        let load = |i: usize| eight(unsafe { (self.w.ptr(i) as *const u64).read_unaligned() });
+        let run = |mut p: usize, mut digits: u64| loop {
+            let (m, part) = load(p);
+            digits = digits.wrapping_mul(P10[m]).wrapping_add(part);
+            p += m;
+            if m < 8 || p - d > 24 {
+                return (p, digits);
+            }
+        };
+        let (mut p, mut digits) = run(d, 0);
+        let (n, mut places) = (p - d, 0);
+        if self.w.b(p) == b'.' {
+            (p, digits) = run(p + 1, digits);
+            places = p - d - n - 1;
+        }
+        let sign = self.w.b(p + 1);
+        let first = p + 1 + (sign == b'-' || sign == b'+') as usize;
+        let (m, exponent) = load(first);
+        let end = first + m;
+        let is_led_by_zero = n > 1 && self.w.b(d) == b'0';
+        if self.w.b(p) | 0x20 != b'e' || m == 0 || m == 8 || n + places > 19 || is_led_by_zero || !TERM[self.w.b(end) as usize] {
+            return None;
+        }
+        let exponent = if sign == b'-' { -(exponent as i64) } else { exponent as i64 };
+        Some((digits, exponent - places as i64, end))
+    }
+
     /// An int of 20 digits and more: up to 38 here, as they stay below 2^128.
     #[inline(never)]
     pub(super) fn number_big<H: Handler>(&mut self, h: &mut H) -> Res {
@@ -168,6 +236,9 @@ impl TextReader<'_, '_> {
 
     #[inline(never)]
     pub(super) fn number_slow<H: Handler>(&mut self, h: &mut H) -> Res {
+        if self.lim.floats && self.float(h)? {
+            return Ok(());
+        }
         let mut n = 0;
         let place = self.w.place(self.w.pos);
         loop {
@@ -194,7 +265,7 @@ impl TextReader<'_, '_> {
             }
         }
         let s = self.w.pos;
-        let num = match parse_run(self.w.slice(s, s + n)) {
+        let num = match parse_run(self.w.slice(s, s + n), self.lim.floats) {
             Ok(x) => x,
             Err(r) => return refuse(r, place),
         };
@@ -204,6 +275,7 @@ impl TextReader<'_, '_> {
             Num::Int(neg, m) if m <= u64::MAX as u128 => h.int(neg, m as u64, at)?,
             Num::Int(neg, m) => h.int_big(neg, m, at)?,
             Num::Dec(neg, c, e) => h.decimal(neg, c, e, at)?,
+            Num::Float(x) => h.float(x, at)?,
             Num::Ts(t) => h.timestamp(&t, at)?,
         }
         self.w.pos += n;

@@ -1,5 +1,7 @@
+use Rattle.std.proofs.Common.{refl}
+use Rattle.ion_meter.specs.Rules.{strict}
 use Rattle.cozgelt_c.proofs.cozgelt_check.Goals as goal
 
--- what the one call answers for this target
+-- what the call with a profile answers for 0
 pub returns : goal.returns
-returns c = c.convert.ensures
+returns c = c.cozgelt_check_with.ensures.named strict refl

@@ -13,7 +13,7 @@ use crate::body::id_of;
 use crate::descriptor::Shape;
 use crate::scan::{Region, TOP, Within, few_length, few_var};
 use crate::wrapper::{Frame, wrapper_of};
-use ion_meter::limits::Limits;
+use ion_meter::profile::Rules;
 use ion_value::ion_type::Kind;
 use ion_value::names::Names;
 use ion_value::plain_item::TextAt;
@@ -173,7 +173,7 @@ fn shown_second(octets: &[u8], at: usize, end: u64) -> Option<(Option<(u64, usiz
 // The annotation wrapper whose descriptor stands at an offset of these octets, of which the first stands
 // at `here` in the stream, where it has one annotation or two.
 #[inline(always)]
-fn shown_note(octets: &[u8], here: u64, at: usize, most: u64, limits: Limits) -> Option<ShownNote>
+fn shown_note(octets: &[u8], here: u64, at: usize, most: u64, limits: Rules) -> Option<ShownNote>
     requires small { here + length octets.now < 2 ^ 63 }
     requires within { at < length octets.now }
     ensures { IfSome result (λ n. (r : region) → EndsAt r most
@@ -215,7 +215,7 @@ pub(super) fn noted_front<'n, N: Names>(
     around: Around,
     field: Option<TextAt<'n>>,
     at: usize,
-    limits: Limits,
+    limits: Rules,
     names: &'n N,
 ) -> Option<Front<'n>>
     requires small { here + length octets.now < 2 ^ 63 }
@@ -286,6 +286,15 @@ pub(super) fn is_bare(name: Option<TextAt<'_>>) -> bool {
     match name {
         Some(name) => name.code == BARE,
         None => true,
+    }
+}
+
+// Whether the value at an offset is a float.
+#[inline(always)]
+pub(super) fn begins_float(octets: &[u8], at: usize) -> bool {
+    match octets.get(at) {
+        Some(descriptor) => matches!(Shape::of(*descriptor), Shape::Float(_)),
+        None => false,
     }
 }
 

@@ -15,14 +15,14 @@ ghost use Rattle.ion_binary.specs.Bodies.{as_scalar};
 ghost use Rattle.ion_binary.specs.Scanned.{WasFound};
 ghost use Rattle.ion_value.specs.Standing.{InRange};
 ghost use Rattle.ion_meter.specs.Counts.{Shrinks};
-ghost use Rattle.ion_meter.specs.Limits.{AreChecked};
+ghost use Rattle.ion_meter.specs.Rules.{AreSmall};
 ghost use Rattle.ion_meter.specs.Sources.{Stands};
 ghost use Rattle.ion_meter.specs.Windows.{CanPass, IsPassed, lent};
 ghost use Rattle.ion_binary.specs.Wrappers.{as_frames, innermost};
 ghost use Rattle.ion_value.specs.Value.{Id, Text, map_head, symbol, whole};
 
 use super::front::{
-    Around, Front, Level, around_in, bare_front, ends_here, inside, is_bare, noted_front,
+    Around, Front, Level, around_in, bare_front, begins_float, ends_here, inside, is_bare, noted_front,
     region_after, shown_field,
 };
 use super::{BinReader, ItemKind};
@@ -31,8 +31,8 @@ use crate::descriptor::Shape;
 use crate::scan::{Found, few_part};
 use crate::wrapper::Frame;
 use ion_meter::device::{Input, Output};
-use ion_meter::limits::Limits;
 use ion_meter::meter::Meter;
+use ion_meter::profile::Rules;
 use ion_meter::sink::Sink;
 use ion_value::item::{Head, Sym, SymAt};
 use ion_value::names::Names;
@@ -89,6 +89,7 @@ fn shown_head<'h, N: Names>(
         Body::Null(of) => Some(unspelled(Head::Null(of))),
         Body::Bool(truth) => Some(unspelled(Head::Bool(truth))),
         Body::Int(int) => Some(unspelled(Head::Int(int))),
+        Body::Float(float) => Some(unspelled(Head::Float(float))),
         Body::Decimal(decimal) => Some(unspelled(Head::Decimal(decimal))),
         Body::Timestamp(moment) => Some(unspelled(Head::Timestamp(moment))),
         Body::String => Some(unspelled(Head::String(text))),
@@ -99,9 +100,9 @@ fn shown_head<'h, N: Names>(
 
 // The scalar that was found, whose body stands from an offset on, and the octets of that.
 #[inline(always)]
-fn scalar_after(octets: &[u8], found: Found, from: usize, _limits: Limits) -> Option<(Body, &[u8])>
+fn scalar_after(octets: &[u8], found: Found, from: usize, _limits: Rules) -> Option<(Body, &[u8])>
     requires found { WasFound _limits found }
-    requires checked { AreChecked _limits }
+    requires small { AreSmall _limits }
     requires within { from ≤ length octets.now }
     ensures shows { IfSome result (λ r. (here : ℕ) → ShowsRest _limits octets.entry.now here found
         from (from + length r.1.now) (a_scalar (as_scalar r.1.now r.0))) }
@@ -393,7 +394,7 @@ impl<I: Input, A: Allocator + Copy> BinReader<I, A> {
             };
             return self.hand_head::<N, W, O, RUN>(around, front, meter, names, writer, sink);
         }
-        if RUN == QUOTED && is_bare(field) {
+        if RUN == QUOTED && is_bare(field) && !begins_float(octets, at) {
             return false;
         }
         let front = bare_front(field, at);
@@ -436,6 +437,10 @@ impl<I: Input, A: Allocator + Copy> BinReader<I, A> {
             } => {
                 let shape = Shape::body(type_code, length_code);
                 self.hand_body::<N, W, O, RUN>(shape, around, front, meter, names, writer, sink)
+            }
+            Shape::Float(length_code) if RUN != MOST => {
+                let shape = Shape::Float(length_code);
+                self.hand_scalar(shape, around, front, meter, names, writer, sink)
             }
             Shape::Container(kind, length_code) => {
                 let shape = Shape::Container(kind, length_code);

@@ -2,7 +2,7 @@
 ghost use Rattle.std.specs.Prelude.{◌≡◌};
 
 use super::spot::{Bounds, Next, Spot, Start};
-use ion_meter::limits::Limits;
+use ion_meter::profile::Rules;
 use ion_value::plain_item::TextAt;
 
 /// A copy of bounds.
@@ -11,12 +11,10 @@ pub(super) fn bounds_for_call(bounds: Bounds) -> Bounds
     ensures { result ≡ bounds }
 {
     Bounds {
-        limits: Limits {
+        limits: Rules {
             depth: bounds.limits.depth,
             scalar: bounds.limits.scalar,
-            symbols: bounds.limits.symbols,
-            value: bounds.limits.value,
-            input: bounds.limits.input,
+            floats: bounds.limits.floats,
         },
         end: bounds.end,
     }

@@ -14,19 +14,19 @@ ghost use Rattle.ion_value.specs.Value.{whole};
 use super::spot::{Found, Next, next_told};
 use super::texts::text_between;
 use crate::first::First;
-use crate::number::{Number, scan_number};
+use crate::number::{Number, Numeral, scan_number};
 use crate::quick::{Quick, scaled, scan_quick, signed_int};
 use crate::quoted::Quote;
 use crate::scanned::Scanned;
 use crate::slice::{after, front};
 use crate::word::{Word, is_zero_id, scan_simple};
-use ion_meter::limits::Limits;
+use ion_meter::profile::Rules;
 use ion_value::ion_type::Kind;
 use ion_value::item::{Head, Sym, SymAt};
 
 /// The head of the item that begins so, where it lies whole in the bytes and is a frequent one.
 #[inline(always)]
-pub(super) fn scan_head<'a>(limits: Limits, place: u64, next: Next<'a>) -> Option<Found<'a>>
+pub(super) fn scan_head<'a>(limits: Rules, place: u64, next: Next<'a>) -> Option<Found<'a>>
     requires { Begins next }
     ensures { IfSome result (IsFound limits place next.entry.rest.now) }
 {
@@ -54,7 +54,7 @@ fn found_as<'a>(head: Head<'a>, rest: &'a [u8]) -> Found<'a>
 
 /// A container's beginning.
 #[inline(always)]
-pub(super) fn begin_head<'a>(limits: Limits, place: u64, kind: Kind, bytes: &'a [u8]) -> Found<'a>
+pub(super) fn begin_head<'a>(limits: Rules, place: u64, kind: Kind, bytes: &'a [u8]) -> Found<'a>
     requires { BeginsAs (a_begin kind) bytes.now }
     ensures { IsFound limits place bytes.now result }
 {
@@ -111,21 +111,26 @@ fn head_of<'a>(number: Number) -> Head<'a>
     }
 }
 
-/// Any number or timestamp.
+/// Any number or timestamp, and a float where floats are read.
 #[inline(never)]
-pub(super) fn run_head<'a>(limits: Limits, place: u64, bytes: &'a [u8]) -> Option<Found<'a>>
+pub(super) fn run_head<'a>(limits: Rules, place: u64, bytes: &'a [u8]) -> Option<Found<'a>>
     requires { BeginsAs a_run bytes.now }
     ensures { IfSome result (IsFound limits place bytes.now) }
 {
     match scan_number(limits.scalar, bytes) {
-        Scanned::Whole(number, count) => Some(found_as(head_of(number), after(count, bytes))),
+        Scanned::Whole(Numeral::Number(number), count) => {
+            Some(found_as(head_of(number), after(count, bytes)))
+        }
+        Scanned::Whole(Numeral::Float(Some(float)), count) if limits.floats => {
+            Some(found_as(Head::Float(float), after(count, bytes)))
+        }
         _ => None,
     }
 }
 
 // A number: an int or a decimal is mostly read in one pass.
 #[inline(always)]
-fn number_head<'a>(limits: Limits, place: u64, bytes: &'a [u8]) -> Option<Found<'a>>
+fn number_head<'a>(limits: Rules, place: u64, bytes: &'a [u8]) -> Option<Found<'a>>
     requires { BeginsAs a_run bytes.now }
     ensures { IfSome result (IsFound limits place bytes.now) }
 {
@@ -141,7 +146,7 @@ fn number_head<'a>(limits: Limits, place: u64, bytes: &'a [u8]) -> Option<Found<
 
 /// A string of plain bytes alone.
 #[inline(always)]
-pub(super) fn string_head<'a>(limits: Limits, place: u64, bytes: &'a [u8]) -> Option<Found<'a>>
+pub(super) fn string_head<'a>(limits: Rules, place: u64, bytes: &'a [u8]) -> Option<Found<'a>>
     requires { BeginsAs a_short bytes.now }
     ensures { IfSome result (IsFound limits place bytes.now) }
 {
@@ -153,7 +158,7 @@ pub(super) fn string_head<'a>(limits: Limits, place: u64, bytes: &'a [u8]) -> Op
 
 // A word: a null, a bool, or a symbol after which no two colons come.
 #[inline(always)]
-fn word_head<'a>(limits: Limits, place: u64, bytes: &'a [u8]) -> Option<Found<'a>>
+fn word_head<'a>(limits: Rules, place: u64, bytes: &'a [u8]) -> Option<Found<'a>>
     requires { BeginsAs a_word bytes.now }
     ensures { IfSome result (IsFound limits place bytes.now) }
 {
@@ -167,7 +172,7 @@ fn word_head<'a>(limits: Limits, place: u64, bytes: &'a [u8]) -> Option<Found<'a
 /// A null or a bool that has so many bytes.
 #[inline(always)]
 pub(super) fn keyword_head<'a>(
-    limits: Limits,
+    limits: Rules,
     place: u64,
     word: Word,
     count: usize,
@@ -189,7 +194,7 @@ pub(super) fn keyword_head<'a>(
 /// A symbol that has so many bytes, where a token is told after it that is no two colons.
 #[inline(always)]
 pub(super) fn symbol_head<'a>(
-    limits: Limits,
+    limits: Rules,
     place: u64,
     count: usize,
     bytes: &'a [u8],
@@ -216,7 +221,7 @@ pub(super) fn symbol_head<'a>(
 
 /// A symbol in quotes of plain bytes alone, where a token is told after it that is no two colons.
 #[inline(never)]
-pub(super) fn quoted_head<'a>(limits: Limits, place: u64, bytes: &'a [u8]) -> Option<Found<'a>>
+pub(super) fn quoted_head<'a>(limits: Rules, place: u64, bytes: &'a [u8]) -> Option<Found<'a>>
     requires { BeginsAs a_quoted bytes.now }
     ensures { IfSome result (IsFound limits place bytes.now) }
 {
@@ -235,7 +240,7 @@ pub(super) fn quoted_head<'a>(limits: Limits, place: u64, bytes: &'a [u8]) -> Op
 
 /// The symbol `$0`, where a token is told after it that is no two colons.
 #[inline(always)]
-pub(super) fn zero_head<'a>(limits: Limits, place: u64, bytes: &'a [u8]) -> Option<Found<'a>>
+pub(super) fn zero_head<'a>(limits: Rules, place: u64, bytes: &'a [u8]) -> Option<Found<'a>>
     ensures { IfSome result (IsFound limits place bytes.now) }
 {
     if !is_zero_id(limits.scalar, bytes) {

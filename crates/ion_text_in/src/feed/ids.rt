@@ -14,8 +14,8 @@ use crate::scanned::Scanned;
 use crate::slice::after;
 use crate::word::{Word, scan_word};
 use ion_meter::device::Output;
-use ion_meter::limits::Limits;
 use ion_meter::meter::Meter;
+use ion_meter::profile::Rules;
 use ion_meter::sink::Sink;
 use ion_meter::stack::Stack;
 use ion_value::ion_type::Kind;
@@ -131,7 +131,7 @@ fn id_start<'a, N: Names>(
 fn id_name<'a, N: Names>(
     bytes: &'a [u8],
     names: &'a N,
-    limits: Limits,
+    limits: Rules,
     place: u64,
 ) -> Option<Start<'a>>
     requires { first_is (λ b. b == 36) bytes.now ≡ true }
@@ -210,7 +210,7 @@ fn id_found<'a, N: Names>(
 fn id_head<'a, N: Names>(
     bytes: &'a [u8],
     names: &'a N,
-    limits: Limits,
+    limits: Rules,
     place: u64,
 ) -> Option<Found<'a>>
     requires { first_is (λ b. b == 36) bytes.now ≡ true }

@@ -10,7 +10,7 @@ use crate::first::{First, shows_colon};
 use crate::quoted::Quote;
 use crate::slice::{after, front};
 use crate::word::simple_word;
-use ion_meter::limits::Limits;
+use ion_meter::profile::Rules;
 use ion_value::ion_type::Kind;
 use ion_value::plain_item::TextAt;
 use ion_value::quoting::BARE;
@@ -36,7 +36,7 @@ pub(super) fn to_start<'a>(spot: Spot<'a>, next: Next<'a>, bounds: Bounds) -> Op
 // What the value begins with after the name that must come, and that begins at a place: none after a
 // name between quotes, so that of those here it is known, and asked of none, that they are simple.
 #[inline(always)]
-fn field_start<'a>(next: Next<'a>, limits: Limits, place: u64) -> Option<Start<'a>>
+fn field_start<'a>(next: Next<'a>, limits: Rules, place: u64) -> Option<Start<'a>>
     requires { 0 < next.told → Begins next }
     ensures { IfSome result (IsNamed limits place next.entry.rest.now) }
 {
@@ -56,7 +56,7 @@ fn field_start<'a>(next: Next<'a>, limits: Limits, place: u64) -> Option<Start<'
 
 /// What the value begins with after a field's name between quotes.
 #[inline(always)]
-pub(super) fn quoted_start<'a>(next: Next<'a>, limits: Limits, place: u64) -> Option<Start<'a>>
+pub(super) fn quoted_start<'a>(next: Next<'a>, limits: Rules, place: u64) -> Option<Start<'a>>
     requires { Begins next }
     ensures { IfSome result (IsNamed limits place next.entry.rest.now) }
 {
@@ -69,7 +69,7 @@ pub(super) fn quoted_start<'a>(next: Next<'a>, limits: Limits, place: u64) -> Op
 
 // What the value begins with after a field's name of plain bytes alone between such quotes.
 #[inline(always)]
-fn text_start<'a>(quote: Quote, limits: Limits, place: u64, bytes: &'a [u8]) -> Option<Start<'a>>
+fn text_start<'a>(quote: Quote, limits: Rules, place: u64, bytes: &'a [u8]) -> Option<Start<'a>>
     requires { BeginsText quote bytes.now }
     ensures { IfSome result (IsNamed limits place bytes.now) }
 {

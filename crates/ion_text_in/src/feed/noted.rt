@@ -10,7 +10,7 @@ use super::texts::{quoted_text, text_between};
 use crate::quoted::Quote;
 use crate::slice::{after, front};
 use crate::word::simple_word;
-use ion_meter::limits::Limits;
+use ion_meter::profile::Rules;
 use ion_value::plain_item::TextAt;
 use ion_value::quoting::BARE;
 
@@ -21,7 +21,7 @@ use ion_value::quoting::BARE;
 pub(super) fn noted<'a>(start: Start<'a>, room: u64, place: u64, count: usize) -> Option<Start<'a>>
     requires begins { BeginsAs a_word start.next.rest.now }
     requires some { count ≤ length start.next.rest.now }
-    ensures { (limits : Limits) → IsSimpleWord limits.scalar start.entry.next.rest.now count
+    ensures { (limits : Rules) → IsSimpleWord limits.scalar start.entry.next.rest.now count
         → room ≡ limits.scalar - sum_by cost (notes start.entry.note)
         → IfSome result (IsNoted limits place start.entry) }
 {
@@ -38,7 +38,7 @@ pub(super) fn noted<'a>(start: Start<'a>, room: u64, place: u64, count: usize) -
 #[inline(never)]
 pub(super) fn quoted_noted<'a>(
     start: Start<'a>,
-    limits: Limits,
+    limits: Rules,
     room: u64,
     place: u64,
 ) -> Option<Start<'a>>
@@ -57,7 +57,7 @@ pub(super) fn quoted_noted<'a>(
 
 // What is left of the limit on scalars after an annotation.
 #[inline(always)]
-fn room_after(note: TextAt<'_>, limits: Limits) -> u64
+fn room_after(note: TextAt<'_>, limits: Rules) -> u64
     ensures { result ≡ limits.scalar - sum_by cost (notes (Some note.entry)) }
 {
     limits.scalar.saturating_sub(16 + note.text.len() as u64)
@@ -72,7 +72,7 @@ fn after_note<'a>(
     colons: &'a [u8],
     room: u64,
 ) -> Option<Start<'a>>
-    ensures { (limits : Limits) → room ≡ limits.scalar - sum_by cost (notes start.entry.note)
+    ensures { (limits : Rules) → room ≡ limits.scalar - sum_by cost (notes start.entry.note)
         → IfSome result (IsAfterNote limits start.entry note.entry colons.now) }
 {
     if room < 16 + note.text.len() as u64 {

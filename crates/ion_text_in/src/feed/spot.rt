@@ -13,7 +13,7 @@ use crate::comments::after_blanks;
 use crate::expected::is_separated;
 use crate::first::told_first;
 use crate::slice::after;
-use ion_meter::limits::Limits;
+use ion_meter::profile::Rules;
 use ion_meter::stack::Stack;
 use ion_value::ion_type::Kind;
 use ion_value::item::Head;
@@ -39,7 +39,7 @@ pub(crate) struct Spot<'a> {
 #[derive(Clone, Copy)]
 pub(crate) struct Bounds {
     /// The limits of the run.
-    pub(crate) limits: Limits,
+    pub(crate) limits: Rules,
     /// The place where the window ends.
     pub(crate) end: u64,
 }

@@ -3,6 +3,7 @@
 use super::pieces::Pieces;
 use super::{LIMITS, WHOLE, expect_pieces};
 use ion_meter::limits::Limits;
+use ion_meter::profile::Profile;
 use std::alloc::Global;
 use std::fmt::Write;
 use std::process::Abort;
@@ -90,7 +91,14 @@ fn reads_long_texts(rt: HostRuntime) -> Result<(), Fail> {
         let text = text_of(alloc, *text)?;
         let words = text_of(alloc, *words)?;
         let pieces = Pieces::new(text.as_bytes(), WHOLE, WHOLE);
-        let left = expect_pieces(&rt, alloc, limits, pieces, words.as_str())?;
+        let left = expect_pieces(
+            &rt,
+            alloc,
+            limits,
+            Profile::strict(),
+            pieces,
+            words.as_str(),
+        )?;
         if let Some(held) = held {
             assert!(&rt; left == *held);
         }
@@ -108,10 +116,24 @@ fn passes_long_comments(rt: HostRuntime) -> Result<(), Fail> {
         let mut words = String::new(alloc);
         write!(words, "{place}/{place} symbol 'x'@{place}; over")?;
         let pieces = Pieces::new(text.as_bytes(), WHOLE, WHOLE);
-        expect_pieces(&rt, alloc, LIMITS, pieces, words.as_str())?;
+        expect_pieces(
+            &rt,
+            alloc,
+            LIMITS,
+            Profile::strict(),
+            pieces,
+            words.as_str(),
+        )?;
         let text = text_of(alloc, ("/*", ".", count, ""))?;
         let pieces = Pieces::new(text.as_bytes(), WHOLE, WHOLE);
-        expect_pieces(&rt, alloc, LIMITS, pieces, "Truncated at 0")?;
+        expect_pieces(
+            &rt,
+            alloc,
+            LIMITS,
+            Profile::strict(),
+            pieces,
+            "Truncated at 0",
+        )?;
     }
     Ok(())
 }
@@ -123,14 +145,21 @@ fn tells_faults_in_blanks(rt: HostRuntime) -> Result<(), Fail> {
     for reads in 0..text.len() as u32 {
         let mut pieces = Pieces::new(text, 1, 1);
         pieces.fails_at = Some(reads);
-        expect_pieces(&rt, alloc, LIMITS, pieces, "read fault")?;
+        expect_pieces(&rt, alloc, LIMITS, Profile::strict(), pieces, "read fault")?;
     }
     for input in 0..text.len() {
         let limits = Limits {
             input: input as u64,
             ..LIMITS
         };
-        expect_pieces(&rt, alloc, limits, Pieces::new(text, 3, 3), "input limit")?;
+        expect_pieces(
+            &rt,
+            alloc,
+            limits,
+            Profile::strict(),
+            Pieces::new(text, 3, 3),
+            "input limit",
+        )?;
     }
     Ok(())
 }

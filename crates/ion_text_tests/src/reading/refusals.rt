@@ -2,6 +2,7 @@
 
 use super::pieces::Pieces;
 use super::{LIMITS, Told, read_by};
+use ion_meter::profile::Profile;
 use linked_list_allocator::LocalHeap;
 use std::alloc::Global;
 use std::process::Abort;
@@ -117,7 +118,14 @@ fn expect(rt: &impl Abort, alloc: Global, row: Row) -> Result<(), Fail> {
     let mut refused = 0usize;
     for more in 0..64usize {
         let heap = LocalHeap::new(alloc, 4096 + 8 * more)?;
-        let told = read_by(rt, &heap, LIMITS, Pieces::new(text, most, most), alloc)?;
+        let told = read_by(
+            rt,
+            &heap,
+            LIMITS,
+            Profile::strict(),
+            Pieces::new(text, most, most),
+            alloc,
+        )?;
         if is_whole(rt, &told, words) {
             assert_eq!(rt; refused, growths);
             return Ok(());

@@ -93,6 +93,10 @@ fn tell_head(words: &mut String, head: Head<'_>) -> Result<(), AllocError> {
             let magnitude = int.magnitude;
             write!(words, "int {sign}{magnitude}")
         }
+        Head::Float(float) => {
+            let bits = float.bits();
+            write!(words, "float {bits:x}")
+        }
         Head::Decimal(decimal) => {
             let sign = sign(decimal.negative);
             let coefficient = decimal.coefficient;

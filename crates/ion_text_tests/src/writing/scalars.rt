@@ -25,7 +25,7 @@ pub const NULLS_AND_BOOLS: &[Row] = &[
     (Part::Bool(false), b"false\n"),
 ];
 
-/// Ints and decimals.
+/// Ints, floats and decimals.
 pub const NUMBERS: &[Row] = &[
     (Part::Int(b"0"), b"0\n"),
     (Part::Int(b"-0"), b"0\n"),
@@ -35,6 +35,20 @@ pub const NUMBERS: &[Row] = &[
         b"-340282366920938463463374607431768211455\n",
     ),
     (Part::Int(b"0xff"), b"255\n"),
+    (Part::Float(b""), b"0e0\n"),
+    (Part::Float(&[0x80, 0, 0, 0]), b"-0e0\n"),
+    (Part::Float(&[0x3F, 0xC0, 0, 0]), b"1.5e0\n"),
+    (
+        Part::Float(&[0x3F, 0xB9, 0x99, 0x99, 0x99, 0x99, 0x99, 0x9A]),
+        b"1e-1\n",
+    ),
+    (
+        Part::Float(&[0x44, 0xDF, 0xE1, 0x85, 0xCA, 0x57, 0xC5, 0x17]),
+        b"6.02214076e23\n",
+    ),
+    (Part::Float(&[0xFF, 0xC0, 0, 0]), b"nan\n"),
+    (Part::Float(&[0x7F, 0x80, 0, 0]), b"+inf\n"),
+    (Part::Float(&[0xFF, 0x80, 0, 0]), b"-inf\n"),
     (Part::Decimal(b"0."), b"0.\n"),
     (Part::Decimal(b"-0."), b"-0.\n"),
     (Part::Decimal(b"12d-1"), b"1.2\n"),

@@ -8,7 +8,7 @@ use Rattle.ion_binary.proofs.scan.few_part.Goals as goal
 
 pub few_length-requires-clause-length_code : goal.few_length-requires-clause-length_code
 few_length-requires-clause-length_code c =
-    omega (arith, c.length_code.ensures, length_code-small (as_shape c.args.shape) (shape_read (get_or c.args.octets.now c.args.at 0) (as_shape c.args.shape) c.requires.shape))
+    omega (arith, c.length_code.ensures, length_code-small c.args.limits (as_shape c.args.shape) (shape_read (get_or c.args.octets.now c.args.at 0) (as_shape c.args.shape) c.requires.shape))
 
 pub found_of-requires-clause-shape : goal.found_of-requires-clause-shape
 found_of-requires-clause-shape c = shape_read (get_or c.args.octets.now c.args.at 0) (as_shape c.args.shape) c.requires.shape

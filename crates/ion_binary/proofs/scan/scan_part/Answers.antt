@@ -51,7 +51,7 @@ returns-in-Ok-clause-shows c =
 
 pub scan_length-requires-clause-length_code : goal.scan_length-requires-clause-length_code
 scan_length-requires-clause-length_code c =
-    omega (arith, c.length_code.ensures, length_code-small (as_shape c.of-shape.result) (shape_read (get_or c.args.octets.now 0 0) (as_shape c.of-shape.result) c.of-shape.ensures))
+    omega (arith, c.length_code.ensures, length_code-small c.args.limits (as_shape c.of-shape.result) (shape_read (get_or c.args.octets.now 0 0) (as_shape c.of-shape.result) c.of-shape.ensures))
 
 pub found_of-requires-clause-shape : goal.found_of-requires-clause-shape
 found_of-requires-clause-shape c = shape_read (get_or c.args.octets.now 0 0) (as_shape c.of-shape.result) c.of-shape.ensures

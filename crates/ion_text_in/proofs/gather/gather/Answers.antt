@@ -2,7 +2,7 @@ use Rattle.std.proofs.Common.{◌∙◌, ap, sym, ℕ, List, ◌++◌, ◌*◌, 
 use Rattle.std.proofs.lemmas.Grind.{common_steps}
 use Rattle.ion_meter.specs.Counts.{Counts}
 use Rattle.ion_meter.specs.declared.device.Input.{Ghosts as InputOf}
-use Rattle.ion_meter.specs.declared.limits.Limits.{Limits}
+use Rattle.ion_meter.specs.declared.profile.Rules.{Rules}
 use Rattle.ion_meter.specs.Sources.{Cursor, cursor, skip}
 use Rattle.ion_meter.specs.Windows.{Incoming}
 use Rattle.ion_meter.proofs.Lent.{lent-take}
@@ -42,7 +42,7 @@ returns-in_err-append-clause-gives g c = λ h.
     ∙ run-over-limit run most n c.parts.text (cursor g.I.Input p) (lent-there g.I.Input.rest p n part.there) (part.goes hs) over))
 
 -- a part was looked at, and put after the text
-part-after : {I N T : Type 0} (device : InputOf I) (limits : Limits) (s t u v : Incoming I) (a b c : Counts) (k l n : List ℕ) (x : N) (y : T) → length k ≤ a.held → Gathers {T = Unit {0}} device limits s t a b k l (Ok tt)
+part-after : {I N T : Type 0} (device : InputOf I) (limits : Rules) (s t u v : Incoming I) (a b c : Counts) (k l n : List ℕ) (x : N) (y : T) → length k ≤ a.held → Gathers {T = Unit {0}} device limits s t a b k l (Ok tt)
     → Reads device t u (Ok x) → ReadsInto device u v b c (length l) (length n) limits.scalar (Ok y) → GrowsWithin b c (length l) (length n) (8 * passed_over u v) → Gathers {T = Unit {0}} device limits s v a c k n (Ok tt)
 part-after device limits s t u v a b c k l n x y holds one looked added grows = record { reads = grind (arith, common_steps); goes = grind (arith, common_steps) }
 

@@ -3,7 +3,7 @@ use Rattle.std.proofs.lemmas.Grind.{common_steps}
 use Rattle.std.proofs.lemmas.List.{length-append}
 use Rattle.ion_meter.specs.Counts.{Counts}
 use Rattle.ion_meter.specs.declared.device.Input.{Ghosts as InputOf}
-use Rattle.ion_meter.specs.declared.limits.Limits.{Limits}
+use Rattle.ion_meter.specs.declared.profile.Rules.{Rules}
 use Rattle.ion_meter.specs.Sources.{cursor}
 use Rattle.ion_meter.specs.Windows.{Incoming}
 use Rattle.ion_value.specs.Calls.{Reads}
@@ -26,7 +26,7 @@ returns-in_err-put_meant-in-Text-clause-gives g c = λ h.
     (continues-puts {T = Unit {0}} (Err f) c.take_plain.new.text c.put_meant.new.text (bytes_of c.in-Text.meant) limit c.args.place (λ (l : List ℕ). onward (quote_of c.args.quote) limit l d) c.in_err-put_meant-in-Text.ensures.puts))
 
 -- a piece was passed over, and a few bytes put after the text
-put-then : {I T : Type 0} (device : InputOf I) (limits : Limits) (s t u : Incoming I) (a b c : Counts) (k l n bytes : List ℕ) (place : ℕ) (x : T) → length k ≤ a.held
+put-then : {I T : Type 0} (device : InputOf I) (limits : Rules) (s t u : Incoming I) (a b c : Counts) (k l n bytes : List ℕ) (place : ℕ) (x : T) → length k ≤ a.held
     → Gathers {T = Unit {0}} device limits s t a b k l (Ok tt) → Reads device t u (Ok x) → t.place < u.place → length bytes ≤ 4 → Puts {T = Unit {0}} limits b c l n bytes place (Ok tt)
     → Gathers {T = Unit {0}} device limits s u a c k n (Ok tt)
 put-then device limits s t u a b c k l n bytes place x holds one y some few z = record { reads = grind (arith, common_steps); goes = grind (arith, common_steps) }

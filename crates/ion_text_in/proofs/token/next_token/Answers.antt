@@ -46,8 +46,8 @@ returns-in_ok-next_word-in-Word-clause-gives g c = λ h.
 
 pub returns-in_ok-next_number-in-Number-clause-gives : goal.returns-in_ok-next_number-in-Number-clause-gives
 returns-in_ok-next_number-in-Number-clause-gives g c = λ h.
-    let t = c.number_token.ensures in
-    alone c.args.limits.scalar c.next_number.new.text c.args.source.now.place c.args.first _ (cursor g.I.Input c.args.source.now) (cursor g.I.Input c.next_number.new.source) c.number_token.result _ c.in-Number.is
+    let t = c.numeral_token.ensures in
+    alone c.args.limits.scalar c.next_number.new.text c.args.source.now.place c.args.first _ (cursor g.I.Input c.args.source.now) (cursor g.I.Input c.next_number.new.source) c.numeral_token.result _ c.in-Number.is
     (c.in_ok-next_number-in-Number.ensures.gives h) (t.is c.next_number.new.text c.args.source.now.place) t.alone
 
 pub returns-in_ok-next_lob-in-Lob-clause-gives : goal.returns-in_ok-next_lob-in-Lob-clause-gives

@@ -32,6 +32,9 @@ returns-in-String g c = grind (arith, common_steps)
 pub returns-in-Blob : goal.returns-in-Blob
 returns-in-Blob g c = grind (arith, common_steps)
 
+pub returns-in-Float : goal.returns-in-Float
+returns-in-Float g c = grind (arith, common_steps)
+
 pub returns-in-Decimal : goal.returns-in-Decimal
 returns-in-Decimal g c = grind (arith, common_steps)
 

@@ -6,46 +6,46 @@ use Rattle.ion_tool.proofs.serve.serve.Goals.{in-Ok-Help, in-Ok-Usage, in-Err}
 use Rattle.ion_tool.proofs.serve.serve.Goals as goal
 
 pub returns-in-Ok-Run-clause-ran : goal.returns-in-Ok-Run-clause-ran
-returns-in-Ok-Run-clause-ran g c action limits run =
+returns-in-Ok-Run-clause-ran g c task limits run =
     let job = c.in-Ok-Run.job in
     let catalog = c.in-Ok-Run.catalog in
     let asks = rw (c.in-Ok-Run.field-0-is, c.as_slice.ensures.value) at c.in-Ok-Run.ensures.asks in
-    let same = one_run _ action job.action limits job.limits None (option_map string_bytes catalog) None (option_map string_bytes job.file) run asks.0 in
+    let same = one_run _ task job.task limits job.limits None (option_map string_bytes catalog) None (option_map string_bytes job.file) run asks.0 in
     let served = (c.serve_run.ensures.plain (no_file string_bytes catalog same.2)).1 in
     let plain = rw (← same.3) at served in
     (plain.0, inl (rw (same.0, same.1) plain.1))
 
 pub returns-in-Ok-Run-clause-file : goal.returns-in-Ok-Run-clause-file
-returns-in-Ok-Run-clause-file g c action limits name run =
+returns-in-Ok-Run-clause-file g c task limits name run =
     let job = c.in-Ok-Run.job in
     let catalog = c.in-Ok-Run.catalog in
     let asks = rw (c.in-Ok-Run.field-0-is, c.as_slice.ensures.value) at c.in-Ok-Run.ensures.asks in
-    let same = one_run _ action job.action limits job.limits None (option_map string_bytes catalog) (Some name) (option_map string_bytes job.file) run asks.0 in
+    let same = one_run _ task job.task limits job.limits None (option_map string_bytes catalog) (Some name) (option_map string_bytes job.file) run asks.0 in
     let served = (c.serve_run.ensures.plain (no_file string_bytes catalog same.2)).1 in
     let named = rw (← same.3) at served in
     (named.0, inl (rw (same.0, same.1) named.1))
 
 pub returns-in-Ok-Run-clause-uncatalogued : goal.returns-in-Ok-Run-clause-uncatalogued
-returns-in-Ok-Run-clause-uncatalogued g c action limits file run =
+returns-in-Ok-Run-clause-uncatalogued g c task limits file run =
     let job = c.in-Ok-Run.job in
     let catalog = c.in-Ok-Run.catalog in
     let asks = rw (c.in-Ok-Run.field-0-is, c.as_slice.ensures.value) at c.in-Ok-Run.ensures.asks in
-    let same = one_run _ action job.action limits job.limits None (option_map string_bytes catalog) file (option_map string_bytes job.file) run asks.0 in
+    let same = one_run _ task job.task limits job.limits None (option_map string_bytes catalog) file (option_map string_bytes job.file) run asks.0 in
     (c.serve_run.ensures.plain (no_file string_bytes catalog same.2)).0
 
 pub returns-in-Ok-Run-clause-catalog : goal.returns-in-Ok-Run-clause-catalog
-returns-in-Ok-Run-clause-catalog g c action limits name file run =
+returns-in-Ok-Run-clause-catalog g c task limits name file run =
     let job = c.in-Ok-Run.job in
     let catalog = c.in-Ok-Run.catalog in
     let asks = rw (c.in-Ok-Run.field-0-is, c.as_slice.ensures.value) at c.in-Ok-Run.ensures.asks in
-    let same = one_run _ action job.action limits job.limits (Some name) (option_map string_bytes catalog) file (option_map string_bytes job.file) run asks.0 in
+    let same = one_run _ task job.task limits job.limits (Some name) (option_map string_bytes catalog) file (option_map string_bytes job.file) run asks.0 in
     inl (rw (same.0, same.1, same.3) (c.serve_run.ensures.named name (sym same.2)))
 
 pub returns-clause-ran : goal.returns-clause-ran
-returns-clause-ran g c action limits run =
+returns-clause-ran g c task limits run =
     elim c.match-read_words.branch [
-      | in-Ok-Help w ↦ let asks = rw (w.in-Ok-Help.field-0-is, c.as_slice.ensures.value) at w.in-Ok-Help.ensures.asks in elim (asks.0 (action, limits, None, None, run)) [ ]
-      | in-Ok-Usage w ↦ let asks = rw (w.in-Ok-Usage.field-0-is, c.as_slice.ensures.value) at w.in-Ok-Usage.ensures.asks in elim (asks.0 (action, limits, None, None, run)) [ ]
+      | in-Ok-Help w ↦ let asks = rw (w.in-Ok-Help.field-0-is, c.as_slice.ensures.value) at w.in-Ok-Help.ensures.asks in elim (asks.0 (task, limits, None, None, run)) [ ]
+      | in-Ok-Usage w ↦ let asks = rw (w.in-Ok-Usage.field-0-is, c.as_slice.ensures.value) at w.in-Ok-Usage.ensures.asks in elim (asks.0 (task, limits, None, None, run)) [ ]
       | in-Err w ↦ (
         search rules,
         inr (record {
@@ -61,10 +61,10 @@ returns-clause-ran g c action limits run =
     ]
 
 pub returns-clause-file : goal.returns-clause-file
-returns-clause-file g c action limits name run =
+returns-clause-file g c task limits name run =
     elim c.match-read_words.branch [
-      | in-Ok-Help w ↦ let asks = rw (w.in-Ok-Help.field-0-is, c.as_slice.ensures.value) at w.in-Ok-Help.ensures.asks in elim (asks.0 (action, limits, None, Some name, run)) [ ]
-      | in-Ok-Usage w ↦ let asks = rw (w.in-Ok-Usage.field-0-is, c.as_slice.ensures.value) at w.in-Ok-Usage.ensures.asks in elim (asks.0 (action, limits, None, Some name, run)) [ ]
+      | in-Ok-Help w ↦ let asks = rw (w.in-Ok-Help.field-0-is, c.as_slice.ensures.value) at w.in-Ok-Help.ensures.asks in elim (asks.0 (task, limits, None, Some name, run)) [ ]
+      | in-Ok-Usage w ↦ let asks = rw (w.in-Ok-Usage.field-0-is, c.as_slice.ensures.value) at w.in-Ok-Usage.ensures.asks in elim (asks.0 (task, limits, None, Some name, run)) [ ]
       | in-Err w ↦ (
         search rules,
         inr (record {
@@ -80,10 +80,10 @@ returns-clause-file g c action limits name run =
     ]
 
 pub returns-clause-catalog : goal.returns-clause-catalog
-returns-clause-catalog g c action limits name file run =
+returns-clause-catalog g c task limits name file run =
     elim c.match-read_words.branch [
-      | in-Ok-Help w ↦ let asks = rw (w.in-Ok-Help.field-0-is, c.as_slice.ensures.value) at w.in-Ok-Help.ensures.asks in elim (asks.0 (action, limits, Some name, file, run)) [ ]
-      | in-Ok-Usage w ↦ let asks = rw (w.in-Ok-Usage.field-0-is, c.as_slice.ensures.value) at w.in-Ok-Usage.ensures.asks in elim (asks.0 (action, limits, Some name, file, run)) [ ]
+      | in-Ok-Help w ↦ let asks = rw (w.in-Ok-Help.field-0-is, c.as_slice.ensures.value) at w.in-Ok-Help.ensures.asks in elim (asks.0 (task, limits, Some name, file, run)) [ ]
+      | in-Ok-Usage w ↦ let asks = rw (w.in-Ok-Usage.field-0-is, c.as_slice.ensures.value) at w.in-Ok-Usage.ensures.asks in elim (asks.0 (task, limits, Some name, file, run)) [ ]
       | in-Err w ↦ inr (
         search rules,
         record {

@@ -11,6 +11,7 @@ returns-clause-some c =
       rows_of found,
       search rules,
       sym (first_value-rows found (codes "to")) ∙ (sym c.get_str.ensures ∙ c.in_ok-action.ensures.some.1),
+      sym c.profile_of.ensures,
       search rules,
       search rules,
       sym (c.get_str-catalog.ensures ∙ first_value-rows found (codes "catalog")),

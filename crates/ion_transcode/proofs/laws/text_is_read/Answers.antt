@@ -10,6 +10,7 @@ returns c = text-is-read (record {
   bools = c.bool_text_is_read.ensures;
   ints = c.int_text_is_read.ensures;
   decimals = c.decimal_text_is_read.ensures;
+  floats = c.float_text_is_read.ensures;
   timestamps = c.timestamp_text_is_read.ensures;
   strings = c.string_text_is_read.ensures;
   quoted_symbols = c.quoted_symbol_is_read.ensures;

@@ -18,6 +18,13 @@ hand_scalar-requires-in-Bool g c = record {
   is = rw c.buffer-octets.ensures at (sym (ap as_shape c.in-Bool.is) ∙ c.of.ensures);
 }
 
+pub hand_scalar-requires-in-Float : goal.hand_scalar-requires-in-Float
+hand_scalar-requires-in-Float g c = record {
+  item = c.requires;
+  within = grind (arith, common_steps) steps 400000;
+  is = rw c.buffer-octets.ensures at (sym (ap as_shape c.in-Float.is) ∙ c.of.ensures);
+}
+
 pub hand_body-requires : goal.hand_body-requires
 hand_body-requires g c = record {
   item = c.requires;
@@ -37,6 +44,9 @@ returns-in-Null g c = c.hand_scalar.ensures
 
 pub returns-in-Bool : goal.returns-in-Bool
 returns-in-Bool g c = c.hand_scalar-in-Bool.ensures
+
+pub returns-in-Float : goal.returns-in-Float
+returns-in-Float g c = c.hand_scalar-in-Float.ensures
 
 pub returns-in-Body : goal.returns-in-Body
 returns-in-Body g c = c.hand_body.ensures

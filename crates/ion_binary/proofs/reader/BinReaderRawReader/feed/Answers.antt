@@ -1,6 +1,6 @@
 use Rattle.std.proofs.Common.{ap, sym, subst, ◌∙◌, arith}
 use Rattle.std.proofs.lemmas.Grind.{common_steps}
-use Rattle.ion_meter.specs.declared.limits.Limits.{Limits}
+use Rattle.ion_meter.specs.declared.profile.Rules.{Rules}
 use Rattle.ion_value.specs.Items.{named_item}
 use Rattle.ion_value.proofs.Handing.{finished-feeds}
 use Rattle.ion_binary.specs.Lane.{joint}
@@ -67,7 +67,7 @@ returns g c =
       feeds = h.feeds;
       level = grind (arith, common_steps);
       falls = omega (arith, h.falls);
-      same = (h.keeps.failed, ap (λ (l : Limits). l.depth) h.keeps.limits, ap most_of h.keeps.limits, ap input.failure_count h.keeps.device);
+      same = (h.keeps.failed, ap (λ (l : Rules). l.depth) h.keeps.limits, ap most_of h.keeps.limits, ap input.failure_count h.keeps.device);
       ended = λ over. h.keeps.done ∙ over;
       exceeds = exceeds-same input r.source c.hand_others-values.new.self.source h.keeps.device h.keeps.limit h.total;
       bytes_left = h.bytes_left;

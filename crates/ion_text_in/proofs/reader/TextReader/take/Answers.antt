@@ -61,3 +61,10 @@ returns-in-None g c =
     let field = c.in-Field-String.is-0 in
     rw (c.in-Field-String.is-1, c.in-None.is)
     (steps-same g.I.Input c.named-in-None.result r c.named-in-None.new.self m m None _ _ 0 (λ d. taken-as r _ _ c.args.place d field) (c.named-in-None.ensures m c.requires.can_step field))
+
+pub returns-in-Value-Float : goal.returns-in-Value-Float
+unfolding take
+returns-in-Value-Float g c =
+    let r = c.args.self.now in
+    let m = c.args.meter.now in
+    rw c.in-Value-Float.is-1 (c.float.ensures m c.requires.can_step c.in-Value-Float.is-0)

@@ -1,5 +1,6 @@
 use Rattle.std.proofs.Common.{refl, ap, subst, length, arith}
 use Rattle.std.proofs.lemmas.Grind.{common_steps}
+use Rattle.ion_value.specs.Float.{value_of}
 use Rattle.ion_value.specs.Items.{raw_head, symbol_at}
 use Rattle.ion_value.specs.Value as value
 use Rattle.ion_value.specs.Value.{Head, SymbolAt}
@@ -21,6 +22,9 @@ returns-in-Bool g c = scalar_taken (raw_head c.args.head) (value.bool c.in-Bool.
 
 pub returns-in-Int : goal.returns-in-Int
 returns-in-Int g c = scalar_taken (raw_head c.args.head) (value.int c.in-Int.int) c.requires.can_step c.take_int.ensures (ap raw_head c.in-Int.is) refl
+
+pub returns-in-Float : goal.returns-in-Float
+returns-in-Float g c = scalar_taken (raw_head c.args.head) (value.float (value_of c.in-Float.float)) c.requires.can_step c.take_float.ensures (ap raw_head c.in-Float.is) refl
 
 pub returns-in-Decimal : goal.returns-in-Decimal
 returns-in-Decimal g c = scalar_taken (raw_head c.args.head) (value.decimal c.in-Decimal.decimal) c.requires.can_step c.take_decimal.ensures (ap raw_head c.in-Decimal.is) refl

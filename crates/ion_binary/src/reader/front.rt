@@ -282,7 +282,7 @@ fn second_text<'n, N: Names>(
 
 // Whether a name, where there is one, is known to be written as it stands.
 #[inline(always)]
-pub(super) fn is_bare(name: Option<TextAt<'_>>) -> bool {
+fn is_bare(name: Option<TextAt<'_>>) -> bool {
     match name {
         Some(name) => name.code == BARE,
         None => true,
@@ -291,11 +291,17 @@ pub(super) fn is_bare(name: Option<TextAt<'_>>) -> bool {
 
 // Whether the value at an offset is a float.
 #[inline(always)]
-pub(super) fn begins_float(octets: &[u8], at: usize) -> bool {
+fn begins_float(octets: &[u8], at: usize) -> bool {
     match octets.get(at) {
         Some(descriptor) => matches!(Shape::of(*descriptor), Shape::Float(_)),
         None => false,
     }
+}
+
+// Whether the loop over most is over a value with this name, which begins at an offset.
+#[inline(always)]
+pub(super) fn is_frequent(name: Option<TextAt<'_>>, octets: &[u8], at: usize) -> bool {
+    is_bare(name) && !begins_float(octets, at)
 }
 
 // Where a value stands after a front, so many containers being open.

@@ -22,7 +22,7 @@ ghost use Rattle.ion_binary.specs.Wrappers.{as_frames, innermost};
 ghost use Rattle.ion_value.specs.Value.{Id, Text, map_head, symbol, whole};
 
 use super::front::{
-    Around, Front, Level, around_in, bare_front, begins_float, ends_here, inside, is_bare, noted_front,
+    Around, Front, Level, around_in, bare_front, ends_here, inside, is_frequent, noted_front,
     region_after, shown_field,
 };
 use super::{BinReader, ItemKind};
@@ -42,10 +42,10 @@ use ion_value::writer::ValueWriter;
 use std::alloc::Allocator;
 
 // What a run is over: members without an annotation whose name is known to be written as it stands, and all values
-// without name and annotation;
+// without name and annotation, but no floats;
 pub(super) const MOST: u8 = 0;
 
-// members without an annotation that have another name;
+// members without an annotation that have another name, and floats without one;
 const QUOTED: u8 = 1;
 
 // and members with an annotation or two.
@@ -394,7 +394,7 @@ impl<I: Input, A: Allocator + Copy> BinReader<I, A> {
             };
             return self.hand_head::<N, W, O, RUN>(around, front, meter, names, writer, sink);
         }
-        if RUN == QUOTED && is_bare(field) && !begins_float(octets, at) {
+        if RUN == QUOTED && is_frequent(field, octets, at) {
             return false;
         }
         let front = bare_front(field, at);

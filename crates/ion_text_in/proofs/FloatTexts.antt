@@ -15,16 +15,15 @@ use Rattle.ion_value.specs.Name.{is_identifier_byte}
 use Rattle.ion_value.specs.Scalar.{scalar_of_run}
 use Rattle.ion_value.specs.Shortest.{shortest}
 use Rattle.ion_value.specs.Value.{SymbolAt}
-use Rattle.ion_value.proofs.TextDecimals.{one-shape, spells}
+use Rattle.ion_value.proofs.TextDecimals.{spells}
 use Rattle.ion_float.proofs.FewDigits.{few-digits}
 use Rattle.ion_float.proofs.RoundTrip.{text-read}
 use Rattle.ion_float.proofs.TextOfBits.{above-zero, digits-short, shortest-row}
-use Rattle.ion_float.proofs.TextReading.{shape-alike}
 use Rattle.ion_text_in.specs.Beginnings.{EndsIdentifier, EndsNumber}
 use Rattle.ion_text_in.specs.Meaning.{Means, FloatTextIsRead}
 use Rattle.ion_text_in.specs.Token.{an_infinity, a_word, float, first_at, found_float, run_token, token_of, word_token}
 use Rattle.ion_text_in.proofs.Meaning.{IsRun, Runs, all-append, allowed, digits-run_bytes, exponent-bytes, is_run_byte, sign-run, token-means, whole-word, word-ends, word-means}
-use Rattle.ion_text_in.proofs.RunTokens.{float-token}
+use Rattle.ion_text_in.proofs.RunTokens.{float-means}
 
 -- ---- words
 
@@ -67,19 +66,6 @@ shape-of false false false s sign p m e h = if-ok (is_float p) _ (fin sign m e) 
 finite-shape : (run : List ℕ) (sign : Bool) (m : ℕ) (e : ℤ) → float_of_text run ≡ Ok (fin sign m e) → is_float (parts_of (without_minus run)) ≡ true
 unfolding float_of_text
 finite-shape run sign m e h = shape-of _ _ _ (has_minus run) sign (parts_of (without_minus run)) m e h
-
-other-fault : (run : List ℕ) → decimal_of_text run ≡ Err reason.Float → decimal_of_text run ≡ Err BadToken → ⊥
-other-fault run e f = cc (sym e ∙ f)
-
-scalar-float : (run : List ℕ) → decimal_of_text run ≡ Err reason.Float → scalar_of_run {S = SymbolAt} run ≡ Err reason.Float
-unfolding scalar_of_run
-scalar-float run e = elim (one-shape run) [
-  | inl no_int ↦ rw (no_int, e) refl
-  | inr no_decimal ↦ absurd (other-fault run e no_decimal)
-]
-
-float-means : (x : Float) (run : List ℕ) → is_float (parts_of (without_minus run)) ≡ true → float_of_text run ≡ Ok x → run_token run ≡ Ok (float (Some x))
-float-means x run shape read = float-token run (Some x) (scalar-float run (shape-alike run shape)) (sym (ap found_float read))
 
 pointed-runs : (ds text : List ℕ) → 0 < length ds → all_are is_digit ds ≡ true → all_are is_run_byte text ≡ true → Runs (pointed ds ++ text)
 pointed-runs [] text some digits after = absurd (omega arith)

@@ -67,6 +67,8 @@ mod Prepaid
 mod Rows
 mod FloatRows
 mod QuickNumbers
+mod Mantissas
+mod QuickFloats
 mod SpelledNumbers
 mod QuotedRows
 mod Lanes

@@ -4,32 +4,34 @@ use Rattle.std.proofs.Common.{◌≡◌, IsTrue, ℕ, zero, suc, ◌+◌, ◌*�
 use Rattle.std.proofs.lemmas.Bool.{and_parts, and_right, lt-ltb}
 use Rattle.std.proofs.lemmas.Bool.Decides.{nat_tests}
 use Rattle.std.proofs.lemmas.Int.{ints}
-use Rattle.std.proofs.lemmas.List.{take_more, drop_more, append_assoc, append-nil, length-take-le}
+use Rattle.std.proofs.lemmas.List.{take_more, drop_more, append_assoc, append-nil, length-drop, length-take-le}
 use Rattle.std.proofs.Math.Seq.{take-add}
 use Rattle.ion_value.specs.declared.decimal.Decimal.{Decimal}
 use Rattle.ion_value.specs.Int.{IsInt, int_of_text}
-use Rattle.ion_value.specs.Decimal.{IsDecimal, decimal_in_range, decimal_of_parts, decimal_of_text, parts_of}
+use Rattle.ion_value.specs.Decimal.{IsDecimal, decimal_in_range, decimal_of_text}
 use Rattle.ion_value.specs.Digits.{is_digit, digit_value, all_are, first_is, has_minus}
-use Rattle.ion_value.specs.DigitReading.{Read, decimal_after, read_digits, read_whole, read_int, read_fraction}
+use Rattle.ion_value.specs.DigitReading.{Read, read_digits, read_whole, read_int, read_fraction}
 use Rattle.ion_value.specs.Number.{signed}
 use Rattle.ion_value.proofs.LeadingDigits.{all_are-append}
 use Rattle.ion_value.proofs.TextDigits.{ten, zero_first, int-text, int-whole}
-use Rattle.ion_value.proofs.TextDecimals.{sign-read, decimal-text, exponent_digits, exponent-read, mantissa-plain, mantissa-pointed, after-nothing, decimal-in_range, one-shape}
+use Rattle.ion_value.proofs.TextDecimals.{sign-read, decimal-text, mantissa-pointed, after-nothing, decimal-in_range, one-shape}
 use Rattle.ion_text_in.specs.declared.number.Number.TheVariants as numbers
 use Rattle.ion_text_in.specs.declared.run.Run.TheVariants as run
 use Rattle.ion_text_in.specs.Blanks.{begins_comment}
 use Rattle.ion_text_in.specs.declared.quick.Quick.{Quick}
-use Rattle.ion_text_in.specs.Quick.{number_after, scaled, signed_int, signed_text, stops, AreSpelled, AreWhole, IsMantissa, IsQuick}
+use Rattle.ion_text_in.specs.declared.quick.Mantissa.{Mantissa}
+use Rattle.ion_text_in.specs.Quick.{number_after, scaled, signed_int, signed_text, stops, AreSpelled, AreWhole, IsPointed, IsQuick}
 use Rattle.ion_text_in.specs.Runs.{EndAfter, stays}
 use Rattle.ion_text_in.specs.Token.{bytes_of, in_run, run_token}
 use Rattle.ion_text_in.specs.Views.{number_token, AreShown}
 use Rattle.ion_text_in.proofs.RunEnds.{go-end, token-shown}
 use Rattle.ion_text_in.proofs.SureRuns.{all-go}
 use Rattle.ion_text_in.proofs.RunTokens.{int-token, decimal-token}
+use Rattle.ion_text_in.proofs.SpelledNumbers.{pointed-is}
 
 -- ---- digits
 
-taken-some : (bytes : List ℕ) (k : ℕ) → 0 < k → k ≤ length bytes → 0 < length (take k bytes)
+pub taken-some : (bytes : List ℕ) (k : ℕ) → 0 < k → k ≤ length bytes → 0 < length (take k bytes)
 taken-some bytes k some less = let long = length-take-le k bytes less in omega (arith, long, some)
 
 value-digit : (b : ℕ) → is_digit b ≡ true → digit_value b ≡ b - 48
@@ -91,7 +93,7 @@ whole-spells bytes k so = record { read = digits-spell 0 bytes k (omega (arith, 
 in_run-stop : (b : ℕ) (rest : List ℕ) → stops b ≡ true → in_run (b ∷ rest) ≡ false
 in_run-stop b rest e = ap (λ (v : Bool). not (v || begins_comment (b ∷ rest))) e
 
-stop-ends : (bytes : List ℕ) (k : ℕ) → k < length bytes → stops (get_or bytes k 0) ≡ true → (more : List ℕ) → in_run (drop k bytes ++ more) ≡ false
+pub stop-ends : (bytes : List ℕ) (k : ℕ) → k < length bytes → stops (get_or bytes k 0) ≡ true → (more : List ℕ) → in_run (drop k bytes ++ more) ≡ false
 stop-ends bytes k less e more =
     ap (λ (l : List ℕ). in_run (l ++ more)) (drop_more bytes k 0 less) ∙ in_run-stop (get_or bytes k 0) (drop (k + 1) bytes ++ more) e
 
@@ -121,12 +123,12 @@ plain-shown (d ∷ ds) (suc n) some less goes ends =
 digit-stays : (b : ℕ) → is_digit b ≡ true → stays run.Number b ≡ true
 digit-stays b e = grind (arith, nat_tests)
 
-all-stay : (ds : List ℕ) → all_are is_digit ds ≡ true → all_are (stays run.Number) ds ≡ true
+pub all-stay : (ds : List ℕ) → all_are is_digit ds ≡ true → all_are (stays run.Number) ds ≡ true
 all-stay [] e = refl
 all-stay (d ∷ ds) e = let parts = and_parts (is_digit d) (all_are is_digit ds) e in rw (digit-stays d parts.0) (all-stay ds parts.1)
 
 -- a first zero stands alone among them
-zero-front : (bytes tail : List ℕ) (k : ℕ) → 0 < k → k ≤ length bytes → zero_first bytes ≡ false → first_is (λ b. is_digit b || b == 95) tail ≡ false → zero_first (take k bytes ++ tail) ≡ false
+pub zero-front : (bytes tail : List ℕ) (k : ℕ) → 0 < k → k ≤ length bytes → zero_first bytes ≡ false → first_is (λ b. is_digit b || b == 95) tail ≡ false → zero_first (take k bytes ++ tail) ≡ false
 zero-front bytes tail zero some less e f = absurd (omega (arith, some))
 zero-front [] tail (suc k) some less e f = absurd (omega (arith, less))
 zero-front (b ∷ bytes) tail (suc zero) some less e f = and_right (b == 48) (first_is (λ b. is_digit b || b == 95) tail) f
@@ -161,7 +163,7 @@ int-digits (b ∷ c ∷ ds) e =
     let apart = no-letter c second.0 in
     rw (apart.0, apart.1, and_right (b == 48) false refl) refl
 
-sign-front : (ds ys : List ℕ) → 0 < length ds → all_are is_digit ds ≡ true → has_minus (ds ++ ys) ≡ false
+pub sign-front : (ds ys : List ℕ) → 0 < length ds → all_are is_digit ds ≡ true → has_minus (ds ++ ys) ≡ false
 sign-front [] ys some e = absurd (omega (arith, some))
 sign-front (d ∷ ds) ys some e = let parts = and_parts (is_digit d) (all_are is_digit ds) e in let digit = parts.0 in grind (arith, nat_tests)
 
@@ -226,7 +228,24 @@ split-text bytes c k j less is =
     ∙ append_assoc (take k bytes) (get_or bytes k 0 ∷ []) (take j (drop (k + 1) bytes))
     ∙ ap (λ (b : ℕ). take k bytes ++ (b ∷ take j (drop (k + 1) bytes))) is
 
-pub less-none : (j : ℕ) → signed true j -ℤ pos 0 ≡ signed true j
+-- so many digits, a point and the digits after it
+pub pointed-text : (bytes : List ℕ) (k : ℕ) (x : Mantissa) → AreWhole bytes k → get_or bytes k 0 ≡ 46 → IsPointed bytes k x
+    → take x.end bytes ≡ take k bytes ++ (46 ∷ take x.places (drop (k + 1) bytes))
+pointed-text bytes k x so point is = ap (λ (n : ℕ). take n bytes) is.end ∙ split-text bytes 46 k x.places so.within point
+
+pub places-within : (bytes : List ℕ) (k : ℕ) (x : Mantissa) → IsPointed bytes k x → x.places ≤ length (drop (k + 1) bytes)
+places-within bytes k x is = omega (arith, length-drop (k + 1) bytes, is.end, is.within)
+
+places-spell : (bytes : List ℕ) (k : ℕ) (x : Mantissa) → IsPointed bytes k x → AreDigits (number_after 0 (take k bytes)) (drop (k + 1) bytes) x.number x.places
+places-spell bytes k x is =
+    let n : ℕ = number_after 0 (take k bytes) in
+    subst (λ (m : ℕ). AreDigits n (drop (k + 1) bytes) m x.places) (sym is.number)
+    (digits-spell n (drop (k + 1) bytes) x.places (places-within bytes k x is) is.some is.digits)
+
+pub pointed-stay : (ds fs : List ℕ) → all_are is_digit ds ≡ true → all_are is_digit fs ≡ true → all_are (stays run.Number) (ds ++ (46 ∷ fs)) ≡ true
+pointed-stay ds fs e f = all_are-append (stays run.Number) ds (46 ∷ fs) ∙ rw (all-stay ds e, all-stay fs f) refl
+
+less-none : (j : ℕ) → signed true j -ℤ pos 0 ≡ signed true j
 less-none j = omega (arith, ints)
 
 minus-is : (j : ℕ) → pos 0 -ℤ pos j ≡ signed true j
@@ -245,7 +264,7 @@ decimal-read negative ds fs n k m j d some digits whole fraction within =
     ∙ after-nothing negative m j true refl
     ∙ within
 
-decimal-alone : (text : List ℕ) (d : Decimal) → decimal_of_text text ≡ Ok d → run_token text ≡ Ok (number_token (numbers.Decimal d))
+pub decimal-alone : (text : List ℕ) (d : Decimal) → decimal_of_text text ≡ Ok d → run_token text ≡ Ok (number_token (numbers.Decimal d))
 decimal-alone text d e = elim (one-shape text) [
   | inl none ↦ decimal-token text d none e
   | inr none ↦ absurd (cc (none, e))
@@ -265,139 +284,25 @@ decimal-gives negative bytes n k m j whole after some small few =
     (fraction-is n (drop (k + 1) bytes) m j after some) within in
     decimal-alone (signed_text negative (take k bytes ++ (46 ∷ take j (drop (k + 1) bytes)))) d read
 
-pub quick-decimal : (negative : Bool) (bytes : List ℕ) (n k m j : ℕ) → IsWhole bytes n k → get_or bytes k 0 ≡ 46 → AreDigits n (drop (k + 1) bytes) m j → 0 < j
-    → k + 1 + j < length bytes → stops (get_or bytes (k + 1 + j) 0) ≡ true → m < 2 ^ 128 → j ≤ 128
-    → AreSpelled (signed_text negative (take (k + 1 + j) bytes)) (record { negative = negative; number = m; exponent = Some (signed true j); count = k + 1 + j; canonical = true })
-    → IsQuick negative bytes (record { negative = negative; number = m; exponent = Some (signed true j); count = k + 1 + j; canonical = true })
-quick-decimal negative bytes n k m j whole point after some within stop small few spelled =
-    let text = split-text bytes 46 k j whole.within point in
-    record {
-      sign = refl;
-      some = omega (arith, some);
-      within = within;
-      goes = ap (all_are (stays run.Number)) text
-          ∙ all_are-append (stays run.Number) (take k bytes) (46 ∷ take j (drop (k + 1) bytes))
-          ∙ rw (all-stay (take k bytes) whole.read.digits) (all-stay (take j (drop (k + 1) bytes)) after.digits);
-      ends = stop-ends bytes (k + 1 + j) within stop;
-      gives = ap (λ (l : List ℕ). run_token (signed_text negative l)) text ∙ decimal-gives negative bytes n k m j whole after some small few;
-      range = scaled-valid negative true m j small few;
-      spelled = spelled;
-    }
-
--- ---- decimals with an exponent
-
-read-mark : (n k : ℕ) (p : List ℕ) → read_digits 10 n true k (100 ∷ p) ≡ Some (made n k (100 ∷ p))
-unfolding read_digits
-read-mark n k p = refl
-
-no-sign : (ds : List ℕ) → 0 < length ds → all_are is_digit ds ≡ true → (first_is (λ b. b == 43 || b == 45) ds ≡ false) × (first_is (λ b. b == 45) ds ≡ false)
-no-sign [] some e = absurd (omega (arith, some))
-no-sign (d ∷ ds) some e = let parts = and_parts (is_digit d) (all_are is_digit ds) e in let digit = parts.0 in (grind (arith, nat_tests), grind (arith, nat_tests))
-
-power-parts : (below : Bool) (ds : List ℕ) → 0 < length ds → all_are is_digit ds ≡ true → (ds ≡ exponent_digits (signed_text below ds)) × (below ≡ first_is (λ b. b == 45) (signed_text below ds))
-power-parts true ds some e = (refl, refl)
-power-parts false ds some e = let none = no-sign ds some e in (rw none.0 refl, sym none.1)
-
-digits-read : (bytes : List ℕ) (m n : ℕ) → AreDigits 0 bytes m n → 0 < n → read_digits 10 0 false 0 (take n bytes) ≡ Some (made m n [])
-digits-read bytes m n so some =
-    ap (λ (l : List ℕ). read_digits 10 0 false 0 l) (sym (append-nil (take n bytes)))
-    ∙ so.read []
-    ∙ read-last m n
-
-power-read : (negative below : Bool) (bytes ys : List ℕ) (n places k m j : ℕ) (d : Decimal) → IsMantissa bytes n places k → AreDigits 0 ys m j → 0 < j
-    → decimal_in_range negative n (signed below m -ℤ pos places) ≡ Ok d → decimal_of_text (signed_text negative (take k bytes ++ (100 ∷ signed_text below (take j ys)))) ≡ Ok d
-power-read negative below bytes ys n places k m j d mantissa power more within =
-    let p : List ℕ = signed_text below (take j ys) in
-    let text : List ℕ = take k bytes ++ (100 ∷ p) in
-    let sign = sign-read negative text (mantissa.plain (100 ∷ p)) in
-    let parts = power-parts below (take j ys) (taken-some ys j more power.within) power.digits in
-    let is = exponent-read p (take j ys) below m j [] parts.0 parts.1 (digits-read ys m j power more) (sym (length-take-le j ys power.within)) in
-    sym (decimal-text (signed_text negative text) text negative (sym sign.0) (sym sign.1))
-    ∙ mantissa.read p negative
-    ∙ rw is.0 (ap (λ (e : ℤ). decimal_in_range negative n (e -ℤ pos places)) is.1 ∙ within)
-
-powered-valid : (negative below : Bool) (n m places : ℕ) → n < 2 ^ 128 → m ≤ 128 → places ≤ 19 → IsDecimal (scaled negative n (signed below m -ℤ pos places))
-powered-valid negative true n m places small few less = record { coefficient = small; exponent = (omega (arith, ints, few, less), omega (arith, ints, few, less)) }
-powered-valid negative false n m places small few less = record { coefficient = small; exponent = (omega (arith, ints, few, less), omega (arith, ints, few, less)) }
-
--- digits alone
-pub plain-mantissa : (bytes : List ℕ) (k : ℕ) → AreWhole bytes k → IsMantissa bytes (number_after 0 (take k bytes)) 0 k
-plain-mantissa bytes k so =
+-- with a point among them and nothing after them
+pub quick-decimal : (negative : Bool) (bytes : List ℕ) (k : ℕ) (x : Mantissa) (e : ℤ) → AreWhole bytes k → get_or bytes k 0 ≡ 46 → IsPointed bytes k x → stops (get_or bytes x.end 0) ≡ true → x.number < 2 ^ 128
+    → e ≡ signed true x.places -ℤ pos 0 → IsQuick negative bytes (record { negative = negative; number = x.number; exponent = Some e; count = x.end; canonical = true })
+quick-decimal negative bytes k x e so point is stop small same =
     let n : ℕ = number_after 0 (take k bytes) in
     let whole = whole-spells bytes k so in
-    record {
-      some = so.some;
-      within = so.within;
-      few = omega arith;
-      goes = all-stay (take k bytes) so.digits;
-      plain = λ power. sign-front (take k bytes) power (taken-some bytes k so.some whole.read.within) so.digits;
-      read = λ power negative. mantissa-plain (take k bytes ++ (100 ∷ power)) n k (100 ∷ power) (read-front bytes (100 ∷ power) n k whole refl ∙ read-mark n k power) refl negative;
-    }
-
-fraction-marked : (start : ℕ) (bytes power : List ℕ) (m j : ℕ) → AreDigits start bytes m j → 0 < j → read_fraction start (take j bytes ++ (100 ∷ power)) ≡ Some (made m j (100 ∷ power))
-fraction-marked start bytes power m j so some =
-    fraction-on start (take j bytes) (100 ∷ power) (taken-some bytes j some so.within) so.digits
-    ∙ so.read (100 ∷ power)
-    ∙ read-mark m j power
-
--- digits with a point among them
-pub pointed-mantissa : (bytes : List ℕ) (n k m j : ℕ) → IsWhole bytes n k → get_or bytes k 0 ≡ 46 → AreDigits n (drop (k + 1) bytes) m j → 0 < j → j ≤ 19 → k + 1 + j < length bytes
-    → IsMantissa bytes m j (k + 1 + j)
-pointed-mantissa bytes n k m j whole point after some few within =
-    let fs : List ℕ = take j (drop (k + 1) bytes) in
-    let text = split-text bytes 46 k j whole.within point in
-    let front : (tail : List ℕ) → take (k + 1 + j) bytes ++ tail ≡ take k bytes ++ (46 ∷ (fs ++ tail))
-    = λ tail. ap (λ (l : List ℕ). l ++ tail) text ∙ append_assoc (take k bytes) (46 ∷ fs) tail in
-    record {
-      some = omega (arith, some);
-      within = within;
-      few = few;
-      goes = ap (all_are (stays run.Number)) text
-          ∙ all_are-append (stays run.Number) (take k bytes) (46 ∷ fs)
-          ∙ rw (all-stay (take k bytes) whole.read.digits) (all-stay fs after.digits);
-      plain = λ power. ap has_minus (front power) ∙ sign-front (take k bytes) (46 ∷ (fs ++ power)) (taken-some bytes k whole.some whole.read.within) whole.read.digits;
-      read = λ power negative.
-          ap (λ (l : List ℕ). decimal_of_parts negative (parts_of l)) (front (100 ∷ power))
-          ∙ mantissa-pointed (take k bytes ++ (46 ∷ (fs ++ (100 ∷ power)))) n k (46 ∷ (fs ++ (100 ∷ power))) m j (100 ∷ power)
-          (read-front bytes (46 ∷ (fs ++ (100 ∷ power))) n k whole refl ∙ read-point n k (fs ++ (100 ∷ power))) refl (fraction-marked n (drop (k + 1) bytes) power m j after some) negative
-          ∙ ap (λ (v : Bool). decimal_after negative m j v (100 ∷ power)) (sym (lt-ltb 0 j some));
-    }
-
--- how many bytes there are of a sign
-abbrev pub sign_length : Bool → ℕ
-sign_length below = if below then 1 else 0
-
-take-signed : (below : Bool) (ys : List ℕ) (n : ℕ) → take (sign_length below + n) (signed_text below ys) ≡ signed_text below (take n ys)
-take-signed true ys n = let same : 1 + n ≡ suc n = omega arith in ap (λ (k : ℕ). take k (45 ∷ ys)) same
-take-signed false ys n = let same : 0 + n ≡ n = omega arith in ap (λ (k : ℕ). take k ys) same
-
-signed-stay : (below : Bool) (ds : List ℕ) → all_are (stays run.Number) ds ≡ true → all_are (stays run.Number) (signed_text below ds) ≡ true
-signed-stay true ds e = e
-signed-stay false ds e = e
-
-pub quick-power : (negative below : Bool) (bytes ys : List ℕ) (n places k m j : ℕ) → IsMantissa bytes n places k → get_or bytes k 0 ≡ 100 → signed_text below ys ≡ drop (k + 1) bytes → AreDigits 0 ys m j
-    → 0 < j → k + 1 + (sign_length below + j) < length bytes → stops (get_or bytes (k + 1 + (sign_length below + j)) 0) ≡ true → n < 2 ^ 128 → m ≤ 128
-    → IsQuick negative bytes (record { negative = negative; number = n; exponent = Some (signed below m -ℤ pos places); count = k + 1 + (sign_length below + j); canonical = false })
-quick-power negative below bytes ys n places k m j mantissa mark after power some within stop small few =
-    let p : List ℕ = signed_text below (take j ys) in
-    let split = split-text bytes 100 k (sign_length below + j) mantissa.within mark in
-    let front : take (sign_length below + j) (drop (k + 1) bytes) ≡ p = ap (take (sign_length below + j)) (sym after) ∙ take-signed below ys j in
-    let text : take (k + 1 + (sign_length below + j)) bytes ≡ take k bytes ++ (100 ∷ p) = split ∙ ap (λ (l : List ℕ). take k bytes ++ (100 ∷ l)) front in
-    let d : Decimal = scaled negative n (signed below m -ℤ pos places) in
-    let valid = powered-valid negative below n m places small few mantissa.few in
-    let read = power-read negative below bytes ys n places k m j d mantissa power some (decimal-in_range d valid) in
-    record {
+    let after = places-spell bytes k x is in
+    let text = pointed-text bytes k x so point is in
+    let spelled = pointed-is negative bytes (take x.end bytes) k x.places so is.some after.within is.digits is.few text in
+    rw (same, less-none x.places) (record {
       sign = refl;
-      some = omega arith;
-      within = within;
-      goes = ap (all_are (stays run.Number)) text
-          ∙ all_are-append (stays run.Number) (take k bytes) (100 ∷ p)
-          ∙ rw mantissa.goes (signed-stay below (take j ys) (all-stay (take j ys) power.digits));
-      ends = stop-ends bytes (k + 1 + (sign_length below + j)) within stop;
-      gives = ap (λ (l : List ℕ). run_token (signed_text negative l)) text ∙ decimal-alone (signed_text negative (take k bytes ++ (100 ∷ p))) d read;
-      range = valid;
-      spelled = record { int = λ none. absurd (cc none); text = λ e. absurd (cc e) };
-    }
+      some = omega (arith, is.end);
+      within = is.within;
+      goes = ap (all_are (stays run.Number)) text ∙ pointed-stay (take k bytes) (take x.places (drop (k + 1) bytes)) so.digits is.digits;
+      ends = stop-ends bytes x.end is.within stop;
+      gives = ap (λ (l : List ℕ). run_token (signed_text negative l)) text ∙ decimal-gives negative bytes n k x.number x.places whole after is.some small (omega (arith, is.few));
+      range = scaled-valid negative true x.number x.places small (omega (arith, is.few));
+      spelled = rw (sym is.end, sym is.number) at spelled;
+    })
 
 -- ---- after a sign
 
@@ -405,14 +310,14 @@ signed-front : (digits : List ℕ) (n : ℕ) → take (n + 1) (45 ∷ digits) �
 signed-front digits n = let same : n + 1 ≡ suc n = omega arith in ap (λ (k : ℕ). take k (45 ∷ digits)) same
 
 -- so many bytes of a text are a sign and the digits after it
-pub signed-parts : (negative : Bool) (digits bytes : List ℕ) (x : Quick) (n : ℕ) → signed_text negative digits ≡ bytes → IsQuick negative digits x → n ≡ x.count + bool_byte negative
-    → AreShown (bytes_of in_run) bytes n × (take n bytes ≡ signed_text negative (take x.count digits))
-signed-parts true digits bytes x n same quick is = (
-  subst (λ (k : ℕ). AreShown (bytes_of in_run) bytes k) (sym is) (subst (λ (l : List ℕ). AreShown (bytes_of in_run) l (x.count + 1)) same (signed-shown digits x.count quick.within quick.goes quick.ends)),
-  ap (λ (k : ℕ). take k bytes) is ∙ ap (take (x.count + 1)) (sym same) ∙ signed-front digits x.count,
+pub signed-parts : (negative : Bool) (digits bytes : List ℕ) (k n : ℕ) → signed_text negative digits ≡ bytes → 0 < k → k < length digits → all_are (stays run.Number) (take k digits) ≡ true
+    → ((more : List ℕ) → in_run (drop k digits ++ more) ≡ false) → n ≡ k + bool_byte negative → AreShown (bytes_of in_run) bytes n × (take n bytes ≡ signed_text negative (take k digits))
+signed-parts true digits bytes k n same some within goes ends is = (
+  subst (λ (k : ℕ). AreShown (bytes_of in_run) bytes k) (sym is) (subst (λ (l : List ℕ). AreShown (bytes_of in_run) l (k + 1)) same (signed-shown digits k within goes ends)),
+  ap (λ (k : ℕ). take k bytes) is ∙ ap (take (k + 1)) (sym same) ∙ signed-front digits k,
 )
-signed-parts false digits bytes x n same quick is =
-    let all : n ≡ x.count = omega (arith, is) in (
-      subst (λ (k : ℕ). AreShown (bytes_of in_run) bytes k) (sym all) (subst (λ (l : List ℕ). AreShown (bytes_of in_run) l x.count) same (plain-shown digits x.count quick.some quick.within quick.goes quick.ends)),
-      ap (λ (k : ℕ). take k bytes) all ∙ ap (take x.count) (sym same),
+signed-parts false digits bytes k n same some within goes ends is =
+    let all : n ≡ k = omega (arith, is) in (
+      subst (λ (k : ℕ). AreShown (bytes_of in_run) bytes k) (sym all) (subst (λ (l : List ℕ). AreShown (bytes_of in_run) l k) same (plain-shown digits k some within goes ends)),
+      ap (λ (k : ℕ). take k bytes) all ∙ ap (take k) (sym same),
     )

@@ -20,8 +20,9 @@ use Rattle.ion_value.specs.Timestamp.{timestamp_of_text}
 use Rattle.ion_value.specs.Scalar.{scalar_of_run}
 use Rattle.ion_value.specs.Value.{SymbolAt, Scalar, int, decimal, timestamp}
 use Rattle.ion_value.proofs.Faults.{Blames}
+use Rattle.ion_value.proofs.TextDecimals.{one-shape}
 use Rattle.ion_value.proofs.TextKinds.{timestamp-no_number}
-use Rattle.ion_float.proofs.TextReading.{alike-shape, shape-read}
+use Rattle.ion_float.proofs.TextReading.{alike-shape, shape-alike, shape-read}
 use Rattle.ion_text_in.specs.Token.{Token, plain, float, found_float, scalar_token, run_token}
 
 -- ---- by what the scalar is
@@ -88,6 +89,22 @@ other-why why (inl is) e = cc (sym is, e)
 other-why why (inr (inl is)) e = cc (sym is, e)
 other-why why (inr (inr is)) e = cc (sym is, e)
 
+-- ---- floats
+
+other-fault : (run : List ℕ) → decimal_of_text run ≡ Err reason.Float → decimal_of_text run ≡ Err BadToken → ⊥
+other-fault run e f = cc (sym e ∙ f)
+
+scalar-float : (run : List ℕ) → decimal_of_text run ≡ Err reason.Float → scalar_of_run {S = SymbolAt} run ≡ Err reason.Float
+unfolding scalar_of_run
+scalar-float run e = elim (one-shape run) [
+  | inl no_int ↦ rw (no_int, e) refl
+  | inr no_decimal ↦ absurd (other-fault run e no_decimal)
+]
+
+-- a run with the shape of a float means the float that it spells
+pub float-means : (x : Float) (run : List ℕ) → is_float (parts_of (without_minus run)) ≡ true → float_of_text run ≡ Ok x → run_token run ≡ Ok (float (Some x))
+float-means x run shape read = float-token run (Some x) (scalar-float run (shape-alike run shape)) (sym (ap found_float read))
+
 -- ---- runs with underscores
 
 nan-shape : is_float (parts_of (without_minus (codes "nan"))) ≡ false
@@ -103,7 +120,7 @@ unfolding parts_of cut_at
 minus-shape = refl
 
 -- a run with the shape of a float is no word
-no-word : (run : List ℕ) → is_float (parts_of (without_minus run)) ≡ true → float_word run ≡ None
+pub no-word : (run : List ℕ) → is_float (parts_of (without_minus run)) ≡ true → float_word run ≡ None
 no-word run h = rw (other (codes "nan") nan-shape, other (codes "+inf") plus-shape, other (codes "-inf") minus-shape) refl
   where
     other : (text : List ℕ) → is_float (parts_of (without_minus text)) ≡ false → bytes_eq run text ≡ false

@@ -28,7 +28,7 @@ number-after n (d ∷ ds) e =
     ∙ ap (λ (v : ℕ). (n * 10 + v) * 10 ^ length ds + spelled_by ds) (value-digit d parts.0)
     ∙ one-on n (digit_value d) (length ds) (length (map digit_value ds)) (spelled_by ds) (length-map ds digit_value)
 
-number-is : (ds : List ℕ) → all_are is_digit ds ≡ true → number_after 0 ds ≡ spelled_by ds
+pub number-is : (ds : List ℕ) → all_are is_digit ds ≡ true → number_after 0 ds ≡ spelled_by ds
 number-is ds e = let after = number-after 0 ds e in omega (arith, after)
 
 pub after-both : (k : ℕ) (ds : List ℕ) → all_are is_digit ds ≡ true → number_after 0 (take k ds) * 10 ^ length (drop k ds) + number_after 0 (drop k ds) ≡ number_after 0 ds

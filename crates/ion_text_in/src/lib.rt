@@ -13,6 +13,7 @@ mod lob;
 mod number;
 mod piece;
 mod quick;
+mod quick_float;
 mod quoted;
 pub mod reader;
 mod run;

@@ -6,7 +6,7 @@ ghost use Rattle.ion_value.specs.Digits.{all_are, first_is, is_digit};
 ghost use Rattle.ion_value.specs.Number.{signed};
 ghost use Rattle.ion_value.specs.Standing.{InRange};
 ghost use Rattle.ion_text_in.specs.Overrun.{IsRun};
-ghost use Rattle.ion_text_in.specs.Quick.{as_quick, number_after, scaled, signed_int, signed_text, stops, AreSpelled, AreWhole, IsMantissa, IsQuick};
+ghost use Rattle.ion_text_in.specs.Quick.{as_quick, number_after, scaled, signed_int, signed_text, stops, AreSpelled, AreWhole, IsMantissa, IsPointed, IsPower, IsQuick};
 ghost use Rattle.ion_text_in.specs.declared.scanned.Scanned.TheVariants.{Whole};
 ghost use Rattle.ion_text_in.specs.Scanners.{Shows};
 ghost use Rattle.ion_text_in.specs.Token.{a_run, token_of};
@@ -54,9 +54,9 @@ pub(crate) fn scan_quick(limit: u64, bytes: &[u8]) -> Option<Quick>
     Some(Quick { count, ..quick })
 }
 
-// Whether there is a minus in front, and what stands after it.
+/// Whether there is a minus in front, and what stands after it.
 #[inline(always)]
-fn sign(bytes: &[u8]) -> (bool, &[u8])
+pub(crate) fn sign(bytes: &[u8]) -> (bool, &[u8])
     ensures { signed_text result.0 result.1.now ≡ bytes.now }
 {
     match bytes {
@@ -116,9 +116,9 @@ pub(crate) fn signed_int(negative: bool, magnitude: u128) -> Int
     }
 }
 
-// Whether a zero stands before another digit or an underscore, or alone after a minus.
+/// Whether a zero stands before another digit or an underscore, or alone after a minus.
 #[inline(always)]
-fn begins_zeros(negative: bool, digits: &[u8]) -> bool
+pub(crate) fn begins_zeros(negative: bool, digits: &[u8]) -> bool
     ensures { result ≡ (first_is (λ b. b == 48) digits.now
         && (first_is (λ b. is_digit b || b == 95) (drop 1 digits.now)
         || (negative && first_is stops (drop 1 digits.now)))) }
@@ -133,18 +133,27 @@ fn begins_zeros(negative: bool, digits: &[u8]) -> bool
 // The most digits of which 128 bits hold what they spell, whatever they are.
 const WIDE: usize = 38;
 
-// The most digits of which 64 bits do.
-const NARROW: usize = 19;
+/// The most digits of which 64 bits do.
+pub(crate) const NARROW: usize = 19;
 
-// The greatest magnitude of an exponent.
-const GREATEST: u64 = 128;
+/// Digits, of which some may stand after a point.
+#[derive(Clone, Copy)]
+pub(crate) struct Mantissa {
+    /// What the digits spell.
+    pub(crate) number: u64,
+    /// How many of them stand after the point.
+    pub(crate) places: usize,
+    /// Where they end.
+    pub(crate) end: usize,
+}
 
-// The decimal of so many digits with a point after them.
-#[inline(never)]
-fn quick_decimal(negative: bool, count: usize, digits: &[u8]) -> Option<Quick>
+/// Digits with a point after so many of them and digits after it, where there are no more than 64
+/// bits hold and another byte stands after them.
+#[inline(always)]
+pub(crate) fn pointed(count: usize, digits: &[u8]) -> Option<Mantissa>
     requires whole { AreWhole digits.now count }
     requires point { get_or digits.now count 0 ≡ 46 }
-    ensures { IfSome result (λ x. IsQuick negative digits.now x) }
+    ensures { IfSome result (λ x. IsPointed digits.now count x) }
 {
     let fraction = &digits[count + 1..];
     let places = digit_run(fraction);
@@ -153,18 +162,36 @@ fn quick_decimal(negative: bool, count: usize, digits: &[u8]) -> Option<Quick>
         return None;
     }
     let whole = number_after(0, &digits[..count]);
-    let coefficient = number_after(whole, &fraction[..places]) as u128;
+    Some(Mantissa {
+        number: number_after(whole, &fraction[..places]),
+        places,
+        end,
+    })
+}
+
+// The decimal of so many digits with a point after them.
+#[inline(never)]
+fn quick_decimal(negative: bool, count: usize, digits: &[u8]) -> Option<Quick>
+    requires whole { AreWhole digits.now count }
+    requires point { get_or digits.now count 0 ≡ 46 }
+    ensures { IfSome result (λ x. IsQuick negative digits.now x) }
+{
+    let Mantissa {
+        number,
+        places,
+        end,
+    } = pointed(count, digits)?;
     if stops_number(digits[end]) {
         return Some(Quick {
             negative,
-            number: coefficient,
+            number: number as u128,
             exponent: Some(exponent_of(true, places as u64, 0)),
             count: end,
             canonical: true,
         });
     }
     if digits[end] == b'd' {
-        return quick_power(negative, coefficient, places, end, digits);
+        return quick_power(negative, number as u128, places, end, digits);
     }
     None
 }
@@ -194,29 +221,55 @@ fn quick_power(
     requires mark { get_or digits.now end 0 ≡ 100 }
     ensures { IfSome result (λ x. IsQuick negative digits.now x) }
 {
-    let (below, power) = sign(&digits[end + 1..]);
-    let n = digit_run(power);
-    if n == 0 || n > NARROW {
-        return None;
-    }
-    let magnitude = number_after(0, &power[..n]);
-    let count = if below { end + 2 + n } else { end + 1 + n };
-    if magnitude > GREATEST || count >= digits.len() || !stops_number(digits[count]) {
-        return None;
-    }
+    let power = power_after(end, digits)?;
     Some(Quick {
         negative,
         number: coefficient,
-        exponent: Some(exponent_of(below, magnitude, places)),
-        count,
+        exponent: Some(exponent_of(power.below, power.magnitude, places)),
+        count: power.end,
         canonical: false,
     })
 }
 
-// The exponent of this sign and magnitude, less so many digits after a point.
+/// An exponent as it is written.
+#[derive(Clone, Copy)]
+pub(crate) struct Power {
+    /// Whether there is a minus in front.
+    pub(crate) below: bool,
+    /// What the digits spell.
+    pub(crate) magnitude: u64,
+    /// Where they end.
+    pub(crate) end: usize,
+}
+
+/// The exponent after its mark, which stands at a place: a minus or none and at most three digits,
+/// where punctuation, a quote or white space ends it within the bytes.
 #[inline(always)]
-fn exponent_of(below: bool, magnitude: u64, places: usize) -> i32
-    requires small { magnitude ≤ 128 }
+pub(crate) fn power_after(mark: usize, digits: &[u8]) -> Option<Power>
+    requires { mark < length digits.now }
+    ensures { IfSome result (λ x. IsPower digits.now mark x) }
+{
+    let (below, power) = sign(&digits[mark + 1..]);
+    let n = few_digits(power);
+    if n == 0 || n > 3 {
+        return None;
+    }
+    let magnitude = few_after(0, &power[..n]);
+    let end = if below { mark + 2 + n } else { mark + 1 + n };
+    if end >= digits.len() || !stops_number(digits[end]) {
+        return None;
+    }
+    Some(Power {
+        below,
+        magnitude,
+        end,
+    })
+}
+
+/// The exponent of this sign and magnitude, less so many digits after a point.
+#[inline(always)]
+pub(crate) fn exponent_of(below: bool, magnitude: u64, places: usize) -> i32
+    requires small { magnitude < 1000 }
     requires few { places ≤ 19 }
     ensures { result ≡ signed below magnitude -ℤ pos places }
 {
@@ -254,9 +307,9 @@ fn number_by(digits: &[u8]) -> u128
     front as u128 * 10_u128.pow(rest.len() as u32) + number_after(0, rest) as u128
 }
 
-// The number that these digits spell after another: read by fours, and then those that are left.
+/// The number that these digits spell after another: read by fours, and then those that are left.
 #[inline(always)]
-fn number_after(start: u64, digits: &[u8]) -> u64
+pub(crate) fn number_after(start: u64, digits: &[u8]) -> u64
     requires digits { all_are is_digit digits.now ≡ true }
     requires room { (start + 1) * 10 ^ length digits.now ≤ 2 ^ 64 }
     ensures { result ≡ number_after start digits.now }
@@ -312,10 +365,10 @@ fn digit(byte: u8) -> u64
 // How many bytes are looked at together.
 const BLOCK: usize = 16;
 
-// How many digits stand at the front of these bytes. Most numbers are so short that the first block
-// shows where their digits end.
+/// How many digits stand at the front of these bytes. Most numbers are so short that the first block
+/// shows where their digits end.
 #[inline(always)]
-fn digit_run(bytes: &[u8]) -> usize
+pub(crate) fn digit_run(bytes: &[u8]) -> usize
     ensures { IsRun is_digit bytes.now result }
 {
     if bytes.len() >= BLOCK {

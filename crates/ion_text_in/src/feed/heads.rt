@@ -16,6 +16,7 @@ use super::texts::text_between;
 use crate::first::First;
 use crate::number::{Number, Numeral, scan_number};
 use crate::quick::{Quick, scaled, scan_quick, signed_int};
+use crate::quick_float::scan_quick_float;
 use crate::quoted::Quote;
 use crate::scanned::Scanned;
 use crate::slice::{after, front};
@@ -117,6 +118,11 @@ pub(super) fn run_head<'a>(limits: Rules, place: u64, bytes: &'a [u8]) -> Option
     requires { BeginsAs a_run bytes.now }
     ensures { IfSome result (IsFound limits place bytes.now) }
 {
+    if limits.floats {
+        if let Some((float, count)) = scan_quick_float(limits.scalar, bytes) {
+            return Some(found_as(Head::Float(float), after(count, bytes)));
+        }
+    }
     match scan_number(limits.scalar, bytes) {
         Scanned::Whole(Numeral::Number(number), count) => {
             Some(found_as(head_of(number), after(count, bytes)))

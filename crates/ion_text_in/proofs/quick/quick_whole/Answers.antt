@@ -1,4 +1,4 @@
-use Rattle.ion_text_in.proofs.QuickNumbers.{plain-mantissa}
+use Rattle.ion_text_in.proofs.Mantissas.{plain-mantissa}
 use Rattle.ion_text_in.proofs.quick.quick_whole.Goals as goal
 
 pub quick_power-requires-clause-mantissa : goal.quick_power-requires-clause-mantissa

@@ -45,6 +45,7 @@ use Rattle.ion_text_in.specs.Token.{First, Token, first_at, token_of}
 use Rattle.ion_text_in.proofs.BlankTurns.{no-slash}
 use Rattle.ion_text_in.proofs.BlankRuns.{white-over}
 use Rattle.ion_text_in.proofs.ReaderSteps.{blanks-going, later-moved, part-token, step-part}
+use Rattle.ion_text_in.proofs.ShownFurther.{shown-some}
 
 -- ---- what stands after some bytes
 
@@ -315,12 +316,13 @@ unfolding taken
 float-taken limits kinds top place q field annotations x rest on =
     ap (λ (b : Bool). comes limits (part place (refuse (not b) reason.Float >> Ok (scalar_step kinds top field annotations place (value.float x) (at q rest))))) on
 
-pub head-float : {limits : Rules} {place n : ℕ} {bytes rest : List ℕ} (x : Float64) → limits.floats ≡ true → rest ≡ drop n bytes → 0 < n
+pub head-float : {limits : Rules} {place n : ℕ} {bytes rest : List ℕ} (x : Float64) → limits.floats ≡ true → rest ≡ drop n bytes
     → Shows numeral_token bytes (Whole (numerals.Float (Some x)) n) (token_of (Some limits.scalar) tokens.a_run) → IsFloat (value_of x) → BeginsAs tokens.a_run bytes
     → IsHead limits place bytes (value.whole (value.float (value_of x))) rest
-head-float {limits} {place} {n} {bytes} {rest} x on after counts shows range begins =
+head-float {limits} {place} {n} {bytes} {rest} x on after shows range begins =
     let body : Scalar SymbolAt = value.float (value_of x) in
-    head-token body body tt range (token-front after counts shows.0 shows.1 begins) (λ kinds top q field annotations more. float-taken limits kinds top place q field annotations (value_of x) (rest ++ more) on)
+    let counts = shown-some numeral_token bytes (numerals.Float (Some x)) n (Some limits.scalar) tokens.a_run shows begins.some in
+    head-token body body tt range (token-front after (omega (arith, counts)) shows.0 shows.1 begins) (λ kinds top q field annotations more. float-taken limits kinds top place q field annotations (value_of x) (rest ++ more) on)
 
 -- the code found a number that it read in one pass
 pub found-number : {limits : Rules} {place : ℕ} {bytes : List ℕ} {found : Found} (x : Quick) → raw_head found.head ≡ value.whole (as_number (as_quick x)) → found.rest.now ≡ drop x.count bytes → 0 < x.count

@@ -51,8 +51,14 @@ pointed-parts : (ds fs : List ℕ) (c : ℕ) (ys : List ℕ) → all_are is_digi
     → parts_of (ds ++ (46 ∷ (fs ++ (c ∷ ys)))) ≡ make_parts ds (46 ∷ fs) (c ∷ ys)
 unfolding parts_of cut_at
 pointed-parts ds fs c ys digits places e =
-    rw (cut-after is_exponent_mark ds (46 ∷ (fs ++ (c ∷ ys))) digit-mark digits, cut-after is_exponent_mark fs (c ∷ ys) digit-mark places, e, append-nil fs,
-    cut-after is_point ds (46 ∷ fs) digit-point digits, append-nil ds) refl
+    rw (
+      cut-after is_exponent_mark ds (46 ∷ (fs ++ (c ∷ ys))) digit-mark digits,
+      cut-after is_exponent_mark fs (c ∷ ys) digit-mark places,
+      e,
+      append-nil fs,
+      cut-after is_point ds (46 ∷ fs) digit-point digits,
+      append-nil ds,
+    ) refl
 
 -- ---- what the parts spell
 
@@ -116,11 +122,11 @@ pointed-mantissa bytes k x so point is =
       plain = λ power. ap has_minus (front power) ∙ sign-front (take k bytes) (46 ∷ (fs ++ power)) (taken-some bytes k so.some (omega (arith, so.within))) so.digits;
       parts = λ mark power e. subst (λ (p : Parts). AreSpelling p x.number x.places (mark ∷ power))
           (sym (ap parts_of (front (mark ∷ power)) ∙ pointed-parts (take k bytes) fs mark power so.digits is.digits e)) (record {
-        mantissa = rw (whole-front bytes k so, fraction-front fs is.digits) refl;
-        digits = value-both (take k bytes) fs so.digits is.digits ∙ sym is.number;
-        fraction = rw (all-filter fs is.digits) long;
-        exponent = refl;
-      });
+            mantissa = rw (whole-front bytes k so, fraction-front fs is.digits) refl;
+            digits = value-both (take k bytes) fs so.digits is.digits ∙ sym is.number;
+            fraction = rw (all-filter fs is.digits) long;
+            exponent = refl;
+          });
     }
 
 -- ---- the exponent

@@ -35,8 +35,8 @@ pub(crate) struct Quick {
 /// The int or decimal at the front of these bytes, where it has no more than the limit.
 ///
 /// There is an answer where it is a minus or none and at most 38 digits, or at most 19 with a point
-/// among them, which may have a `d` and a small exponent after them, and where punctuation, a quote
-/// or white space ends it within the bytes. There is none where it is `-0`.
+/// among them, which may have a `d` and an exponent of at most three digits after them, and where
+/// punctuation, a quote or white space ends it within the bytes. There is none where it is `-0`.
 #[inline(always)]
 pub(crate) fn scan_quick(limit: u64, bytes: &[u8]) -> Option<Quick>
     ensures shows { IfSome result (λ x. Shows number_token bytes.now
@@ -365,8 +365,8 @@ fn digit(byte: u8) -> u64
 // How many bytes are looked at together.
 const BLOCK: usize = 16;
 
-/// How many digits stand at the front of these bytes. Most numbers are so short that the first block
-/// shows where their digits end.
+/// How many digits stand at the front of these bytes. Most numbers are so short that the first
+/// block shows where their digits end.
 #[inline(always)]
 pub(crate) fn digit_run(bytes: &[u8]) -> usize
     ensures { IsRun is_digit bytes.now result }

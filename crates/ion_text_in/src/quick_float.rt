@@ -10,16 +10,17 @@ ghost use Rattle.ion_text_in.specs.Token.{a_run, token_of};
 ghost use Rattle.ion_text_in.specs.Views.{numeral_token};
 
 use crate::quick::{
-    Mantissa, NARROW, begins_zeros, digit_run, exponent_of, number_after, pointed, power_after, sign,
+    Mantissa, NARROW, begins_zeros, digit_run, exponent_of, number_after, pointed, power_after,
+    sign,
 };
 use fast_float::from_parts;
 use ion_value::float::Float64;
 
 /// The float at the front of these bytes, where it has no more than the limit, and how many it has.
 ///
-/// There is an answer where it is a minus or none and at most 19 digits, which may have a point
-/// among them, an `e` and an exponent of at most three digits, where punctuation, a quote or white
-/// space ends it within the bytes, and where the float is finite.
+/// There is an answer where it is a minus or none, at most 19 digits, which may have a point among
+/// them, an `e` or `E`, and an exponent of at most three digits, where punctuation, a quote or
+/// white space ends it within the bytes, and where the float is finite.
 #[inline(always)]
 pub(crate) fn scan_quick_float(limit: u64, bytes: &[u8]) -> Option<(Float64, usize)>
     ensures shows { IfSome result (λ x. Shows numeral_token bytes.now

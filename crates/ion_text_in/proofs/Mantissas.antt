@@ -1,26 +1,24 @@
 -- Digits, a point among them or none, and an exponent after them.
-use Rattle.std.proofs.Common.{◌≡◌, ℕ, ◌+◌, ◌^◌, ◌<◌, ◌≤◌, ℤ, pos, ◌-ℤ◌, Bool, true, false, not, ◌&&◌, ◌||◌, ◌==◌, nat_lt, if◌then◌else◌, Some, None, Ok, List, [], ◌∷◌, ◌++◌, length, take, drop, get_or, filter, refl, sym, ap, subst, ◌∙◌, arith, suc}
+use Rattle.std.proofs.Common.{◌≡◌, ℕ, ◌+◌, ◌^◌, ◌<◌, ◌≤◌, ℤ, pos, ◌-ℤ◌, Bool, true, false, ◌||◌, ◌==◌, if◌then◌else◌, Some, Ok, List, [], ◌∷◌, ◌++◌, length, take, drop, get_or, filter, refl, sym, ap, subst, ◌∙◌, arith, suc}
 use Rattle.std.proofs.lemmas.Bool.{and_parts, lt-ltb}
 use Rattle.std.proofs.lemmas.Bool.Decides.{nat_tests}
 use Rattle.std.proofs.lemmas.Int.{ints}
 use Rattle.std.proofs.lemmas.List.{append_assoc, append-nil, length-take-le}
 use Rattle.std.proofs.Math.Nat.{pow-le-pow_right}
 use Rattle.ion_value.specs.declared.decimal.Decimal.{Decimal}
-use Rattle.ion_value.specs.Decimal.{IsDecimal, Parts, parts_of, is_point, is_decimal_mark, is_exponent_mark, is_fraction, is_mantissa, is_power, power_value, fraction_digits, decimal_in_range, decimal_of_parts, decimal_of_text}
+use Rattle.ion_value.specs.Decimal.{IsDecimal, Parts, parts_of, is_point, is_decimal_mark, is_exponent_mark, is_fraction, is_power, power_value, fraction_digits, decimal_in_range, decimal_of_parts, decimal_of_text}
 use Rattle.ion_value.specs.Digits.{is_digit, digits_value, all_are, are_digits, cut_at, first_is, has_minus, is_whole}
 use Rattle.ion_value.specs.Number.{signed}
 use Rattle.ion_value.proofs.LeadingDigits.{all_are-append}
 use Rattle.ion_value.proofs.TextDigits.{whole-is, zero_first}
 use Rattle.ion_value.proofs.TextDecimals.{all-filter, all-some, decimal-in_range, decimal-text, make_parts, sign-read}
 use Rattle.ion_float.proofs.Closing.{closed-all}
-use Rattle.ion_text_in.specs.declared.number.Number.TheVariants as numbers
 use Rattle.ion_text_in.specs.declared.quick.Mantissa.{Mantissa}
 use Rattle.ion_text_in.specs.declared.quick.Power.{Power}
 use Rattle.ion_text_in.specs.declared.run.Run.TheVariants as run
 use Rattle.ion_text_in.specs.Quick.{number_after, scaled, signed_text, stops, AreSpelling, AreWhole, IsMantissa, IsPointed, IsPower, IsQuick}
 use Rattle.ion_text_in.specs.Runs.{stays}
 use Rattle.ion_text_in.specs.Token.{run_token}
-use Rattle.ion_text_in.specs.Views.{number_token}
 use Rattle.ion_text_in.proofs.DigitNumbers.{after-joined, below}
 use Rattle.ion_text_in.proofs.QuickNumbers.{all-stay, decimal-alone, pointed-stay, places-within, pointed-text, sign-front, split-text, stop-ends, taken-some, zero-front}
 use Rattle.ion_text_in.proofs.SpelledNumbers.{number-is}
@@ -89,7 +87,6 @@ value-both ds fs e f = rw (all-filter ds e, all-filter fs f) (value-is (ds ++ fs
 -- digits alone
 pub plain-mantissa : (bytes : List ℕ) (k : ℕ) → AreWhole bytes k → IsMantissa bytes (number_after 0 (take k bytes)) 0 k
 plain-mantissa bytes k so =
-    let ds : List ℕ = take k bytes in
     let n : ℕ = number_after 0 (take k bytes) in
     record {
       some = so.some;

@@ -1,5 +1,5 @@
 -- Floats that are read in one pass.
-use Rattle.std.proofs.Common.{◌≡◌, ℕ, ◌<◌, ℤ, pos, ◌-ℤ◌, Bool, true, Ok, Some, Result, List, ◌∷◌, ◌++◌, take, get_or, refl, sym, ap, subst, ◌∙◌, arith, None}
+use Rattle.std.proofs.Common.{◌≡◌, ℕ, ℤ, pos, ◌-ℤ◌, Bool, true, Ok, Result, List, ◌∷◌, ◌++◌, take, get_or, refl, sym, ap, subst, ◌∙◌, arith}
 use Rattle.std.proofs.lemmas.Bool.Decides.{nat_tests}
 use lib.Ieee.{Float, binary64}
 use Rattle.fast_float.specs.Rounding.{nearest_to_decimal}

@@ -1,4 +1,4 @@
-use Rattle.std.proofs.Common.{◌+◌, ◌∙◌, ap, ap₂, take, drop, arith}
+use Rattle.std.proofs.Common.{◌+◌, ◌∙◌, ap, ap₂, take, arith}
 use Rattle.std.proofs.lemmas.Grind.{common_steps}
 use Rattle.std.proofs.lemmas.List.{take_rest, length-take-le}
 use Rattle.ion_text_in.specs.Quick.{number_after}

@@ -1,6 +1,5 @@
-use Rattle.std.proofs.Common.{◌≡◌, ℕ, List, ◌+◌, ◌∙◌, sym, ap, subst, take, drop, get_or, arith}
+use Rattle.std.proofs.Common.{◌≡◌, ℕ, List, ◌+◌, ◌∙◌, sym, ap, subst, drop, get_or, arith}
 use Rattle.std.proofs.lemmas.List.{take_rest}
-use Rattle.ion_text_in.specs.declared.quick.Power.{Power}
 use Rattle.ion_text_in.specs.Quick.{signed_text, stops, IsPower}
 use Rattle.ion_text_in.proofs.Mantissas.{power-after, sign_length}
 use Rattle.ion_text_in.proofs.quick.power_after.Goals as goal

@@ -1,4 +1,4 @@
-use Rattle.std.proofs.Common.{◌≡◌, ◌∙◌, ap, sym, subst, List, ℕ, ◌+◌}
+use Rattle.std.proofs.Common.{◌∙◌, ap, sym, subst, List, ℕ, ◌+◌}
 use Rattle.ion_text_in.specs.Quick.{as_quick, AreSpelled}
 use Rattle.ion_text_in.specs.Token.{run_token}
 use Rattle.ion_text_in.specs.Views.{number_token}

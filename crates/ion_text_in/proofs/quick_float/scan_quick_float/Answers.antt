@@ -1,4 +1,4 @@
-use Rattle.std.proofs.Common.{◌≡◌, ◌∙◌, ap, ℕ, ◌+◌, Some}
+use Rattle.std.proofs.Common.{◌∙◌, ap, ℕ, ◌+◌, Some}
 use Rattle.ion_text_in.specs.declared.number.Numeral.TheVariants as numerals
 use Rattle.ion_text_in.specs.Token.{run_token}
 use Rattle.ion_text_in.specs.Views.{numeral_token}

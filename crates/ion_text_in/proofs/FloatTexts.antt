@@ -1,27 +1,24 @@
 -- The text of a float is a token that means it.
-use Rattle.std.proofs.Common.{◌≡◌, ℕ, zero, suc, ◌^◌, ◌<◌, ◌≤◌, inl, inr, ℤ, Bool, true, false, if◌then◌else◌, List, [], ◌∷◌, ◌++◌, length, codes, T, Some, None, Result, Ok, Err, refl, sym, ap, subst, ◌∙◌, arith}
+use Rattle.std.proofs.Common.{◌≡◌, ℕ, zero, suc, ◌^◌, ◌<◌, ◌≤◌, ℤ, Bool, true, false, if◌then◌else◌, List, [], ◌∷◌, ◌++◌, length, codes, T, Some, None, Result, Ok, Err, refl, sym, subst, arith}
 use Rattle.std.specs.Fmt.{decimal}
 use Rattle.std.proofs.lemmas.Bool.{and_parts, and_from}
 use Rattle.std.proofs.lemmas.Int.{ints}
-use lib.Ieee.{Float, nan, inf, fin, binary64, fits, to_bits}
+use lib.Ieee.{nan, inf, fin, binary64, fits, to_bits}
 use lib.Ieee.Bits.{of_bits-to_bits, to_bits-lt}
 use Rattle.ion_meter.specs.declared.fault.Reason.{Reason}
-use Rattle.ion_meter.specs.declared.fault.Reason.TheVariants as reason
 use Rattle.ion_meter.specs.declared.fault.Reason.TheVariants.{BadToken}
-use Rattle.ion_value.specs.Decimal.{IsExponent, Parts, integer_text, parts_of, decimal_of_text}
+use Rattle.ion_value.specs.Decimal.{IsExponent, Parts, integer_text, parts_of}
 use Rattle.ion_value.specs.Digits.{is_digit, first_is, all_are, has_minus, without_minus}
 use Rattle.ion_value.specs.FloatText.{pointed, exponent_of, digits_text, magnitude_text, float_text, is_float, float_of_parts, or_else, float_of_text}
 use Rattle.ion_value.specs.Name.{is_identifier_byte}
-use Rattle.ion_value.specs.Scalar.{scalar_of_run}
 use Rattle.ion_value.specs.Shortest.{shortest}
-use Rattle.ion_value.specs.Value.{SymbolAt}
 use Rattle.ion_value.proofs.TextDecimals.{spells}
 use Rattle.ion_float.proofs.FewDigits.{few-digits}
 use Rattle.ion_float.proofs.RoundTrip.{text-read}
 use Rattle.ion_float.proofs.TextOfBits.{above-zero, digits-short, shortest-row}
 use Rattle.ion_text_in.specs.Beginnings.{EndsIdentifier, EndsNumber}
 use Rattle.ion_text_in.specs.Meaning.{Means, FloatTextIsRead}
-use Rattle.ion_text_in.specs.Token.{an_infinity, a_word, float, first_at, found_float, run_token, token_of, word_token}
+use Rattle.ion_text_in.specs.Token.{an_infinity, a_word, float, first_at, token_of, word_token}
 use Rattle.ion_text_in.proofs.Meaning.{IsRun, Runs, all-append, allowed, digits-run_bytes, exponent-bytes, is_run_byte, sign-run, token-means, whole-word, word-ends, word-means}
 use Rattle.ion_text_in.proofs.RunTokens.{float-means}
 

@@ -46,7 +46,7 @@ stands before it. In a pipe "set -o pipefail" keeps the status."""
 DIAGNOSTICS = (
     ("refused REASON at OFFSET",
      "The stream is not valid, passes a limit or, without --floats, has a float. OFFSET is the number of bytes before the faulty part. Status 1."),
-    ("catalog refused REASON at OFFSET", "The same of the file of --catalog. Status 1."),
+    ("catalog refused REASON at OFFSET", "So of --catalog's file, with any float. Status 1."),
     ("cannot open FILE", "The file is not there, or may not be read. Status 3."),
     ("no memory, read fault, write fault", "The system failed; nothing is said of the stream. Status 3."),
 )

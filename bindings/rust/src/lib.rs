@@ -85,7 +85,7 @@ changed! { depth: u32, scalar: u64, symbols: u64, value: u64, input: u64 }
 #[derive(Clone, Copy, Debug, Default, PartialEq, Eq, Hash)]
 #[non_exhaustive]
 pub enum Profile {
-    /// No float but `null.float`: any other is refused. So read the calls without a profile.
+    /// No float but `null.float`: any other is refused. The calls without a profile read so.
     #[default]
     Strict = 0,
     /// Floats too.

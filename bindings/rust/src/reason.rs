@@ -34,7 +34,7 @@ reasons! {
     BadTimestamp = 8 "A date, time, fraction or offset that does not exist.",
     Range = 9 "A number that Ion has and Cozgelt has not.",
     BadText = 10 "A string or a symbol that is no UTF-8, or has a bad escape.",
-    Float = 11 "A float other than `null.float`, where the profile has none.",
+    Float = 11 "A float other than `null.float`, without floats or in catalogues.",
     BadToken = 12 "Text that is no token, or one that cannot stand at its place.",
     BadLob = 13 "A malformed blob or clob.",
     DepthLimit = 14 "More containers are open than the limit on depth.",

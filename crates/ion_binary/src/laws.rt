@@ -15,7 +15,8 @@ pub fn bodies_are_read()
     ensures { Bodies }
 {}
 
-/// Narrower limits change nothing in what is read, or cut it short by a limit's fault.
+/// Narrower rules change nothing in what is read, or cut it short by a limit's fault, or at the
+/// float that they do not read.
 pub fn limits_only_cut_short()
     ensures { Narrow }
 {}
@@ -37,20 +38,20 @@ pub fn each_step_falls()
 {}
 
 /// Whatever path of the grammar a prefix of an input spells, its items are read first, under
-/// limits that allow them.
+/// rules that allow and permit them.
 pub fn what_is_spelled_is_read()
     ensures { Complete }
 {}
 
-/// A list of version markers and values that an input spells is read to its end, under limits that
-/// allow it.
+/// A list of version markers and values that an input spells is read to its end, under rules that
+/// allow and permit it.
 pub fn streams_are_read()
     ensures { StreamsAreRead }
 {}
 
-/// The values of a stream are as streams have them: their ints, decimals and timestamps are in
-/// range, strings are UTF-8, fields stand in structs alone, and clobs and blobs are bytes where the
-/// input is.
+/// The values of a stream are as streams have them: their ints, floats, decimals and timestamps are
+/// in range, strings are UTF-8, fields stand in structs alone, and clobs and blobs are bytes where
+/// the input is.
 pub fn streams_are_raw()
     ensures { StreamsAreRaw }
 {}
@@ -65,7 +66,8 @@ pub fn one_stream()
     ensures { OneStream }
 {}
 
-/// Where a reading stops, and not at a limit, the input is no stream of the grammar.
+/// Where a reading stops, and not at a limit, the input is no stream of the grammar that the rules
+/// permit.
 pub fn rightly_refused()
     ensures { RightlyRefused }
 {}
@@ -76,7 +78,7 @@ pub fn refusals_are_stable()
 {}
 
 /// Where a reading stops, neither at a limit nor because the input ends, no stream of the grammar
-/// begins with the input.
+/// that the rules permit begins with the input.
 pub fn no_stream_begins()
     ensures { NoStreamBegins }
 {}
@@ -88,12 +90,13 @@ pub fn limits_are_exact()
     ensures { ExactLimits }
 {}
 
-/// A stream that passes no limit at any place is read to its end.
+/// A stream that passes no limit at any place, and that the rules permit, is read to its end.
 pub fn streams_within_limits_are_read()
     ensures { WithinLimitsAreRead }
 {}
 
-/// A stream that passes a limit at some place is not: its reading stops at a limit.
+/// A stream of permitted values that passes a limit at some place is not: its reading stops at a
+/// limit.
 pub fn passed_limits_stop()
     ensures { PassedLimitsStop }
 {}

@@ -1,6 +1,6 @@
 //! Floats of Amazon Ion 1.0: a double, its text and its octets.
 //!
-//! A float is read from text and from octets, and written as its shortest text that reads as it and
+//! A float is read from text and from octets, and written with the fewest digits that read as it and
 //! as its fewest octets. Nothing here takes memory.
 #![tactic(auto)]
 

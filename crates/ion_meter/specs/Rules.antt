@@ -8,7 +8,7 @@ use Rattle.ion_meter.specs.declared.profile.Rules.{Rules}
 abbrev pub strict : Profile
 strict = record { floats = false }
 
--- every value of Ion 1.0
+-- floats too
 abbrev pub floats : Profile
 floats = record { floats = true }
 

@@ -394,7 +394,8 @@ impl<I: Input, A: Allocator + Copy> BinReader<I, A> {
             };
             return self.hand_head::<N, W, O, RUN>(around, front, meter, names, writer, sink);
         }
-        if RUN == QUOTED && is_frequent(field, octets, at) {
+        let frequent = is_frequent(field, octets, at);
+        if RUN == QUOTED && frequent {
             return false;
         }
         let front = bare_front(field, at);

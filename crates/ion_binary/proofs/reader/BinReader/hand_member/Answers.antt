@@ -34,8 +34,8 @@ returns-in_default-noted_front g c = hands-none g.W.ValueWriter c.requires.can_h
 pub returns-then-this-eq-NOTED : goal.returns-then-this-eq-NOTED
 returns-then-this-eq-NOTED g c = c.hand_head.ensures
 
-pub returns-then-is_frequent : goal.returns-then-is_frequent
-returns-then-is_frequent g c = hands-none g.W.ValueWriter c.requires.can_hand (g.met.W.ValueWriter.within c.args.writer.now c.requires.can_hand.writer.sound)
+pub returns-then-frequent : goal.returns-then-frequent
+returns-then-frequent g c = hands-none g.W.ValueWriter c.requires.can_hand (g.met.W.ValueWriter.within c.args.writer.now c.requires.can_hand.writer.sound)
 
 pub returns : goal.returns
 returns g c = c.hand_head-2.ensures

@@ -5,6 +5,9 @@ use ion_float::text::{float_to_text, nearest_float};
 use ion_meter::fault::Reason;
 use ion_value::float::Float64;
 
+/// The bits of infinity, above which the bits of a magnitude are no number's.
+const INFINITY: u64 = 0x7ff0_0000_0000_0000;
+
 /// The bits of floats, and their texts: the digits are those that Python's `repr` writes.
 const TEXTS: &[(u64, &str)] = &[
     (0x0000_0000_0000_0000, "0e0"),
@@ -146,7 +149,7 @@ fn the_texts_of_floats(rt: HostRuntime) {
     for (bits, text) in TEXTS {
         let float = Float64::from_bits(*bits);
         same(&rt, float_to_text(float).as_str(), *text);
-        if f64::from_bits(*bits).is_finite() {
+        if *bits % (1 << 63) < INFINITY {
             same(&rt, read(text), Ok(*bits));
         }
     }

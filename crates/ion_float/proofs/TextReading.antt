@@ -100,6 +100,9 @@ parsed-finite o v y e same h x is = ap (λ (z : Float). Ok z) same ∙ finite-is
 pub parsed-infinite : (o : Option Float) (v : Float) → o ≡ Some v → float_is_finite v ≡ false → (x : Float) → o ≡ Some x → Err Range ≡ finite x
 parsed-infinite o v e h x is = infinite-is v h ∙ ap finite (one-float o v x e is)
 
+pub parsed-some : (o : Option Float) (v : Float) → o ≡ Some v → o ≡ None → ⊥
+parsed-some o v is none = cc
+
 -- ---- what is read
 
 pub shape-read : (run text : List ℕ) (result : Result Float Reason) → None ≡ float_word run → true ≡ is_float (parts_of (without_minus run)) → text ≡ closed run

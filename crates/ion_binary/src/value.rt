@@ -49,7 +49,8 @@ fn next_version<I: Input, A: Allocator + Copy>(
     place: u64,
 ) -> Result<TypedValue, Fault>
     requires stands { Stands source.old }
-    ensures gives { AnswersBy I.Input (λ _. a_marker) source.old source.new place result version_at }
+    ensures gives { AnswersBy I.Input (λ _. a_marker) source.old source.new place result
+        version_at }
     ensures marker { (found : TypedValue) → result ≡ Ok found → found ≡ TypedValue.Marker }
     ensures reads { Reads I.Input source.old source.new result }
 {

@@ -421,12 +421,12 @@ impl<I: Input, A: Allocator + Copy> TextReader<I, A> {
         }
     }
 
-    // Takes a float where a value may stand, where floats are read and its digits are not past the
-    // greatest.
+    // Takes a float where a value may stand, where floats are read and it is finite or a word.
     fn float(&mut self, number: Option<Float64>, place: u64) -> Result<StepResult, Fault>
         requires range { IfSome number (λ f. IsFloat (value_of f)) }
         ensures { (m : Counts) → CanStep self.old m → self.old.expected ≡ Expected.Value
-            → StepsTo I.Input None (taking self.old place (tokens.float (option_map value_of number))) 0
+            → StepsTo I.Input None
+            (taking self.old place (tokens.float (option_map value_of number))) 0
             self.old self.new m m result }
     {
         if !self.limits.floats {

@@ -131,7 +131,7 @@ const RUNS: &[(&str, u64)] = &[
     ),
 ];
 
-/// Runs of digits that are past the greatest float.
+/// Runs of digits that round to infinity.
 const PAST: &[&str] = &[
     "1e309",
     "-1e400",

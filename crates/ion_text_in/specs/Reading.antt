@@ -100,7 +100,7 @@ scalar_step kinds top field annotations place body c =
     item_step kinds top field annotations place (value.whole body) kinds
     (after_member (innermost kinds)) c
 
--- a float that was read, whose digits must not be past the greatest
+-- a float that was read, whose digits must not round to infinity
 abbrev pub in_range : Option Float → Result Float Reason
 in_range (Some x) = Ok x
 in_range None = Err Range

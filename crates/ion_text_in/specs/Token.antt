@@ -115,7 +115,7 @@ word_of (b ∷ bytes) = with_type (b ∷ (run_of in_word bytes).0) (run_of in_wo
 
 -- ---- tokens
 
--- by what it means: a scalar that is neither a symbol nor a float; a float, or none where its digits are past the greatest; a symbol, in
+-- by what it means: a scalar that is neither a symbol nor a float; a float, or none where its digits round to infinity; a symbol, in
 -- quotes or not; a string; an operator; or punctuation
 pub data Token : Type 0 where
   plain : (body : Scalar SymbolAt) → Token

@@ -50,7 +50,7 @@ pub(crate) enum Number {
 pub(crate) enum Numeral {
     /// A number or a timestamp.
     Number(Number),
-    /// A float, or none where its digits are past the greatest.
+    /// A float, or none where its digits round to infinity.
     Float(Option<Float64>),
 }
 

@@ -76,7 +76,7 @@ pub(crate) enum Token {
     /// begins among them that does not end.
     String(Option<u64>),
     Operator,
-    /// A float, or none where its digits are past the greatest.
+    /// A float, or none where its digits round to infinity.
     Float(Option<Float64>),
     Begin(Kind),
     End(Kind),

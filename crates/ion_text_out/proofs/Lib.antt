@@ -5,6 +5,8 @@ mod Paths
 mod Quoted
 mod ShownRuns
 mod Rows
+mod PrettyRows
+mod Layouts
 mod WriterSteps
 mod Plain
 mod Taken

@@ -7,6 +7,7 @@ mod ShownRuns
 mod Rows
 mod PrettyRows
 mod Layouts
+mod Gaps
 mod WriterSteps
 mod Plain
 mod Taken

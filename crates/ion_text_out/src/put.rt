@@ -65,7 +65,7 @@ fn put_blanks<O: Output, A: Allocator + Copy>(
     ensures { IsPut O.Output sink.old sink.new result (replicate (2 * depth) 32) }
 {
     let mut left = depth;
-    'blocks: while left > LEVELS {
+    'levels: while left > LEVELS {
         if let Err(fault) = put(sink, &BLANKS) {
             return Err(fault);
         }
@@ -110,7 +110,7 @@ fn put_line_within<O: Output, A: Allocator + Copy>(sink: &mut Sink<O, A>, depth:
 {
     sink.put_byte(b'\n');
     let mut left = depth;
-    'blocks: while left > LEVELS {
+    'levels: while left > LEVELS {
         sink.put_within(&BLANKS);
         left -= LEVELS;
     }

@@ -39,10 +39,10 @@ pub returns-in-String : goal.returns-in-String
 returns-in-String g c = scalar_taken (raw_head c.args.head) (value.string c.in-String.text.now) c.requires.can_step c.take_string.ensures (ap raw_head c.in-String.is) refl
 
 pub returns-in-Begin : goal.returns-in-Begin
-returns-in-Begin g c = begin_taken c.args.name.now c.args.note.now (raw_head c.args.head) c.in-Begin.kind (ap raw_head c.in-Begin.is) c.take_begin.ensures
+returns-in-Begin g c = begin_taken g.L.Layout.layout c.args.name.now c.args.note.now (raw_head c.args.head) c.in-Begin.kind (ap raw_head c.in-Begin.is) c.take_begin.ensures
 
 pub returns-in-End : goal.returns-in-End
-returns-in-End g c = end_taken _ (raw_head c.args.head) (ap raw_head c.in-End.is) c.take_end.ensures
+returns-in-End g c = end_taken g.L.Layout.layout _ (raw_head c.args.head) (ap raw_head c.in-End.is) c.take_end.ensures
 
 pub returns-in-Bare : goal.returns-in-Bare
 returns-in-Bare g c = spelled_taken (raw_head c.args.head) c.requires.can_step c.take_text.ensures (rw (c.in-Some.is, c.in-Bare.is) at c.requires.spelled)

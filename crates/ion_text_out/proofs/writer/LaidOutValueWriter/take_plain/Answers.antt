@@ -15,7 +15,7 @@ take_head-requires-clause-comes g c = let at = c.requires.path in may_come c.arg
 
 pub returns-then-not-all-clause-puts : goal.returns-then-not-all-clause-puts
 returns-then-not-all-clause-puts g c e path stands continues =
-    let w = c.args.self.now in adds_here w.limits w.kinds w.empty path c.args.item _ _ _ stands.1 (ap (λ s. s.pending) (c.take_spelled.ensures.puts e)) refl
+    let w = c.args.self.now in adds_here g.L.Layout.layout w.limits w.kinds w.empty path c.args.item _ _ _ stands.1 (ap (λ s. s.pending) (c.take_spelled.ensures.puts e)) refl
 
 pub returns-clause-puts : goal.returns-clause-puts
 returns-clause-puts g c e path stands continues =
@@ -25,8 +25,8 @@ returns-clause-puts g c e path stands continues =
     let also = and_parts c.text_in-note.result.1 c.is_none.result said.1 in
     let name = c.text_in-name.ensures.text ∙ as_it_stands item.field c.requires.simple.field (sym c.text_in-name.ensures.bare ∙ said.0) in
     let notes = c.text_in-note.ensures.text ∙ as_they_stand item.annotation item.second c.requires.simple.annotation (sym c.text_in-note.ensures.bare ∙ also.0) (c.is_none.ensures ∙ ap not also.1) in
-    adds_here w.limits w.kinds w.empty path item _ _ _ stands.1 (ap (λ s. s.pending) (c.take_head.ensures.puts e))
-    (item_put (shown w.kinds w.empty) item c.text_in-name.result.0.now c.text_in-note.result.0.now c.requires.simple.second name notes)
+    adds_here g.L.Layout.layout w.limits w.kinds w.empty path item _ _ _ stands.1 (ap (λ s. s.pending) (c.take_head.ensures.puts e))
+    (item_put g.L.Layout.layout (shown w.kinds w.empty) item c.text_in-name.result.0.now c.text_in-note.result.0.now c.requires.simple.second name notes)
 
 pub returns-then-not-all-clause-stands : goal.returns-then-not-all-clause-stands
 returns-then-not-all-clause-stands g c = grind (arith, common_steps)

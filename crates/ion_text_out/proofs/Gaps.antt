@@ -1,0 +1,81 @@
+-- What stands between parts: which it is, how long, and how its blanks are put.
+use Rattle.std.proofs.Common.{◌≡◌, ℕ, suc, ◌+◌, ◌-◌, ◌*◌, ◌<◌, ◌≤◌, Bool, false, List, [], ◌∷◌, ◌++◌, length, take, Option, Some, None, refl, sym, ap, ◌∙◌, arith, append_assoc}
+use Rattle.std.specs.Prelude.{map, replicate, reverse, slice_get, codes}
+use Rattle.std.proofs.lemmas.List.{length-append, length-map, length-replicate, length-reverse, replicate-append-replicate, take-replicate}
+use Rattle.ion_meter.specs.Windows.{Outgoing}
+use Rattle.ion_value.specs.declared.ion_type.Kind.{Kind}
+use Rattle.ion_text_out.specs.Layout.{Layout, new_line}
+use Rattle.ion_text_out.specs.Lane.{marked, plain_front}
+use Rattle.ion_text_out.specs.Text.{Open, before_item}
+use Rattle.ion_text_out.specs.Writing.{before_end, innermost, shown, shown_in}
+
+-- ---- before a member, and before a bracket that closes
+
+item_in : (layout : Layout) (kinds : List Kind) (empty : Bool) (kind : Kind) → slice_get kinds 0 ≡ Some kind
+    → before_item layout (shown_in kinds empty) ≡ layout.before_member kind empty (length kinds)
+item_in layout [] empty kind is = absurd (cc is)
+item_in layout (k ∷ kinds) empty kind is =
+    ap (λ n. layout.before_member k empty (suc n)) (length-map kinds (λ x. (x, false))) ∙ ap (λ x. layout.before_member x empty (suc (length kinds))) (cc is)
+
+-- before a member of the innermost container
+pub before_some : (layout : Layout) (kinds : List Kind) (empty : Bool) (kind : Kind) → innermost kinds ≡ Some kind
+    → layout.before_member kind empty (length kinds) ≡ before_item layout (shown kinds empty)
+before_some layout kinds empty kind is =
+    sym (item_in layout (reverse kinds) empty kind is ∙ ap (λ n. layout.before_member kind empty n) (length-reverse kinds))
+
+item_none : (layout : Layout) (kinds : List Kind) (empty : Bool) → slice_get kinds 0 ≡ None → before_item layout (shown_in kinds empty) ≡ []
+item_none layout [] empty is = refl
+item_none layout (k ∷ kinds) empty is = absurd (cc is)
+
+-- where none is open
+pub before_none : (layout : Layout) (kinds : List Kind) (empty : Bool) → innermost kinds ≡ None → [] ≡ before_item layout (shown kinds empty)
+before_none layout kinds empty is = sym (item_none layout (reverse kinds) empty is)
+
+end_in : (layout : Layout) (kinds : List Kind) (empty : Bool) → 0 < length kinds → before_end layout (shown_in kinds empty) ≡ layout.before_closer empty (length kinds - 1)
+end_in layout [] empty some = absurd (omega (arith, some))
+end_in layout (k ∷ kinds) empty some = ap (λ n. layout.before_closer empty n) (length-map kinds (λ x. (x, false)) ∙ omega arith)
+
+-- before the bracket of the innermost
+pub end_some : (layout : Layout) (kinds : List Kind) (empty : Bool) → 0 < length kinds → layout.before_closer empty (length kinds - 1) ≡ before_end layout (shown kinds empty)
+end_some layout kinds empty some =
+    let same = length-reverse kinds in
+    sym (end_in layout (reverse kinds) empty (omega (arith, same, some)) ∙ ap (λ n. layout.before_closer empty (n - 1)) same)
+
+end_none_in : (layout : Layout) (kinds : List Kind) (empty : Bool) → length kinds ≡ 0 → [] ≡ before_end layout (shown_in kinds empty)
+end_none_in layout [] empty none = refl
+end_none_in layout (k ∷ kinds) empty none = absurd (omega (arith, none))
+
+pub end_none : (layout : Layout) (kinds : List Kind) (empty : Bool) → length kinds ≡ 0 → [] ≡ before_end layout (shown kinds empty)
+end_none layout kinds empty none = end_none_in layout (reverse kinds) empty (length-reverse kinds ∙ none)
+
+-- ---- lengths
+
+pub line-length : (depth : ℕ) → length (new_line depth) ≡ 1 + 2 * depth
+line-length depth = let blanks = length-replicate {A = ℕ} (2 * depth) 32 in omega (arith, blanks)
+
+marked-length : (mark text : List ℕ) → length (marked mark text) ≤ length text + length mark
+marked-length mark [] = omega arith
+marked-length mark (b ∷ bytes) = let both = length-append bytes mark in omega (arith, both)
+
+-- a name and annotations, with what stands after them
+pub front-length : (layout : Layout) (name note : List ℕ) → length (plain_front layout name note) ≤ length name + length note + length layout.after_name + 2
+front-length layout name note =
+    let first = marked-length layout.after_name name in
+    let second = marked-length (codes "::") note in
+    let both = length-append (marked layout.after_name name) (marked (codes "::") note) in
+    omega (arith, first, second, both)
+
+-- ---- blanks, by blocks of 64
+
+pub blanks_then : (left : ℕ) → 32 < left → replicate {A = ℕ} (2 * left) 32 ≡ replicate {A = ℕ} 64 32 ++ replicate {A = ℕ} (2 * (left - 32)) 32
+blanks_then left more =
+    let same : 64 + 2 * (left - 32) ≡ 2 * left = omega (arith, more) in
+    sym (replicate-append-replicate {A = ℕ} 64 (2 * (left - 32)) 32 ∙ ap (λ n. replicate {A = ℕ} n 32) same)
+
+pub blanks_last : (left : ℕ) → left ≤ 32 → take {A = ℕ} (2 * left) (replicate {A = ℕ} 64 32) ≡ replicate {A = ℕ} (2 * left) 32
+blanks_last left few = take-replicate {X = ℕ} (2 * left) 64 32 (omega (arith, few))
+
+-- what is put after some of it, and then the rest
+pub put_before : {O : Type 0} (now new : Outgoing O) (first rest : List ℕ) → new ≡ record now { pending = now.pending ++ first }
+    → record new { pending = new.pending ++ rest } ≡ record now { pending = now.pending ++ (first ++ rest) }
+put_before now new first rest put = rw put (ap (λ (l : List ℕ). record now { pending = l }) (append_assoc now.pending first rest))

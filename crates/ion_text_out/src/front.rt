@@ -1,17 +1,18 @@
 //! Names and annotations of plain items, which are put where the window on the output has room.
-ghost use Rattle.std.specs.Prelude.{◌≡◌, ◌+◌, ◌≤◌, ◌++◌, ◌∷◌, ◌&&◌, [], true, length, codes, if◌then◌else◌, IfSome};
+ghost use Rattle.std.specs.Prelude.{◌≡◌, Bool, ◌+◌, ◌≤◌, ◌++◌, ◌∷◌, ◌&&◌, [], true, length, codes, if◌then◌else◌, IfSome};
 ghost use Rattle.ion_value.specs.PlainItems.{IsRightlyQuoted, StandsAfter};
 ghost use Rattle.ion_value.specs.Value.{Known};
 ghost use Rattle.ion_text_out.specs.Lane.{is_bare_in, plain_front, symbol_in, symbols_in, text_in};
-ghost use Rattle.ion_text_out.specs.Text.{symbol_text};
-ghost use Rattle.ion_text_out.specs.Writing.{gap_text};
+ghost use Rattle.ion_text_out.specs.Text.{before_item, symbol_text};
+ghost use Rattle.ion_text_out.specs.Writing.{shown};
 
 use crate::bare::is_bare;
-use crate::layout::{Gap, Layout};
+use crate::layout::Layout;
 use crate::quote::stands_in_symbol;
 use arrayvec::ArrayVec;
 use ion_meter::device::Output;
 use ion_meter::sink::Sink;
+use ion_value::ion_type::Kind;
 use ion_value::plain_item::TextAt;
 use ion_value::quoting::{BARE, QUOTED};
 use std::alloc::Allocator;
@@ -42,12 +43,13 @@ pub fn all(name: bool, note: bool, alone: bool) -> bool
 #[inline(always)]
 pub fn has_room<L: Layout, O: Output, A: Allocator + Copy>(
     sink: &Sink<O, A>,
-    gap: Gap,
+    kinds: &[Kind],
     name: &[u8],
     note: &[u8],
     more: usize,
 ) -> bool
-    ensures { result ≡ true → length sink.now.pending + length (gap_text gap)
+    ensures { result ≡ true → (empty : Bool) → length sink.now.pending
+        + length (before_item L.layout (shown kinds.now empty))
         + length (plain_front L.layout name.now note.now) + more + 1 ≤ 4096 }
 {
     let room = sink.room();
@@ -56,7 +58,7 @@ pub fn has_room<L: Layout, O: Output, A: Allocator + Copy>(
         return false;
     }
     let left = room - texts;
-    more <= left && gap.fits(L::after_name().len() + 3, left - more)
+    more <= left && L::has_room(kinds.len(), left - more)
 }
 
 /// Puts a mark of one byte, or none.

@@ -1,7 +1,7 @@
 //! Layouts: what stands between the parts of a text.
-ghost use Rattle.std.specs.Prelude.{◌≡◌, ◌+◌, ◌≤◌, true, length};
-ghost use Rattle.ion_text_out.specs.Layout.{Layout, canonical, pretty};
-ghost use Rattle.ion_text_out.specs.Writing.{gap_text};
+ghost use Rattle.std.specs.Prelude.{◌≡◌, ◌+◌, ◌≤◌, Bool, true, length};
+ghost use Rattle.ion_text_out.specs.Layout.{Layout, before_next, canonical, comma_before, pretty};
+ghost use Rattle.ion_text_out.specs.Writing.{byte_in, gap_text};
 
 use ion_value::ion_type::Kind;
 
@@ -15,7 +15,7 @@ pub struct Gap {
 
 impl Gap {
     /// Whether there is room for this, and for so many bytes more. The mark is counted as one byte
-    /// whether or not it is there, so that where no new line stands one comparison tells.
+    /// whether or not it is there.
     #[inline(always)]
     pub fn fits(self, more: usize, room: usize) -> bool
         ensures { result ≡ true → length (gap_text self) + more ≤ room }
@@ -40,6 +40,13 @@ pub trait Layout {
     fn before_member(kind: Kind, first: bool, depth: usize) -> Gap
         ensures { gap_text result ≡ layout.before_member kind first depth };
 
+    /// Whether there is room for what may stand before a member with so many containers open around
+    /// it, for what stands after a name, and for three bytes more. It is asked before it is known what
+    /// stands there: where that were computed first, it would take registers over this branch.
+    fn has_room(depth: usize, room: usize) -> bool
+        ensures { result ≡ true → (kind : Kind) (first : Bool)
+            → length (layout.before_member kind first depth) + length layout.after_name + 3 ≤ room };
+
     /// What stands between the name of a field and its value.
     fn after_name() -> &'static [u8]
         ensures { result.now ≡ layout.after_name };
@@ -47,6 +54,34 @@ pub trait Layout {
     /// What stands before the bracket that closes a container, with so many open around it.
     fn before_closer(empty: bool, depth: usize) -> Gap
         ensures { gap_text result ≡ layout.before_closer empty depth };
+}
+
+// The separator of canonical text before a member.
+#[inline(always)]
+fn separator(kind: Kind, first: bool) -> Option<u8>
+    ensures { byte_in result ≡ before_next kind first }
+{
+    if first {
+        return None;
+    }
+    match kind {
+        Kind::Sexp => Some(b' '),
+        Kind::List | Kind::Struct => Some(b','),
+    }
+}
+
+// The comma of pretty text before a member.
+#[inline(always)]
+fn comma(kind: Kind, first: bool) -> Option<u8>
+    ensures { byte_in result ≡ comma_before kind first }
+{
+    if first {
+        return None;
+    }
+    match kind {
+        Kind::Sexp => None,
+        Kind::List | Kind::Struct => Some(b','),
+    }
 }
 
 /// Canonical text: each value on one line.
@@ -57,12 +92,15 @@ impl Layout for Canonical {
 
     #[inline(always)]
     fn before_member(kind: Kind, first: bool, _depth: usize) -> Gap {
-        let mark = match kind {
-            _ if first => None,
-            Kind::Sexp => Some(b' '),
-            _ => Some(b','),
-        };
-        Gap { mark, line: None }
+        Gap {
+            mark: separator(kind, first),
+            line: None,
+        }
+    }
+
+    #[inline(always)]
+    fn has_room(_depth: usize, room: usize) -> bool {
+        5 <= room
     }
 
     #[inline(always)]
@@ -87,15 +125,15 @@ impl Layout for Pretty {
 
     #[inline(always)]
     fn before_member(kind: Kind, first: bool, depth: usize) -> Gap {
-        let mark = match kind {
-            _ if first => None,
-            Kind::Sexp => None,
-            _ => Some(b','),
-        };
         Gap {
-            mark,
+            mark: comma(kind, first),
             line: Some(depth),
         }
+    }
+
+    #[inline(always)]
+    fn has_room(depth: usize, room: usize) -> bool {
+        7 <= room && depth <= (room - 7) / 2
     }
 
     #[inline(always)]
@@ -105,7 +143,15 @@ impl Layout for Pretty {
 
     #[inline(always)]
     fn before_closer(empty: bool, depth: usize) -> Gap {
-        let line = if empty { None } else { Some(depth) };
-        Gap { mark: None, line }
+        if empty {
+            return Gap {
+                mark: None,
+                line: None,
+            };
+        }
+        Gap {
+            mark: None,
+            line: Some(depth),
+        }
     }
 }

@@ -188,11 +188,10 @@ impl<L: Layout, A: Allocator + Copy> LaidOut<L, A> {
         ensures { TakesScalar L.layout self.old self.new sink.old sink.new result
             name.now note.now (first.now ++ (text.now ++ last.now)) }
     {
-        let gap = before::<L>(self.kinds.as_slice(), self.empty);
-        if !has_room::<L, O, A>(sink, gap, name, note, text.len() + 2) {
+        if !has_room::<L, O, A>(sink, self.kinds.as_slice(), name, note, text.len() + 2) {
             return false;
         }
-        put_gap_within(sink, gap);
+        put_gap_within(sink, before::<L>(self.kinds.as_slice(), self.empty));
         put_front::<L, O, A>(sink, name, note);
         put_mark(sink, first);
         sink.put_within(text);
@@ -410,10 +409,10 @@ impl<L: Layout, A: Allocator + Copy> LaidOut<L, A> {
             (plain_begin L.layout (opened_in self.old) name.now note.now (opener kind))
             ((kind, true) ∷ with_member (opened_in self.old)) }
     {
-        let gap = before::<L>(self.kinds.as_slice(), self.empty);
-        if !has_room::<L, O, A>(sink, gap, name, note, 1) {
+        if !has_room::<L, O, A>(sink, self.kinds.as_slice(), name, note, 1) {
             return false;
         }
+        let gap = before::<L>(self.kinds.as_slice(), self.empty);
         if !self.kinds.push_within(meter, kind) {
             return false;
         }

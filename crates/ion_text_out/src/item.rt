@@ -135,7 +135,8 @@ fn put_middle<L: Layout, O: Output, A: Allocator + Copy, N: Names>(
     requires well { sink.old.fault ≡ None }
     requires head { raw_head head.now ≡ (item_of N.text item.now).head }
     requires range { HeadInRange (raw_head head.now) }
-    ensures { IsPut O.Output sink.old sink.new result (middle_text L.layout (item_of N.text item.now)) }
+    ensures { IsPut O.Output sink.old sink.new result
+        (middle_text L.layout (item_of N.text item.now)) }
 {
     if is_value(head) {
         put_value::<L, O, A, N>(sink, item.field(), &item.annotations(), head)

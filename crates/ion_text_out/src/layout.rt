@@ -41,11 +41,14 @@ pub trait Layout {
         ensures { gap_text result ≡ layout.before_member kind first depth };
 
     /// Whether there is room for what may stand before a member with so many containers open around
-    /// it, for what stands after a name, and for three bytes more. It is asked before it is known what
-    /// stands there: where that were computed first, it would take registers over this branch.
+    /// it, for what stands after a name, and for three bytes more.
+    ///
+    /// It is asked before `before_member`: what that answers would be kept in registers over the
+    /// branch, which costs 2 % of all instructions.
     fn has_room(depth: usize, room: usize) -> bool
         ensures { result ≡ true → (kind : Kind) (first : Bool)
-            → length (layout.before_member kind first depth) + length layout.after_name + 3 ≤ room };
+            → length (layout.before_member kind first depth) + length layout.after_name + 3
+            ≤ room };
 
     /// What stands between the name of a field and its value.
     fn after_name() -> &'static [u8]

@@ -1,6 +1,6 @@
 -- What stands between parts: which it is, how long, and how its blanks are put.
 use Rattle.std.proofs.Common.{◌≡◌, ℕ, suc, ◌+◌, ◌-◌, ◌*◌, ◌<◌, ◌≤◌, Bool, true, false, List, [], ◌∷◌, ◌++◌, length, take, Option, Some, None, refl, sym, subst, ap, ◌∙◌, arith, append_assoc}
-use Rattle.std.specs.Prelude.{map, replicate, reverse, slice_get, codes}
+use Rattle.std.specs.Prelude.{replicate, reverse, slice_get, codes}
 use Rattle.std.proofs.lemmas.List.{length-append, length-map, length-replicate, length-reverse, replicate-append-replicate, take-replicate}
 use Rattle.ion_meter.specs.Windows.{Outgoing}
 use Rattle.ion_value.specs.declared.ion_type.Kind.{Kind}
@@ -8,7 +8,7 @@ use Rattle.ion_value.specs.declared.ion_type.Kind.TheVariants as kind
 use Rattle.ion_text_out.specs.declared.layout.Gap.{Gap}
 use Rattle.ion_text_out.specs.Layout.{Layout, new_line}
 use Rattle.ion_text_out.specs.Lane.{marked, plain_front}
-use Rattle.ion_text_out.specs.Text.{Open, before_item}
+use Rattle.ion_text_out.specs.Text.{before_item}
 use Rattle.ion_text_out.specs.Writing.{before_end, byte_in, gap_text, innermost, line_in, shown, shown_in}
 
 -- ---- before a member, and before a bracket that closes

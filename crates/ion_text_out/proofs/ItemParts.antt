@@ -1,6 +1,6 @@
 -- An item's text in parts: what stands first, the value, and what stands last.
 use Rattle.std.proofs.Common.{◌≡◌, ℕ, List, [], ◌∷◌, ◌++◌, Option, Some, None, Result, Ok, Err, refl, sym, subst, ap, ◌∙◌, append_assoc, append-nil, length}
-use Rattle.std.specs.Prelude.{OnOk, codes, option_map}
+use Rattle.std.specs.Prelude.{OnOk, option_map}
 use Rattle.ion_meter.specs.Windows.{Outgoing}
 use Rattle.ion_meter.specs.declared.fault.Fault.{Fault}
 use Rattle.ion_value.specs.Value as v

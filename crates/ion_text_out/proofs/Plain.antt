@@ -19,7 +19,7 @@ use Rattle.ion_value.specs.declared.plain_item.PlainItem.{PlainItem}
 use Rattle.ion_text_out.proofs.Quoted.{shown_between}
 use Rattle.ion_text_out.specs.Escape.{between_quotes, byte_text, is_shown}
 use Rattle.ion_text_out.specs.Layout.{Layout}
-use Rattle.ion_text_out.specs.Text.{Open, annotation_text, before_item, after_value, field_text_by, head_text, item_text, scalar_text, symbol_text}
+use Rattle.ion_text_out.specs.Text.{Open, annotation_text, after_value, field_text_by, head_text, item_text, scalar_text, symbol_text}
 use Rattle.ion_meter.specs.declared.limits.Limits.{Limits}
 use Rattle.ion_text_out.specs.Writing.{after_end, closing, shown, text_adds, Shows}
 use Rattle.ion_text_out.specs.Lane.{is_bare_in, marked, plain_front, plain_scalar, symbol_in, symbols_in, text_in}

@@ -1,8 +1,8 @@
 -- Worked rows of pretty text, by computing.
-use Rattle.std.specs.Prelude.{◌≡◌, refl, ℕ, List, [], ◌∷◌, ◌++◌, true, false, Option, Some, None, codes}
+use Rattle.std.specs.Prelude.{◌≡◌, refl, ℕ, List, [], ◌∷◌, false, Option, Some, None, codes}
 use Rattle.std.specs.Fmt.{digits}
 use Rattle.ion_value.specs.declared.ion_type.Kind.TheVariants as kind
-use Rattle.ion_value.specs.Path.{Path, closed, opened, outermost, inner}
+use Rattle.ion_value.specs.Path.{Path, opened, outermost, inner}
 use Rattle.ion_value.specs.Value as v
 use Rattle.ion_value.specs.Value.{UserSymbol, Known, Value, Members, Top, scalar, container, nothing, member, Item}
 use Rattle.ion_text_out.specs.Layout.{pretty}

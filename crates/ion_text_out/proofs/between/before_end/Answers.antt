@@ -1,5 +1,4 @@
 use Rattle.std.proofs.Common.{◌∙◌, arith}
-use Rattle.std.proofs.lemmas.Grind.{common_steps}
 use Rattle.ion_text_out.proofs.Gaps.{end_none, end_some}
 use Rattle.ion_text_out.proofs.between.before_end.Goals as goal
 

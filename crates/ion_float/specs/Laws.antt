@@ -11,17 +11,26 @@ use Rattle.ion_value.specs.FloatOctets.{float_of_octets, float_octets}
 use Rattle.ion_value.specs.FloatText.{is_float, float_text, float_of_text}
 use Rattle.ion_value.specs.Shortest.{reads}
 
--- how far a decimal is from a double, times den x * 10 ^ (342 - row)
-abbrev pub distance : ℕ → ℕ → ℕ → ℕ
-distance digits row bits = let x = from_bits binary64 bits in abs_diff (digits * (den x * 10 ^ (row - 342))) (num x * 10 ^ (342 - row))
+-- ---- the shortest decimal of a double
 
--- The words that say which decimal is the shortest: it reads as the double, no multiple of a greater power of ten does, and of those of its
--- own power that do it is the nearest, the even one of two.
+-- how far a decimal is from a double, times 10 ^ 342 * den x
+abbrev pub distance : ℕ → ℕ → ℕ → ℕ
+distance digits row bits = let x = from_bits binary64 bits in abs_diff (digits * 10 ^ row * den x) (num x * 10 ^ 342)
+
+-- the first number has no more digits than the second
+abbrev pub HasNoMoreDigits : ℕ → ℕ → Type 0
+HasNoMoreDigits a b = (n : ℕ) → b < 10 ^ n → a < 10 ^ n
+
+-- The words for it: it has the fewest digits that read as the double, and is the nearest of those that have no more, the even one of two.
 pub record IsShortest (digits row bits : ℕ) : Type 0 where
   pub read : reads digits row bits
-  pub greatest : (other power : ℕ) → row < power → ¬ (reads other power bits)
-  pub nearest : (other : ℕ) → reads other row bits → distance digits row bits ≤ distance other row bits
-  pub even : (other : ℕ) → reads other row bits → other ≢ digits → distance other row bits ≡ distance digits row bits → digits % 2 ≡ 0
+  pub fewest : (other power : ℕ) → reads other power bits → HasNoMoreDigits digits other
+  pub nearest : (other power : ℕ) → reads other power bits → HasNoMoreDigits other digits
+    → distance digits row bits ≤ distance other power bits
+  pub even : (other : ℕ) → reads other row bits → HasNoMoreDigits other digits
+    → other ≢ digits → distance other row bits ≡ distance digits row bits → digits % 2 ≡ 0
+
+-- ---- floats in binary and in text
 
 -- reading the octets of a float gives the float
 abbrev pub FloatOctetsAreRead : Type 0

@@ -26,9 +26,9 @@ pub record IsShortest (digits row bits : ℕ) : Type 0 where
   pub read : reads digits row bits
   pub fewest : (other power : ℕ) → reads other power bits → HasNoMoreDigits digits other
   pub nearest : (other power : ℕ) → reads other power bits → HasNoMoreDigits other digits
-    → distance digits row bits ≤ distance other power bits
+      → distance digits row bits ≤ distance other power bits
   pub even : (other : ℕ) → reads other row bits → HasNoMoreDigits other digits
-    → other ≢ digits → distance other row bits ≡ distance digits row bits → digits % 2 ≡ 0
+      → other ≢ digits → distance other row bits ≡ distance digits row bits → digits % 2 ≡ 0
 
 -- ---- floats in binary and in text
 

@@ -1,5 +1,5 @@
 -- What is read is permitted: a float only where floats are read.
-use Rattle.std.proofs.Common.{◌≡◌, ℕ, zero, suc, ◌/◌, ◌%◌, ◌+◌, Bool, true, false, not, ◌&&◌, ◌||◌, if◌then◌else◌, nat_eq, nat_le, nat_lt, List, [], ◌∷◌, length, take, Option, Some, None, Result, Ok, Err, refl}
+use Rattle.std.proofs.Common.{◌≡◌, ℕ, zero, suc, ◌/◌, ◌%◌, Bool, true, false, not, ◌&&◌, if◌then◌else◌, nat_eq, nat_le, nat_lt, List, [], ◌∷◌, length, take, Option, Some, None, Result, Ok, Err, refl, rules}
 use Rattle.std.specs.List.{AllByRecursion}
 use Rattle.std.specs.Result.{IfOk}
 use Rattle.std.specs.Str.{is_utf8}
@@ -9,10 +9,10 @@ use Rattle.ion_meter.specs.declared.fault.Reason.TheVariants as reason
 use Rattle.ion_meter.specs.declared.profile.Rules.{Rules}
 use Rattle.ion_value.specs.declared.ion_type.Kind.{Kind}
 use Rattle.ion_value.specs.declared.ion_type.Kind.TheVariants as kind
-use Rattle.ion_value.specs.Parts.{Placed, part, refuse, ◌>>=◌, ◌>>◌}
+use Rattle.ion_value.specs.Parts.{Placed, part, refuse, ◌>>◌}
 use Rattle.ion_value.specs.Reading.{Step, items_of}
 use Rattle.ion_value.specs.ReadingLaws.{IsPermitted, ArePermitted}
-use Rattle.ion_value.specs.Scalar.{scalar_of_body, string_of, with_value}
+use Rattle.ion_value.specs.Scalar.{scalar_of_body, with_value}
 use Rattle.ion_value.specs.Decimal.{decimal_of_bytes}
 use Rattle.ion_value.specs.Int.{int_of_bytes}
 use Rattle.ion_value.specs.Timestamp.{timestamp_of_bytes}
@@ -23,7 +23,7 @@ use Rattle.ion_value.proofs.WentWell.{if-any, if-next, if-passed, if-then}
 use Rattle.ion_binary.specs.Positions.{Frame, State, placed_scalar}
 use Rattle.ion_binary.specs.Descriptor.{Shape, bool_shape, length_at, null_shapes, octet_at, passes, shape_of, sized_shapes, struct_shape, var_uint_at, wrapper_shape, falls_short, is_unwrappable}
 use Rattle.ion_binary.specs.Reading as reading
-use Rattle.ion_binary.specs.Reading.{Around, TypedValue, a_scalar, bare_at, begin_at, body_at, container_at, field_at, fits, ids_at, inner_at, marker_at, annotated_at, member_at, nop_pad_at, placed_item, plain_at, read_by_descriptor, region_of, scalar_at, size, sorted_at, start, step, step_for, step_of, top_of, typed_value_at, value_at, wrapper_at, wrapper_length, by_wrapper}
+use Rattle.ion_binary.specs.Reading.{Around, TypedValue, a_scalar, bare_at, begin_at, body_at, container_at, field_at, fits, ids_at, inner_at, marker_at, annotated_at, member_at, nop_pad_at, plain_at, read_by_descriptor, region_of, scalar_at, size, sorted_at, start, step, step_for, step_of, top_of, typed_value_at, value_at, wrapper_at, wrapper_length, by_wrapper}
 use Rattle.ion_binary.proofs.TypedValueCode.{slice_index_or-all}
 
 -- ---- descriptors
@@ -42,12 +42,21 @@ either : (b : Bool) (s t : Shape) → NoFloatBody s → NoFloatBody t → NoFloa
 either true s t h k = h
 either false s t h k = k
 
+structs : (length_code : ℕ) → NoFloatBody (struct_shape length_code)
+structs length_code = either (nat_eq length_code 1) Shape.sorted (Shape.container kind.Struct length_code) tt tt
+
+wrappers : (length_code : ℕ) → NoFloatBody (wrapper_shape length_code)
+wrappers length_code =
+    either (nat_eq length_code 0) Shape.marker (if nat_lt length_code 3 then Shape.illegal else Shape.wrapper length_code) tt
+    (either (nat_lt length_code 3) Shape.illegal (Shape.wrapper length_code) tt tt)
+
 shapes : (b : Bool) (length_code : ℕ) → AllByRecursion NoFloatBody (if b then null_shapes else sized_shapes length_code)
-shapes true length_code = (tt, (tt, (tt, (tt, (tt, (tt, (tt, (tt, (tt, (tt, (tt, (tt, (tt, (tt, tt))))))))))))))
-shapes false length_code = (tt, (bools length_code, (refl, (refl, (tt, (refl, (refl, (refl, (refl, (refl, (refl, (tt, (tt, (
-  either (nat_eq length_code 1) Shape.sorted (Shape.container kind.Struct length_code) tt tt,
-  (either (nat_eq length_code 0) Shape.marker (if nat_lt length_code 3 then Shape.illegal else Shape.wrapper length_code) tt
-      (either (nat_lt length_code 3) Shape.illegal (Shape.wrapper length_code) tt tt), tt)))))))))))))))
+shapes true length_code = search rules
+shapes false length_code =
+    let bool = bools length_code in
+    let struct = structs length_code in
+    let wrapper = wrappers length_code in
+    search rules
 
 shape-none : (b : ℕ) → NoFloatBody (shape_of b)
 unfolding shape_of

@@ -1,5 +1,5 @@
 -- A decimal with no more digits than the shortest, in a lower row, is farther from the double.
-use Rattle.std.proofs.Common.{◌≡◌, ◌≢◌, ℕ, zero, suc, ◌+◌, ◌-◌, ◌*◌, ◌^◌, ◌<◌, ◌≤◌, Bool, true, false, not, ◌&&◌, ◌||◌, ◌==◌, refl, sym, ap, ◌∙◌, subst, inl, inr, arith, mul-le-mul_right, mul-le-mul, pow-add, le_trans, le_of_lt, eq-zero-or-pos, lit<, lit≤}
+use Rattle.std.proofs.Common.{◌≡◌, ◌≢◌, ℕ, zero, suc, ◌+◌, ◌-◌, ◌*◌, ◌^◌, ◌<◌, ◌≤◌, Bool, true, false, not, ◌&&◌, ◌||◌, ◌==◌, refl, sym, ap, ◌∙◌, subst, inl, inr, arith, mul-le-mul_right, mul-le-mul, pow-add, le_trans, le_of_lt, eq-zero-or-pos, lit<}
 use mathlib.Core.Bool.{true≢false}
 use Rattle.std.proofs.lemmas.Bool.{cases_lt, and_parts, eqb-true, eq-eqb, ne_eqb}
 use Rattle.std.specs.Prelude.{from_bits}
@@ -8,7 +8,6 @@ use native.Mathlib.Nat.{pow-le-pow_right}
 use lib.Ieee.{binary64, round, to_bits, of_bits}
 use lib.Ieee.Bits.{to_bits-of_bits}
 use lib.Ieee.Positive.{num, den}
-use Rattle.fast_float.proofs.ExactLemmas.{ten_to_pos}
 use Rattle.ion_value.specs.Shortest.{IsAboveZero, IsPositive, reads, reads_as, search, shortest}
 use Rattle.ion_float.specs.Laws.{distance, HasNoMoreDigits}
 use Rattle.ion_float.proofs.Between.{positive-number, zero-reads}

@@ -1,5 +1,5 @@
 -- Laws of the definitions of this crate.
-use Rattle.std.specs.Prelude.{◌≡◌, ◌≢◌, ◌≤◌, ◌<◌, ◌↔◌, ◌-◌, ◌*◌, ◌^◌, ◌%◌, ℕ, true, List, length, Some, Ok, Err, from_bits}
+use Rattle.std.specs.Prelude.{◌≡◌, ◌≢◌, ◌≤◌, ◌<◌, ◌↔◌, ◌*◌, ◌^◌, ◌%◌, ℕ, true, List, length, Some, Ok, Err, from_bits}
 use lib.Ieee.{Float, binary64}
 use lib.Ieee.Positive.{num, den}
 use Rattle.core.specs.Int.{abs_diff}

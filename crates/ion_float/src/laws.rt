@@ -30,7 +30,7 @@ pub fn shortest_is_the_nearest()
 
 /// A decimal is the shortest exactly where the words for it fit: it has the fewest digits that
 /// read as the double, and of those it is the nearest, the even one of two.
-pub fn shortest_is_as_said()
+pub fn what_the_shortest_is()
     ensures { (bits digits row : ℕ) → IsAboveZero bits
         → (shortest bits ≡ (digits, row)) ↔ IsShortest digits row bits }
 {}

@@ -1,5 +1,5 @@
 -- What is read is permitted: a float only where floats are read.
-use Rattle.std.proofs.Common.{◌≡◌, ℕ, zero, suc, Bool, true, false, not, nat_le, nat_lt, sum_by, List, [], ◌∷◌, ◌++◌, length, Option, Some, None, Result, Ok, Err, refl}
+use Rattle.std.proofs.Common.{◌≡◌, ℕ, suc, Bool, true, false, not, nat_le, nat_lt, sum_by, List, [], ◌∷◌, ◌++◌, length, Option, Some, None, Result, Ok, Err, refl}
 use Rattle.std.specs.Result.{IfOk}
 use lib.Ieee.{Float}
 use Rattle.ion_meter.specs.Sources.{Cursor, skip}
@@ -15,12 +15,12 @@ use Rattle.ion_value.specs.Decimal.{decimal_of_text}
 use Rattle.ion_value.specs.Int.{int_of_text}
 use Rattle.ion_value.specs.Name.{Keyword, a_null, a_bool, keyword}
 use Rattle.ion_value.specs.Parts.{Placed, part, refuse, ◌>>=◌, ◌>>◌}
-use Rattle.ion_value.specs.Reading.{Reading, Step, Gives, items_of}
+use Rattle.ion_value.specs.Reading.{Step, Gives, items_of}
 use Rattle.ion_value.specs.ReadingLaws.{IsPermitted, ArePermitted}
 use Rattle.ion_value.specs.Scalar.{scalar_of_run, scalar_of_readings}
 use Rattle.ion_value.specs.Timestamp.{timestamp_of_text}
 use Rattle.ion_value.specs.Value as value
-use Rattle.ion_value.specs.Value.{Symbol, SymbolAt, Scalar}
+use Rattle.ion_value.specs.Value.{SymbolAt}
 use Rattle.ion_text_in.specs.Blanks.{blanks}
 use Rattle.ion_text_in.specs.Limit.{passes}
 use Rattle.ion_text_in.specs.Lob.{lob_at}

@@ -1,5 +1,5 @@
 use Rattle.ion_float.proofs.Words.{shortest_by_words}
-use Rattle.ion_float.proofs.laws.shortest_is_as_said.Goals as goal
+use Rattle.ion_float.proofs.laws.what_the_shortest_is.Goals as goal
 
 pub returns : goal.returns
 returns c = shortest_by_words

@@ -1,5 +1,5 @@
 -- A decimal with no more digits than the shortest, in a lower row, is farther from the double.
-use Rattle.std.proofs.Common.{◌≡◌, ◌≢◌, ℕ, zero, suc, ◌+◌, ◌-◌, ◌*◌, ◌^◌, ◌<◌, ◌≤◌, Bool, true, false, not, ◌&&◌, ◌||◌, ◌==◌, refl, sym, ap, ◌∙◌, subst, inl, inr, arith, mul-le-mul_right, mul-le-mul, pow-add, le_trans, le_of_lt, eq-zero-or-pos, lit<}
+use Rattle.std.proofs.Common.{◌≡◌, ℕ, zero, suc, ◌+◌, ◌-◌, ◌*◌, ◌^◌, ◌<◌, ◌≤◌, Bool, true, false, not, ◌&&◌, ◌||◌, ◌==◌, refl, sym, ap, ◌∙◌, subst, inl, inr, arith, mul-le-mul_right, mul-le-mul, pow-add, le_trans, le_of_lt, eq-zero-or-pos, lit<}
 use mathlib.Core.Bool.{true≢false}
 use Rattle.std.proofs.lemmas.Bool.{cases_lt, and_parts, eqb-true, eq-eqb, ne_eqb}
 use Rattle.std.specs.Prelude.{from_bits}
@@ -11,7 +11,8 @@ use lib.Ieee.Positive.{num, den}
 use Rattle.ion_value.specs.Shortest.{IsAboveZero, IsPositive, reads, reads_as, search, shortest}
 use Rattle.ion_float.specs.Laws.{distance, HasNoMoreDigits}
 use Rattle.ion_float.proofs.Between.{positive-number, zero-reads}
-use Rattle.ion_float.proofs.Ends.{few_digits, row_within}
+use Rattle.ion_float.proofs.Ends.{row_within}
+use Rattle.ion_float.proofs.FewDigits.{few-digits}
 use Rattle.ion_float.proofs.Fewest.{none_greater}
 use Rattle.ion_float.proofs.Nearest.{between}
 use Rattle.ion_float.proofs.Reading.{is-positive, shortest_reads}
@@ -116,7 +117,7 @@ module _ (bits other power : ℕ) (p : IsAboveZero bits) (lower : power < (short
       elim (cases_lt digits 10) [
         | inl l ↦ l
         | inr g ↦
-            let it = leading 17 digits g (few_digits bits p) in
+            let it = leading 17 digits g (few-digits bits p) in
             let e = it.0 in
             absurd (none_greater bits (row + 1) (10 ^ e) p (omega arith)
             (between bits other power (10 ^ e) (row + 1) digits row pos (under e (few (suc (suc e)) it.2)) (over e it.1) also read))

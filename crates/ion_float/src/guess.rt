@@ -1,50 +1,152 @@
 //! A guess at the shortest decimal of a double: the digits that ryu writes.
+//!
+//! Nothing is proved of what is read here, since the decimal is tested behind.
 ghost use Rattle.ion_value.specs.Shortest.{IsAboveZero};
 
 use crate::shortest::Digits;
-use fast_float::Numeral;
 use ryu::raw;
+use std::simd::prelude::*;
+
+// The bits of 1e-5, 1 and 1e16: from the first on and below the last ryu writes no exponent.
+const LEAST: u64 = 0x3ee4_f8b5_88e3_68f1;
+
+const ONE: u64 = 0x3ff0_0000_0000_0000;
+
+const GREAT: u64 = 0x4341_c379_37e0_8000;
+
+// The inverses of the powers of five, from 5^0 on, among the numbers below 2^64.
+static INVERSES: [u64; 17] = [
+    0x0000000000000001,
+    0xcccccccccccccccd,
+    0x8f5c28f5c28f5c29,
+    0x1cac083126e978d5,
+    0xd288ce703afb7e91,
+    0x5d4e8fb00bcbe61d,
+    0x790fb65668c26139,
+    0xe5032477ae8d46a5,
+    0xc767074b22e90e21,
+    0x8e47ce423a2e9c6d,
+    0x4fa7f60d3ed61f49,
+    0x0fee64690c913975,
+    0x3662e0e1cf503eb1,
+    0xa47a2cf9f6433fbd,
+    0x54186f653140a659,
+    0x7738164770402145,
+    0xe4a4d1417cd9a041,
+];
 
 /// The decimal that ryu writes for the double. It is the shortest as a rule, which its contract does
 /// not say: test it.
-pub(crate) fn guess(bits: u64) -> Option<Digits>
+#[inline]
+pub(crate) fn guess(bits: u64) -> Digits
     requires { IsAboveZero bits }
 {
-    let mut text = [0; raw::LEN];
+    // Where it writes no exponent, seventeen digits stand in the array, whatever the text's length.
+    let mut text = [b'0'; raw::LEN];
     let length = raw::format(f64::from_bits(bits), &mut text);
-    decimal_in(&text[..length])
-}
-
-// The decimal in a text, without zeros at its end.
-fn decimal_in(text: &[u8]) -> Option<Digits> {
-    let numeral = Numeral::scan(text);
-    let whole = appended(0, numeral.whole())?;
-    let mut digits = appended(whole, numeral.fraction())?;
-    let places = numeral.fraction().len() as u64;
-    let exponent = appended(0, numeral.exponent())?;
-    let mut row = if numeral.is_exponent_negative() {
-        342_u64.checked_sub(exponent)?
+    if bits.wrapping_sub(ONE) < GREAT - ONE {
+        from_one(&text)
+    } else if bits.wrapping_sub(LEAST) < ONE - LEAST {
+        below_one(&text)
     } else {
-        342_u64.checked_add(exponent)?
-    };
-    row = row.checked_sub(places)?;
-    while digits > 0 && digits % 10 == 0 {
-        digits /= 10;
-        row = row.checked_add(1)?;
+        with_exponent(&text[..length])
     }
-    Some(Digits {
-        digits,
-        row: u32::try_from(row).ok()?,
-    })
 }
 
-// The number with these digits behind it, or `None` where it passes 64 bits.
-fn appended(number: u64, digits: &[u8]) -> Option<u64> {
-    let mut number = number;
-    for digit in digits {
-        number = number
-            .checked_mul(10)?
-            .checked_add(digit.wrapping_sub(b'0') as u64)?;
+// The decimal of a text as `12.34` or `1200.0`: the digits before the point, and behind it.
+#[inline]
+fn from_one(text: &[u8; raw::LEN]) -> Digits {
+    let front = u8x16::from_slice(text);
+    let point = (front.simd_eq(u8x16::splat(b'.')).to_bitmask() | 0x1_0000).trailing_zeros();
+    let indices = u8x16::from_array([0, 1, 2, 3, 4, 5, 6, 7, 8, 9, 10, 11, 12, 13, 14, 15]);
+    let is_before = indices.simd_lt(u8x16::splat(point as u8));
+    let digits = is_before.select(front, u8x16::from_slice(&text[1..]));
+    decimal(digits, text[17], point + 325)
+}
+
+// The decimal of a text as `0.00012`: the digits from the first on that is not 0.
+#[inline]
+fn below_one(text: &[u8; raw::LEN]) -> Digits {
+    let some = u8x16::from_slice(text).simd_gt(u8x16::splat(b'0'));
+    let first = some.to_bitmask().trailing_zeros() & 7;
+    let from = first as usize;
+    decimal(
+        u8x16::from_slice(&text[from..]),
+        text[from + 16],
+        327 - first,
+    )
+}
+
+// Seventeen digits as a decimal, whose zeros at the end go to the row. The row is that of all.
+#[inline]
+fn decimal(front: u8x16, last: u8, row: u32) -> Digits {
+    let front = front - u8x16::splat(b'0');
+    let last = last.wrapping_sub(b'0');
+    let some = front.simd_ne(u8x16::splat(0)).to_bitmask() | ((last > 0) as u64) << 16;
+    let zeros = some.leading_zeros().wrapping_sub(47).min(16);
+    let digits = sixteen(front).wrapping_mul(10).wrapping_add(last as u64);
+    // Over a power of ten that leaves no rest, by a shift and the inverse of a power of five.
+    Digits {
+        digits: (digits >> zeros).wrapping_mul(INVERSES[zeros as usize]),
+        row: row.wrapping_add(zeros),
     }
-    Some(number)
+}
+
+// The number of sixteen digits, of which two are put together in each lane, then four, then eight.
+#[inline]
+fn sixteen(digits: u8x16) -> u64 {
+    let ones = u16x8::from_le_bytes(digits);
+    let twos = (ones & u16x8::splat(0xff)) * u16x8::splat(10) + (ones >> u16x8::splat(8));
+    let twos = u32x4::from_le_bytes(twos.to_le_bytes());
+    let fours = (twos & u32x4::splat(0xffff)) * u32x4::splat(100) + (twos >> u32x4::splat(16));
+    let fours = u64x2::from_le_bytes(fours.to_le_bytes());
+    let low = fours & u64x2::splat(0xffff_ffff);
+    let eights = (low * u64x2::splat(10_000) + (fours >> u64x2::splat(32))).to_array();
+    eights[0].wrapping_mul(100_000_000).wrapping_add(eights[1])
+}
+
+// The decimal of a text as `1.2e-7`.
+fn with_exponent(text: &[u8]) -> Digits {
+    let mut digits = 0_u64;
+    let mut row = 342_u32;
+    let mut places = 0;
+    for (index, byte) in text.iter().enumerate() {
+        match *byte {
+            b'.' => places = 1,
+            b'e' => {
+                row = row.wrapping_add(exponent(&text[index + 1..]));
+                break;
+            }
+            digit => {
+                digits = appended(digits, digit);
+                row = row.wrapping_sub(places);
+            }
+        }
+    }
+    Digits { digits, row }
+}
+
+// An exponent as 32 bits, which are its two's complement.
+fn exponent(text: &[u8]) -> u32 {
+    match text {
+        [b'-', size @ ..] => number(size).wrapping_neg(),
+        _ => number(text),
+    }
+}
+
+// A number of at most three digits.
+fn number(text: &[u8]) -> u32 {
+    let mut number = 0;
+    for digit in text {
+        number = appended(number, *digit);
+    }
+    (number & 0x3ff) as u32
+}
+
+// The number with this digit behind it.
+#[inline]
+fn appended(number: u64, digit: u8) -> u64 {
+    number
+        .wrapping_mul(10)
+        .wrapping_add(digit.wrapping_sub(b'0') as u64)
 }

@@ -1,8 +1,19 @@
-use Rattle.std.proofs.Common.{lit<}
-use Rattle.ion_float.proofs.TextOfBits.{exponent-passed, room-left}
+use Rattle.std.proofs.Common.{◌≡◌, ℕ, ◌+◌, ◌-◌, ◌<◌, ◌≤◌, ◌-ℤ◌, pos, List, [], ◌∷◌, ◌++◌, refl, sym, ap, ◌∙◌, arith, append_assoc, lit<}
+use Rattle.std.proofs.lemmas.Fmt.{decimal_digit}
+use borrow.Author.Tests.{le-ltb}
+use Rattle.ion_value.specs.Decimal.{integer_text}
 use Rattle.ion_float.proofs.text.push_exponent.Goals as goal
 
-pub push_str-requires : goal.push_str-requires
-push_str-requires c =
-    let short = exponent-passed c.args.exponent c.format.result.now c.ranges.exponent c.requires.least c.requires.most c.format.ensures.text in
-    (lit< tt, room-left c.args.text.now.bytes c.push.new.self.bytes c.format.result.now 101 c.requires.room (c.push.ensures.ascii (lit< tt)) short)
+whole : (row : ℕ) → 342 ≤ row → pos row -ℤ pos 342 ≡ pos (row - 342)
+whole row h = rw (le-ltb row 342 h) refl
+
+one_digit : (old pushed new : List ℕ) (row d : ℕ) → 342 ≤ row → row < 352 → d ≡ 48 + (row - 342) → pushed ≡ old ++ 101 ∷ [] → new ≡ pushed ++ d ∷ []
+    → new ≡ old ++ 101 ∷ integer_text (pos row -ℤ pos 342)
+one_digit old pushed new row d least most e p n =
+    n ∙ ap (λ (t : List ℕ). t ++ d ∷ []) p ∙ append_assoc old (101 ∷ []) (d ∷ [])
+    ∙ ap (λ (t : List ℕ). old ++ 101 ∷ t) (ap (λ b. b ∷ []) e ∙ sym (decimal_digit (row - 342) (omega arith)) ∙ ap integer_text (sym (whole row least)))
+
+pub returns-then-row-lt352 : goal.returns-then-row-lt352
+returns-then-row-lt352 c =
+    one_digit c.args.text.now.bytes c.push.new.self.bytes c.push-then-row-lt352.new.self.bytes c.args.row _ c.if-row-ge342.true c.if-row-lt352.true (omega arith)
+    (c.push.ensures.ascii (lit< tt)) (c.push-then-row-lt352.ensures.ascii (omega arith))

@@ -93,11 +93,13 @@ fn push_exponent(text: &mut ArrayString<24>, row: u32)
 {
     text.push('e');
     // Most have one digit.
-    if 342 <= row && row < 352 {
-        text.push((b'0' + (row - 342) as u8) as char);
-    } else if 332 < row && row < 342 {
+    let above = row.wrapping_sub(342);
+    let below = 342_u32.wrapping_sub(row);
+    if above < 10 {
+        text.push((b'0' + above as u8) as char);
+    } else if below < 10 {
         text.push('-');
-        text.push((b'0' + (342 - row) as u8) as char);
+        text.push((b'0' + below as u8) as char);
     } else {
         push_long_exponent(text, row as i32 - 342);
     }

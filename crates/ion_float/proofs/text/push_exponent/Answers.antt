@@ -23,12 +23,12 @@ one_digit_below old pushed signed new row d least most e p m n =
     n ∙ ap (λ (t : List ℕ). t ++ d ∷ []) (m ∙ ap (λ (t : List ℕ). t ++ 45 ∷ []) p ∙ append_assoc old (101 ∷ []) (45 ∷ [])) ∙ append_assoc old (101 ∷ 45 ∷ []) (d ∷ [])
     ∙ ap (λ (t : List ℕ). old ++ 101 ∷ t) (ap (λ b. 45 ∷ b ∷ []) e ∙ ap (λ (t : List ℕ). 45 ∷ t) (sym (decimal_digit (342 - row) (omega arith)) ∙ ap decimal size) ∙ ap integer_text (sym (below row most)))
 
-pub returns-then-row-lt352 : goal.returns-then-row-lt352
-returns-then-row-lt352 c =
-    one_digit c.args.text.now.bytes c.push.new.self.bytes c.push-then-row-lt352.new.self.bytes c.args.row _ c.if-row-ge342.true c.if-row-lt352.true (omega arith)
-    (c.push.ensures.ascii (lit< tt)) (c.push-then-row-lt352.ensures.ascii (omega arith))
+pub returns-then-above-lt10 : goal.returns-then-above-lt10
+returns-then-above-lt10 c =
+    one_digit c.args.text.now.bytes c.push.new.self.bytes c.push-then-above-lt10.new.self.bytes c.args.row _ (omega arith) (omega arith) (omega arith)
+    (c.push.ensures.ascii (lit< tt)) (c.push-then-above-lt10.ensures.ascii (omega arith))
 
-pub returns-then-row-lt342 : goal.returns-then-row-lt342
-returns-then-row-lt342 c =
-    one_digit_below c.args.text.now.bytes c.push.new.self.bytes c.push-then-row-lt342.new.self.bytes c.push-then-row-lt342-2.new.self.bytes c.args.row _ c.if-row-gt332.true c.if-row-lt342.true
-    (omega arith) (c.push.ensures.ascii (lit< tt)) (c.push-then-row-lt342.ensures.ascii (lit< tt)) (c.push-then-row-lt342-2.ensures.ascii (omega arith))
+pub returns-then-below-lt10 : goal.returns-then-below-lt10
+returns-then-below-lt10 c =
+    one_digit_below c.args.text.now.bytes c.push.new.self.bytes c.push-then-below-lt10.new.self.bytes c.push-then-below-lt10-2.new.self.bytes c.args.row _ (omega arith) (omega arith)
+    (omega arith) (c.push.ensures.ascii (lit< tt)) (c.push-then-below-lt10.ensures.ascii (lit< tt)) (c.push-then-below-lt10-2.ensures.ascii (omega arith))

@@ -10,7 +10,7 @@ use lib.Dec.{leb, eqb, le→leb}
 use lib.Ieee.{Float, nan, inf, fin, Format, binary64, prec, low, hid, top, ones, odd, is_nan, of_fields, of_bits, to_bits}
 use lib.Ieee.Bits.{to_bits-of_bits, nan_bits_is, nan_bits_above, is_true}
 use lib.Ieee.Positive.{positive}
-use Rattle.std.proofs.lemmas.Bool.{cases_lt, ltb-false, leb-true, false_from_ne_true}
+use Rattle.std.proofs.lemmas.Bool.{cases_lt, lt-ltb, leb-true, false_from_ne_true}
 use Rattle.std.specs.Float.{float_with_sign}
 use Rattle.ion_value.specs.Shortest.{IsAboveZero, near, reads_as, search, shortest}
 use Rattle.ion_value.specs.FloatText.{digits_text, float_text}
@@ -20,26 +20,22 @@ use Rattle.ion_float.proofs.Reading.{is-positive}
 
 -- ---- no number, and infinities
 
-pub no_number : (x : Float) → is_nan x ≡ true → codes "nan" ≡ float_text x
+no_number : (x : Float) → is_nan x ≡ true → codes "nan" ≡ float_text x
 unfolding is_nan
 no_number nan h = refl
 no_number (inf s) h = absurd (true≢false (sym h))
 no_number (fin s m e) h = absurd (true≢false (sym h))
+
+pub no_number-bits : (x : Float) (bits : ℕ) → from_bits binary64 bits ≡ x → bits < 2 ^ 64 → 2047 * 2 ^ 52 ≤ bits % 2 ^ 63 → bits ≢ 9218868437227405312 → bits ≢ 18442240474082181120 → codes "nan" ≡ float_text x
+no_number-bits x bits e fits least a b =
+    let above : ones binary64 * hid binary64 < bits % top binary64 = omega arith in
+    no_number x (ap is_nan (sym e) ∙ sym (nan_bits_is binary64 bits) ∙ nan_bits_above binary64 bits ∙ lt-ltb (ones binary64 * hid binary64) (bits % top binary64) above)
 
 pub infinite : (x : Float) (bits : ℕ) → from_bits binary64 bits ≡ x → bits ≡ 9218868437227405312 → codes "+inf" ≡ float_text x
 infinite x bits e b = ap float_text (sym infinite-bits ∙ ap (from_bits binary64) (sym b) ∙ e)
 
 pub infinite_below : (x : Float) (bits : ℕ) → from_bits binary64 bits ≡ x → bits ≡ 18442240474082181120 → codes "-inf" ≡ float_text x
 infinite_below x bits e b = ap float_text (sym below-bits ∙ ap (from_bits binary64) (sym b) ∙ e)
-
--- ---- finite floats
-
-pub finite-bits : (x : Float) (bits : ℕ) → from_bits binary64 bits ≡ x → is_nan x ≡ false → bits < 2 ^ 64 → bits ≢ 9218868437227405312 → bits ≢ 18442240474082181120
-    → bits % 2 ^ 63 < 2047 * 2 ^ 52
-finite-bits x bits e number fits a b =
-    let test = sym (nan_bits_above binary64 bits) ∙ nan_bits_is binary64 bits ∙ ap is_nan e ∙ number in
-    let most : bits % 2 ^ 63 ≤ 2047 * 2 ^ 52 = ltb-false (ones binary64 * hid binary64) (bits % top binary64) test in
-    omega arith
 
 -- ---- the sign
 

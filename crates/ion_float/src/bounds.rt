@@ -47,7 +47,7 @@ pub(crate) fn is_surely_shortest(digits: u64, row: u32, bits: u64) -> bool
 #[inline(always)]
 fn lies_clear(decimal: u128, double: u128, half: u64, unit: u64, rest: u64) -> bool
     requires wide { (decimal < 2 ^ 127) × (double < 2 ^ 127) }
-    requires narrow { (1 ≤ half) × (half ≤ 2 ^ 59) × (1 ≤ unit) × (unit < 2 ^ 56) × (rest < 10) }
+    requires narrow { (1 ≤ half) × (half ≤ 2 ^ 60) × (1 ≤ unit) × (unit < 2 ^ 56) × (rest < 10) }
     ensures near { IsTrue result → (double < decimal + unit) × (decimal + 2 ≤ double + unit) }
     ensures read { IsTrue result → (double < decimal + half) × (decimal + 2 ≤ double + half) }
     ensures below { IsTrue result → decimal + 2 + half ≤ double + 2 * rest * unit }

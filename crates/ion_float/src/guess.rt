@@ -15,7 +15,7 @@ const ONE: u64 = 0x3ff0_0000_0000_0000;
 const GREAT: u64 = 0x4341_c379_37e0_8000;
 
 // The inverses of the powers of five, from 5^0 on, among the numbers below 2^64.
-static INVERSES: [u64; 17] = [
+static INVERSES: [u64; 32] = [
     0x0000000000000001,
     0xcccccccccccccccd,
     0x8f5c28f5c28f5c29,
@@ -33,6 +33,21 @@ static INVERSES: [u64; 17] = [
     0x54186f653140a659,
     0x7738164770402145,
     0xe4a4d1417cd9a041,
+    0xc75429d9e5c5200d,
+    0xc1773b91fac10669,
+    0x26b172506559ce15,
+    0xd489e3a9addec2d1,
+    0x90e860bb892c8d5d,
+    0x502e79bf1b6f4f79,
+    0xdcd618596be30fe5,
+    0x2c2ad1ab7bfa3661,
+    0x08d55d224bfed7ad,
+    0x01c445d3a8cc9189,
+    0xcd27412a54f5b6b5,
+    0x8f6e403baa978af1,
+    0xe97c733f221e4efd,
+    0x2eb27d7306d2dc99,
+    0x6fbd4c4a34909285,
 ];
 
 /// The decimal that ryu writes for the double. It is the shortest as a rule, which its contract does
@@ -44,37 +59,62 @@ pub(crate) fn guess(bits: u64) -> Digits
     // Where it writes no exponent, seventeen digits stand in the array, whatever the text's length.
     let mut text = [b'0'; raw::LEN];
     let length = raw::format(f64::from_bits(bits), &mut text);
-    if bits.wrapping_sub(ONE) < GREAT - ONE {
+    let (front, last, row) = if bits.wrapping_sub(ONE) < GREAT - ONE {
         from_one(&text)
     } else if bits.wrapping_sub(LEAST) < ONE - LEAST {
         below_one(&text)
     } else {
-        with_exponent(&text[..length])
-    }
+        with_exponent(&text, length)
+    };
+    decimal(front, last, row)
 }
 
-// The decimal of a text as `12.34` or `1200.0`: the digits before the point, and behind it.
+// The digits and the row of the last of them in a text as `12.34` or `1200.0`. This and the next
+// two give sixteen digits and one more.
 #[inline]
-fn from_one(text: &[u8; raw::LEN]) -> Digits {
+fn from_one(text: &[u8; raw::LEN]) -> (u8x16, u8, u32) {
     let front = u8x16::from_slice(text);
     let point = (front.simd_eq(u8x16::splat(b'.')).to_bitmask() | 0x1_0000).trailing_zeros();
-    let indices = u8x16::from_array([0, 1, 2, 3, 4, 5, 6, 7, 8, 9, 10, 11, 12, 13, 14, 15]);
-    let is_before = indices.simd_lt(u8x16::splat(point as u8));
-    let digits = is_before.select(front, u8x16::from_slice(&text[1..]));
-    decimal(digits, text[17], point + 325)
+    let digits = first(point as u8).select(front, u8x16::from_slice(&text[1..]));
+    (digits, text[17], point + 325)
 }
 
-// The decimal of a text as `0.00012`: the digits from the first on that is not 0.
+// Those in a text as `0.00012`: from the first on that is not 0.
 #[inline]
-fn below_one(text: &[u8; raw::LEN]) -> Digits {
+fn below_one(text: &[u8; raw::LEN]) -> (u8x16, u8, u32) {
     let some = u8x16::from_slice(text).simd_gt(u8x16::splat(b'0'));
     let first = some.to_bitmask().trailing_zeros() & 7;
     let from = first as usize;
-    decimal(
+    (
         u8x16::from_slice(&text[from..]),
         text[from + 16],
         327 - first,
     )
+}
+
+// Those in a text as `1.2e-7` or `1e30`: before the `e`, with zeros behind them.
+#[inline]
+fn with_exponent(text: &[u8; raw::LEN], length: usize) -> (u8x16, u8, u32) {
+    let marks = u8x32::from_slice(text)
+        .simd_eq(u8x32::splat(b'e'))
+        .to_bitmask();
+    let mark = marks.trailing_zeros() & 31;
+    let count = mark.max(2) - 1;
+    let digits = first(1).select(u8x16::from_slice(text), u8x16::from_slice(&text[1..]));
+    let digits = first(count as u8).select(digits, u8x16::splat(b'0'));
+    let last = if count > 16 { text[17] } else { b'0' };
+    let exponent = match text.get(mark as usize + 1..length) {
+        Some(behind) => exponent(behind),
+        None => 0,
+    };
+    (digits, last, exponent.wrapping_add(326))
+}
+
+// The first lanes.
+#[inline]
+fn first(count: u8) -> mask8x16 {
+    let indices = u8x16::from_array([0, 1, 2, 3, 4, 5, 6, 7, 8, 9, 10, 11, 12, 13, 14, 15]);
+    indices.simd_lt(u8x16::splat(count))
 }
 
 // Seventeen digits as a decimal, whose zeros at the end go to the row. The row is that of all.
@@ -83,7 +123,7 @@ fn decimal(front: u8x16, last: u8, row: u32) -> Digits {
     let front = front - u8x16::splat(b'0');
     let last = last.wrapping_sub(b'0');
     let some = front.simd_ne(u8x16::splat(0)).to_bitmask() | ((last > 0) as u64) << 16;
-    let zeros = some.leading_zeros().wrapping_sub(47).min(16);
+    let zeros = some.leading_zeros().wrapping_sub(47) & 31;
     let digits = sixteen(front).wrapping_mul(10).wrapping_add(last as u64);
     // Over a power of ten that leaves no rest, by a shift and the inverse of a power of five.
     Digits {
@@ -105,27 +145,6 @@ fn sixteen(digits: u8x16) -> u64 {
     eights[0].wrapping_mul(100_000_000).wrapping_add(eights[1])
 }
 
-// The decimal of a text as `1.2e-7`.
-fn with_exponent(text: &[u8]) -> Digits {
-    let mut digits = 0_u64;
-    let mut row = 342_u32;
-    let mut places = 0;
-    for (index, byte) in text.iter().enumerate() {
-        match *byte {
-            b'.' => places = 1,
-            b'e' => {
-                row = row.wrapping_add(exponent(&text[index + 1..]));
-                break;
-            }
-            digit => {
-                digits = appended(digits, digit);
-                row = row.wrapping_sub(places);
-            }
-        }
-    }
-    Digits { digits, row }
-}
-
 // An exponent as 32 bits, which are its two's complement.
 fn exponent(text: &[u8]) -> u32 {
     match text {
@@ -136,17 +155,11 @@ fn exponent(text: &[u8]) -> u32 {
 
 // A number of at most three digits.
 fn number(text: &[u8]) -> u32 {
-    let mut number = 0;
+    let mut number = 0_u32;
     for digit in text {
-        number = appended(number, *digit);
+        number = number
+            .wrapping_mul(10)
+            .wrapping_add(digit.wrapping_sub(b'0') as u32);
     }
-    (number & 0x3ff) as u32
-}
-
-// The number with this digit behind it.
-#[inline]
-fn appended(number: u64, digit: u8) -> u64 {
     number
-        .wrapping_mul(10)
-        .wrapping_add(digit.wrapping_sub(b'0') as u64)
 }

@@ -28,14 +28,14 @@ pub fn float_to_text(float: Float64) -> ArrayString<24>
 {
     let mut text = ArrayString::new();
     let bits = float.bits();
-    if float.is_nan() {
-        text.push_str("nan");
+    if bits % SIGN < INFINITY {
+        push_finite(&mut text, bits);
     } else if bits == INFINITY {
         text.push_str("+inf");
     } else if bits == SIGN + INFINITY {
         text.push_str("-inf");
     } else {
-        push_finite(&mut text, bits);
+        text.push_str("nan");
     }
     text
 }
@@ -93,8 +93,13 @@ fn push_exponent(text: &mut ArrayString<24>, row: u32)
 {
     text.push('e');
     // Most have one digit.
-    if 342 <= row && row < 352 {
-        text.push((b'0' + (row - 342) as u8) as char);
+    let above = row.wrapping_sub(342);
+    let below = 342_u32.wrapping_sub(row);
+    if above < 10 {
+        text.push((b'0' + above as u8) as char);
+    } else if below < 10 {
+        text.push('-');
+        text.push((b'0' + below as u8) as char);
     } else {
         push_long_exponent(text, row as i32 - 342);
     }

@@ -52,7 +52,7 @@ pub fn has_room<O: Output, A: Allocator + Copy>(
         return false;
     }
     let left = room - texts;
-    more <= left && 5 <= left - more
+    5 <= left && more <= left - 5
 }
 
 /// Puts a mark of one byte, or none.

@@ -307,7 +307,7 @@ impl<A: Allocator + Copy> TextWriter<A> {
         self.take_marked(sink, name, note, minus(negative), digits, b"")
     }
 
-    // A float.
+    // A float. Its text goes to no further call, which would move all that this one was given.
     #[inline(never)]
     fn take_float<O: Output>(
         &mut self,
@@ -320,7 +320,7 @@ impl<A: Allocator + Copy> TextWriter<A> {
             name.now note.now (float_text (value_of float)) }
     {
         let text = float_to_text(float);
-        self.take_text(sink, name, note, text.as_str().as_bytes())
+        self.take_marked(sink, name, note, b"", text.as_str().as_bytes(), b"")
     }
 
     // A decimal. It is in line, since what is handed to a call of its own would go by memory, which all ways

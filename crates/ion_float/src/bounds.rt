@@ -6,8 +6,8 @@ ghost use Rattle.ion_value.specs.Shortest.{IsAboveZero, NoneAbove, near, reads};
 use crate::exact::parts_of;
 use fast_float::power_of_ten;
 
-/// Whether bounds on the power of ten show that this is the shortest decimal of the double: it reads
-/// as it, no multiple of the next power does, and it is the multiple nearest to the double.
+/// Whether bounds on the power of ten show that this is the shortest decimal of the double: it
+/// reads as it, no multiple of the next power does, and it is the multiple nearest to the double.
 ///
 /// They do for nearly all that are, and not for powers of two and doubles below the normal ones.
 #[inline]
@@ -25,11 +25,13 @@ pub(crate) fn is_surely_shortest(digits: u64, row: u32, bits: u64) -> bool
         return false;
     }
     let power = power_of_ten(row as u64);
-    // The units of `is_surely_nearest`, times 2^72. In these twice the gap between the double and
-    // the next one is 2^shift, and twice the double is a multiple of that.
+    // 10^(row - 342) is power · 2^(scale - 1266), cut off, where the scale is that of the table of
+    // powers. In units 2^72 times as large, twice the gap to the next double is 2^shift, of which
+    // twice the double is a multiple.
     let scale = (row * 217_706 + 58_980) / 65_536 + 2;
     let shift = (field as u32 + 120).wrapping_sub(scale);
-    if shift.wrapping_sub(1) >= 60 {
+    // Of digits that read, twice the double has from 56 to 114 bits.
+    if shift.wrapping_sub(1) >= 61 {
         return false;
     }
     let gap = 1_u64 << shift;
@@ -42,12 +44,14 @@ pub(crate) fn is_surely_shortest(digits: u64, row: u32, bits: u64) -> bool
     )
 }
 
-// Whether a decimal is the nearest of its row to a double, lies less than half a gap from it, and no multiple of ten in its row does. Decimal and double are twice theirs, the
-// decimal's and the unit of its last digit cut off; `rest` is that digit.
+// Whether a decimal is the nearest of its row to a double, less than half a gap off it, and no
+// multiple of ten in that row is. `decimal` and `double` are twice these, `unit` is that of the
+// decimal's last digit, which is `rest`. The decimal and the unit are cut off.
 #[inline(always)]
 fn lies_clear(decimal: u128, double: u128, half: u64, unit: u64, rest: u64) -> bool
     requires wide { (decimal < 2 ^ 127) × (double < 2 ^ 127) }
-    requires narrow { (1 ≤ half) × (half ≤ 2 ^ 60) × (1 ≤ unit) × (unit < 2 ^ 56) × (rest < 10) }
+    requires gap { (1 ≤ half) × (half ≤ 2 ^ 61) }
+    requires unit { (1 ≤ unit) × (unit < 2 ^ 56) × (rest < 10) }
     ensures near { IsTrue result → (double < decimal + unit) × (decimal + 2 ≤ double + unit) }
     ensures read { IsTrue result → (double < decimal + half) × (decimal + 2 ≤ double + half) }
     ensures below { IsTrue result → decimal + 2 + half ≤ double + 2 * rest * unit }
@@ -74,8 +78,7 @@ pub(crate) fn is_surely_nearest(digits: u64, row: u32, bits: u64) -> bool
 {
     let (significand, exponent) = parts_of(bits);
     let power = power_of_ten(row as u64);
-    // 10^(row - 342) is power · 2^(scale - 1266), cut off, where the scale is that of the table of
-    // powers. In the same units twice the double is significand · 2^shift.
+    // As above, without the factor 2^72: twice the double is significand · 2^shift.
     let scale = (row * 217_706 + 58_980) / 65_536 + 2;
     let shift = (exponent + 193).saturating_sub(scale);
     // Of digits that read, significand · 2^shift has from 128 to 186 bits.

@@ -14,6 +14,8 @@ const ONE: u64 = 0x3ff0_0000_0000_0000;
 
 const GREAT: u64 = 0x4341_c379_37e0_8000;
 
+const TEN_TO_16: u64 = 10_000_000_000_000_000;
+
 // The inverses of the powers of five, from 5^0 on, among the numbers below 2^64.
 static INVERSES: [u64; 32] = [
     0x0000000000000001,
@@ -59,72 +61,73 @@ pub(crate) fn guess(bits: u64) -> Digits
     // Where it writes no exponent, seventeen digits stand in the array, whatever the text's length.
     let mut text = [b'0'; raw::LEN];
     let length = raw::format(f64::from_bits(bits), &mut text);
-    let (front, last, row) = if bits.wrapping_sub(ONE) < GREAT - ONE {
+    let (first, others, row) = if bits.wrapping_sub(ONE) < GREAT - ONE {
         from_one(&text)
     } else if bits.wrapping_sub(LEAST) < ONE - LEAST {
         below_one(&text)
     } else {
         with_exponent(&text, length)
     };
-    decimal(front, last, row)
+    decimal(first, others, row)
 }
 
-// The digits and the row of the last of them in a text as `12.34` or `1200.0`. This and the next
-// two give sixteen digits and one more.
+// The digits in a text as `12.34` or `1200.0`, and the row of the last of them. This and the next
+// two give the first of seventeen digits and the others.
 #[inline]
-fn from_one(text: &[u8; raw::LEN]) -> (u8x16, u8, u32) {
-    let front = u8x16::from_slice(text);
-    let point = (front.simd_eq(u8x16::splat(b'.')).to_bitmask() | 0x1_0000).trailing_zeros();
-    let digits = first(point as u8).select(front, u8x16::from_slice(&text[1..]));
-    (digits, text[17], point + 325)
+fn from_one(text: &[u8; raw::LEN]) -> (u8, u8x16, u32) {
+    let before = u8x16::from_slice(&text[1..]);
+    let point = before
+        .simd_eq(u8x16::splat(b'.'))
+        .to_bitmask()
+        .trailing_zeros();
+    let others = lanes(point as u8).select(before, u8x16::from_slice(&text[2..]));
+    (text[0], others, point + 326)
 }
 
 // Those in a text as `0.00012`: from the first on that is not 0.
 #[inline]
-fn below_one(text: &[u8; raw::LEN]) -> (u8x16, u8, u32) {
+fn below_one(text: &[u8; raw::LEN]) -> (u8, u8x16, u32) {
     let some = u8x16::from_slice(text).simd_gt(u8x16::splat(b'0'));
     let first = some.to_bitmask().trailing_zeros() & 7;
     let from = first as usize;
     (
-        u8x16::from_slice(&text[from..]),
-        text[from + 16],
+        text[from],
+        u8x16::from_slice(&text[from + 1..]),
         327 - first,
     )
 }
 
 // Those in a text as `1.2e-7` or `1e30`: before the `e`, with zeros behind them.
 #[inline]
-fn with_exponent(text: &[u8; raw::LEN], length: usize) -> (u8x16, u8, u32) {
+fn with_exponent(text: &[u8; raw::LEN], length: usize) -> (u8, u8x16, u32) {
     let marks = u8x32::from_slice(text)
         .simd_eq(u8x32::splat(b'e'))
         .to_bitmask();
     let mark = marks.trailing_zeros() & 31;
-    let count = mark.max(2) - 1;
-    let digits = first(1).select(u8x16::from_slice(text), u8x16::from_slice(&text[1..]));
-    let digits = first(count as u8).select(digits, u8x16::splat(b'0'));
-    let last = if count > 16 { text[17] } else { b'0' };
+    let behind = u8x16::from_slice(&text[2..]);
+    let others = lanes(mark.saturating_sub(2) as u8).select(behind, u8x16::splat(b'0'));
     let exponent = match text.get(mark as usize + 1..length) {
-        Some(behind) => exponent(behind),
+        Some(exponent) => signed(exponent),
         None => 0,
     };
-    (digits, last, exponent.wrapping_add(326))
+    (text[0], others, exponent.wrapping_add(326))
 }
 
-// The first lanes.
+// So many lanes.
 #[inline]
-fn first(count: u8) -> mask8x16 {
+fn lanes(count: u8) -> mask8x16 {
     let indices = u8x16::from_array([0, 1, 2, 3, 4, 5, 6, 7, 8, 9, 10, 11, 12, 13, 14, 15]);
     indices.simd_lt(u8x16::splat(count))
 }
 
 // Seventeen digits as a decimal, whose zeros at the end go to the row. The row is that of all.
 #[inline]
-fn decimal(front: u8x16, last: u8, row: u32) -> Digits {
-    let front = front - u8x16::splat(b'0');
-    let last = last.wrapping_sub(b'0');
-    let some = front.simd_ne(u8x16::splat(0)).to_bitmask() | ((last > 0) as u64) << 16;
-    let zeros = some.leading_zeros().wrapping_sub(47) & 31;
-    let digits = sixteen(front).wrapping_mul(10).wrapping_add(last as u64);
+fn decimal(first: u8, others: u8x16, row: u32) -> Digits {
+    let first = first.wrapping_sub(b'0') as u64;
+    let others = others - u8x16::splat(b'0');
+    let digits = first.wrapping_mul(TEN_TO_16).wrapping_add(sixteen(others));
+    let some = others.simd_ne(u8x16::splat(0)).to_bitmask();
+    let zeros = some.leading_zeros().wrapping_sub(48) & 31;
     // Over a power of ten that leaves no rest, by a shift and the inverse of a power of five.
     Digits {
         digits: (digits >> zeros).wrapping_mul(INVERSES[zeros as usize]),
@@ -133,20 +136,21 @@ fn decimal(front: u8x16, last: u8, row: u32) -> Digits {
 }
 
 // The number of sixteen digits, of which two are put together in each lane, then four, then eight.
+// A lane's lower half, times the weight, comes to its upper half, and is added to it there.
 #[inline]
 fn sixteen(digits: u8x16) -> u64 {
     let ones = u16x8::from_le_bytes(digits);
-    let twos = (ones & u16x8::splat(0xff)) * u16x8::splat(10) + (ones >> u16x8::splat(8));
+    let twos = (ones * u16x8::splat((10 << 8) + 1)) >> u16x8::splat(8);
     let twos = u32x4::from_le_bytes(twos.to_le_bytes());
-    let fours = (twos & u32x4::splat(0xffff)) * u32x4::splat(100) + (twos >> u32x4::splat(16));
+    let fours = (twos * u32x4::splat((100 << 16) + 1)) >> u32x4::splat(16);
     let fours = u64x2::from_le_bytes(fours.to_le_bytes());
     let low = fours & u64x2::splat(0xffff_ffff);
     let eights = (low * u64x2::splat(10_000) + (fours >> u64x2::splat(32))).to_array();
     eights[0].wrapping_mul(100_000_000).wrapping_add(eights[1])
 }
 
-// An exponent as 32 bits, which are its two's complement.
-fn exponent(text: &[u8]) -> u32 {
+// A signed number of at most three digits as 32 bits, which are its two's complement.
+fn signed(text: &[u8]) -> u32 {
     match text {
         [b'-', size @ ..] => number(size).wrapping_neg(),
         _ => number(text),

@@ -16,21 +16,21 @@ use Rattle.ion_float.proofs.bounds.is_surely_shortest.Goals as goal
 -- what the shift is
 record IsShift (shift row field : ℕ) : Type 0 where
   pub some : 1 ≤ shift
-  pub most : shift ≤ 60
+  pub most : shift ≤ 61
   pub sum : shift + power_scale row ≡ field + 120
 
-is_shift : (shift row field : ℕ) → row < 651 → field < 2047 → shift ≡ (field + 120 + (2 ^ 32 - power_scale row)) % 2 ^ 32 → (shift + (2 ^ 32 - 1)) % 2 ^ 32 < 60 → IsShift shift row field
+is_shift : (shift row field : ℕ) → row < 651 → field < 2047 → shift ≡ (field + 120 + (2 ^ 32 - power_scale row)) % 2 ^ 32 → (shift + (2 ^ 32 - 1)) % 2 ^ 32 < 61 → IsShift shift row field
 is_shift shift row field R F e h = record { some = omega arith; most = omega arith; sum = omega arith }
 
 -- twice the gap, which is even, and nothing of it is shifted out
-gap_is : (shift : ℕ) → 1 ≤ shift → shift ≤ 60 → (1 * 2 ^ shift % 2 ^ 64 ≡ 2 ^ shift) × (2 ^ shift ≡ 2 * 2 ^ (shift - 1)) × (2 ^ (shift - 1) ≤ 2 ^ 59) × (0 < 2 ^ (shift - 1))
+gap_is : (shift : ℕ) → 1 ≤ shift → shift ≤ 61 → (1 * 2 ^ shift % 2 ^ 64 ≡ 2 ^ shift) × (2 ^ shift ≡ 2 * 2 ^ (shift - 1)) × (2 ^ (shift - 1) ≤ 2 ^ 60) × (0 < 2 ^ (shift - 1))
 gap_is shift some most =
-    let least : 2 ^ (shift - 1) ≤ 2 ^ 59 = pow_mono {i = shift - 1} {j = 59} (omega arith) in
+    let least : 2 ^ (shift - 1) ≤ 2 ^ 60 = pow_mono {i = shift - 1} {j = 60} (omega arith) in
     let one : suc (shift - 1) ≡ shift = omega arith in
     let twice : 2 ^ shift ≡ 2 * 2 ^ (shift - 1) = ap (λ k. 2 ^ k) (sym one) ∙ pow-suc 2 (shift - 1) ∙ omega arith in
     (omega (arith, twice, least), twice, least, pow_pos (shift - 1))
 
-product_is : (m gap : ℕ) → m < 2 ^ 53 → gap ≤ 2 ^ 60 → m * gap < 2 ^ 127
+product_is : (m gap : ℕ) → m < 2 ^ 53 → gap ≤ 2 ^ 61 → m * gap < 2 ^ 127
 product_is m gap M G = omega (arith, M, mul-le-mul_left m G)
 
 -- `decimal` and `unit` are cut off, with the units 2 ^ 72
@@ -72,16 +72,18 @@ some_digits (suc d) t n h = omega arith
 
 pub lies_clear-requires-clause-wide : goal.lies_clear-requires-clause-wide
 lies_clear-requires-clause-wide c =
-    let it = is_shift _ c.args.row (c.args.bits / 2 ^ 52) (omega arith) (omega arith) refl c.if-shift-ge60.false in
+    let it = is_shift _ c.args.row (c.args.bits / 2 ^ 52) (omega arith) (omega arith) refl c.if-shift-ge61.false in
     let gap = gap_is _ it.some it.most in
     (omega (arith, c.upper_product.type_inv), product_is _ _ (omega (arith, and_mask c.args.bits 52)) (omega (arith, gap.0, gap.1, gap.2)))
 
-pub lies_clear-requires-clause-narrow : goal.lies_clear-requires-clause-narrow
-lies_clear-requires-clause-narrow c =
-    let it = is_shift _ c.args.row (c.args.bits / 2 ^ 52) (omega arith) (omega arith) refl c.if-shift-ge60.false in
+pub lies_clear-requires-clause-gap : goal.lies_clear-requires-clause-gap
+lies_clear-requires-clause-gap c =
+    let it = is_shift _ c.args.row (c.args.bits / 2 ^ 52) (omega arith) (omega arith) refl c.if-shift-ge61.false in
     let gap = gap_is _ it.some it.most in
-    let power = c.power_of_ten-power.ensures in
-    (omega (arith, gap.0, gap.1, gap.3), omega (arith, gap.0, gap.1, gap.2), omega (arith, power.top), omega (arith, power.fits), omega arith)
+    (omega (arith, gap.0, gap.1, gap.3), omega (arith, gap.0, gap.1, gap.2))
+
+pub lies_clear-requires-clause-unit : goal.lies_clear-requires-clause-unit
+lies_clear-requires-clause-unit c = let power = c.power_of_ten-power.ensures in (omega (arith, power.top), omega (arith, power.fits), omega arith)
 
 -- the double is m * 2 ^ k of the least one, and the shift puts it and the gap into the units of the row
 record InUnits (bits row m shift : ℕ) : Type 0 where
@@ -117,7 +119,7 @@ in_units bits row rest shift p R e some field it =
 
 pub returns-clause-read : goal.returns-clause-read
 returns-clause-read c t =
-    let it = is_shift _ c.args.row (c.args.bits / 2 ^ 52) (omega arith) (omega arith) refl c.if-shift-ge60.false in
+    let it = is_shift _ c.args.row (c.args.bits / 2 ^ 52) (omega arith) (omega arith) refl c.if-shift-ge61.false in
     let u = in_units c.args.bits c.args.row (bit_and c.args.bits 4503599627370495) _ c.requires.above_zero c.requires.sizes.1 (and_mask c.args.bits 52) c.if-fraction-eq0.false c.if-field-eq0.false it in
     let power = c.power_of_ten-power in
     let cut = ap (λ z. z / 256) c.upper_product.ensures in
@@ -128,7 +130,7 @@ returns-clause-read c t =
 
 pub returns-clause-last : goal.returns-clause-last
 returns-clause-last c t =
-    let it = is_shift _ c.args.row (c.args.bits / 2 ^ 52) (omega arith) (omega arith) refl c.if-shift-ge60.false in
+    let it = is_shift _ c.args.row (c.args.bits / 2 ^ 52) (omega arith) (omega arith) refl c.if-shift-ge61.false in
     let u = in_units c.args.bits c.args.row (bit_and c.args.bits 4503599627370495) _ c.requires.above_zero c.requires.sizes.1 (and_mask c.args.bits 52) c.if-fraction-eq0.false c.if-field-eq0.false it in
     let power = c.power_of_ten-power in
     let cut = ap (λ z. z / 256) c.upper_product.ensures in
@@ -139,7 +141,7 @@ returns-clause-last c t =
 
 pub returns-clause-nearest : goal.returns-clause-nearest
 returns-clause-nearest c t =
-    let it = is_shift _ c.args.row (c.args.bits / 2 ^ 52) (omega arith) (omega arith) refl c.if-shift-ge60.false in
+    let it = is_shift _ c.args.row (c.args.bits / 2 ^ 52) (omega arith) (omega arith) refl c.if-shift-ge61.false in
     let u = in_units c.args.bits c.args.row (bit_and c.args.bits 4503599627370495) _ c.requires.above_zero c.requires.sizes.1 (and_mask c.args.bits 52) c.if-fraction-eq0.false c.if-field-eq0.false it in
     let power = c.power_of_ten-power in
     let cut = ap (λ z. z / 256) c.upper_product.ensures in

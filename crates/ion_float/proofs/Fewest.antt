@@ -44,8 +44,8 @@ module _ (bits m k a : ℕ) (pos : IsPositive bits) (finite : bits < ones binary
   not_before : scaled_bits binary64 (m - 1) k ≡ bits → ⊥
   not_before e = absurd (omega arith)
 
-  not_behind : scaled_bits binary64 (m + 1) k ≡ bits → ⊥
-  not_behind e = absurd (omega arith)
+  not_after : scaled_bits binary64 (m + 1) k ≡ bits → ⊥
+  not_after e = absurd (omega arith)
 
   pub as_bits : (n d r : ℕ) → IsNearestBits binary64 n d r → r ≡ bits → round binary64 false n d ≡ from_bits binary64 bits
   as_bits n d r near_bits e = sym near_bits.0 ∙ ap (of_bits binary64) e
@@ -96,17 +96,17 @@ module _ (bits m k a : ℕ) (pos : IsPositive bits) (finite : bits < ones binary
       regroup : (a b c : ℕ) → a * b * c ≡ a * (c * b)
       regroup a b c = omega arith
 
-  -- and no further above it than half way to the float behind
+  -- and no further above it than half way to the next float
   pub not_above : (n : ℕ) → m < 2 ^ prec binary64 → round binary64 false n a ≡ from_bits binary64 bits → 2 * (m * (a * 2 ^ k)) + a * 2 ^ k < 2 * (n * 2 ^ low binary64) → ⊥
   not_above n small read far =
       elim (cases_lt (n * 2 ^ low binary64) ((m + 1) * (a * 2 ^ k))) [
         | inl h ↦
             let just : IsJustAbove binary64 n a m k = record { significand = record { fits = small; normal = λ K. omega (arith, normal K) }; from = omega (arith, far); below = h } in
-            not_behind (bits_of n a (scaled_bits binary64 (m + 1) k) (nearest_above binary64 n a m k A just (omega (arith, far))) read)
+            not_after (bits_of n a (scaled_bits binary64 (m + 1) k) (nearest_above binary64 n a m k A just (omega (arith, far))) read)
         | inr h ↦
             let mid = between_read (from_bits binary64 bits) (m * 2 ^ k) (2 ^ low binary64) n a ((m + 1) * 2 ^ k) (2 ^ low binary64) pos (pow_pos (low binary64)) A (pow_pos (low binary64))
             (mul-le-mul_right (2 ^ low binary64) (mul-le-mul_right (2 ^ k) (upper m))) (last n (2 ^ low binary64) (m + 1) (2 ^ k) a h) value_reads read in
-            not_behind (bits_of ((m + 1) * 2 ^ k) (2 ^ low binary64) (scaled_bits binary64 (m + 1) k)
+            not_after (bits_of ((m + 1) * 2 ^ k) (2 ^ low binary64) (scaled_bits binary64 (m + 1) k)
             (exactly ((m + 1) * 2 ^ k) (2 ^ low binary64) (m + 1) k (pow_pos (low binary64)) (regroup (m + 1) (2 ^ k) (2 ^ low binary64)) (omega arith) (λ K. omega (arith, normal K))) mid)
       ]
     where

@@ -81,14 +81,14 @@ module _ (bits m k row t h : ℕ) (p : IsAboveZero bits) (are : scaled_bits bina
       elim (cases_lt front more) [
         | inl l ↦
             not_above bits m k a (is-positive bits p) p.1 are (omega arith) (λ K. normal) (omega arith) (ten_to_pos (342 - row)) (more * 10 * b) (omega arith) here
-            (behind m (a * 2 ^ k) more front b (2 ^ 1074) l (lies_above row t k h (2 * (front * 10 + 10)) (2 * m + 1) is sum hi))
+            (more_than m (a * 2 ^ k) more front b (2 ^ 1074) l (lies_above row t k h (2 * (front * 10 + 10)) (2 * m + 1) is sum hi))
         | inr g ↦
             not_below bits m k a (is-positive bits p) p.1 are (omega arith) (λ K. normal) (omega arith) (ten_to_pos (342 - row)) (more * 10 * b) here
             (before m (a * 2 ^ k) more front b (2 ^ 1074) (2 * m - 1) one g (lies_below row t k h (2 * (front * 10)) (2 * m - 1) is sum lo))
       ]
     where
-      behind : (m w c f b l : ℕ) → f < c → (2 * m + 1) * w < 2 * (f * 10 + 10) * b * l → 2 * (m * w) + w < 2 * (c * 10 * b * l)
-      behind m w c f b l q r =
+      more_than : (m w c f b l : ℕ) → f < c → (2 * m + 1) * w < 2 * (f * 10 + 10) * b * l → 2 * (m * w) + w < 2 * (c * 10 * b * l)
+      more_than m w c f b l q r =
           let next : f + 1 ≤ c = omega arith in
           omega (arith, r, mul-le-mul_right (b * l) next)
 

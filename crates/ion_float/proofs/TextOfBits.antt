@@ -185,8 +185,8 @@ digits-short n h = length-decimal-le 17 n (omega arith) h (omega arith)
 pub digits-some : (n : ℕ) → n < 10 ^ 17 → 1 ≤ length (decimal n)
 digits-some n h = (spells n (omega arith)).some
 
-pub behind-nothing : (old text new : List ℕ) → old ≡ [] → new ≡ old ++ text → new ≡ text
-behind-nothing old text new e h = rw e at h
+pub after-nothing : (old text new : List ℕ) → old ≡ [] → new ≡ old ++ text → new ≡ text
+after-nothing old text new e h = rw e at h
 
 -- ---- what is pushed
 

@@ -1,6 +1,6 @@
 //! A guess at the shortest decimal of a double: the digits that ryu writes.
 //!
-//! Nothing is proved of what is read here, since the decimal is tested behind.
+//! Nothing is proved of what is read here, since `is_shortest` tests the decimal.
 ghost use Rattle.ion_value.specs.Shortest.{IsAboveZero};
 
 use crate::shortest::Digits;
@@ -97,15 +97,15 @@ fn below_one(text: &[u8; raw::LEN]) -> (u8, u8x16, u32) {
     )
 }
 
-// Those in a text as `1.2e-7` or `1e30`: before the `e`, with zeros behind them.
+// Those in a text as `1.2e-7` or `1e30`: before the `e`, with zeros after them.
 #[inline]
 fn with_exponent(text: &[u8; raw::LEN], length: usize) -> (u8, u8x16, u32) {
     let marks = u8x32::from_slice(text)
         .simd_eq(u8x32::splat(b'e'))
         .to_bitmask();
     let mark = marks.trailing_zeros() & 31;
-    let behind = u8x16::from_slice(&text[2..]);
-    let others = lanes(mark.saturating_sub(2) as u8).select(behind, u8x16::splat(b'0'));
+    let after = u8x16::from_slice(&text[2..]);
+    let others = lanes(mark.saturating_sub(2) as u8).select(after, u8x16::splat(b'0'));
     let exponent = match text.get(mark as usize + 1..length) {
         Some(exponent) => signed(exponent),
         None => 0,

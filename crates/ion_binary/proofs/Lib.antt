@@ -23,6 +23,7 @@ mod Spelled
 mod SpelledParts
 mod SpelledMembers
 mod Permitted
+mod ReadPermitted
 mod Fitting
 mod Complete
 mod WritingRows

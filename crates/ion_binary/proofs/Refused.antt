@@ -5,7 +5,7 @@ use Rattle.ion_meter.specs.declared.profile.Rules.{Rules}
 use Rattle.ion_value.specs.Value.{PlacedItem, top_items}
 use Rattle.ion_value.specs.Reading.{Reading, Finished, Stopped, items_of, items_then}
 use Rattle.ion_value.specs.Path.{closed, path_items}
-use Rattle.ion_value.specs.ReadingLaws.{ending_of, IsLimit, ArePermitted, AreWithin}
+use Rattle.ion_value.specs.ReadingLaws.{ending_of, IsLimit, AreWithin}
 use Rattle.ion_value.proofs.ReadingLaws.{ending_of-items_then}
 use Rattle.ion_binary.specs.Laws.{Bodies, IsNarrower, IsCut, here, later, RightlyRefused, NoStreamBegins, WithinLimitsAreRead}
 use Rattle.ion_binary.specs.Reading.{reading}

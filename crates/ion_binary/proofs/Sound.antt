@@ -11,6 +11,7 @@ use Rattle.ion_binary.specs.Grammar.{Tops}
 use Rattle.ion_binary.specs.Paths.{Spells, IsPath, At, Follows}
 use Rattle.ion_value.specs.ReadingLaws.{ending_of}
 use Rattle.ion_binary.specs.Laws.{Bodies, Sound}
+use Rattle.ion_binary.proofs.ReadPermitted.{read-permitted}
 use Rattle.ion_binary.proofs.StepPreservesPath.{step-follows}
 
 -- a path with nothing open and nothing left is the whole of the bytes
@@ -87,4 +88,4 @@ unfolding reading
 sound bodies shrinks limits bytes =
     let c = reading_for-leads bodies shrinks (suc (size (start bytes))) limits bytes (closed []) (start bytes)
     (record { before = []; split = refl; place = refl; spells = Spells.top [] [] Tops.nothing }, tt) (omega arith) in
-    record { path = c.next; place = c.place; is_path = c.is_path; items = sym c.items; whole = c.whole }
+    record { path = c.next; place = c.place; is_path = c.is_path; items = sym c.items; permitted = read-permitted limits bytes; whole = c.whole }

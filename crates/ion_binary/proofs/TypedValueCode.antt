@@ -61,7 +61,7 @@ version-read c h same = ap (λ t. t >> Ok (a_marker, skip 3 c)) (marker_rest-lon
 -- ---- shapes
 
 -- what holds of all shapes of a list, and of the one past its end, holds at each index
-slice_index_or-all : (P : Shape → Type 0) (shapes : List Shape) (t : ℕ) (d : Shape) → AllByRecursion P shapes → P d → P (slice_index_or shapes t d)
+pub slice_index_or-all : (P : Shape → Type 0) (shapes : List Shape) (t : ℕ) (d : Shape) → AllByRecursion P shapes → P d → P (slice_index_or shapes t d)
 slice_index_or-all P [] t d all last = last
 slice_index_or-all P (s ∷ shapes) zero d all last = all.0
 slice_index_or-all P (s ∷ shapes) (suc t) d all last = slice_index_or-all P shapes t d all.1 last

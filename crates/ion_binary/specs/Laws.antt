@@ -23,17 +23,18 @@ use Rattle.ion_binary.specs.Reading.{step, size, reading}
 abbrev pub Bodies : Type 0
 Bodies = (t : ℕ) (v : Scalar Symbol) (b : List ℕ) → (Body t v b → scalar_of_body t b ≡ Ok v) × (scalar_of_body t b ≡ Ok v → Body t v b)
 
--- what is read is a path of the bytes, and the whole of them where reading finishes
-pub record IsRead (bytes : List ℕ) (r : Reading) : Type 0 where
+-- what is read is a path of the bytes, of what the rules permit, and the whole of them where reading finishes
+pub record IsRead (limits : Rules) (bytes : List ℕ) (r : Reading) : Type 0 where
   pub path : Path SymbolAt ℕ
   pub place : ℕ
   pub is_path : IsPath bytes place path
   pub items : items_of r ≡ path_items path
+  pub permitted : ArePermitted limits (items_of r)
   pub whole : ending_of r ≡ Finished → (ts : List (Top SymbolAt ℕ)) × (path ≡ closed ts) × (place ≡ length bytes) × Tops ts bytes
 
--- so it is of all bytes, under all limits
+-- so it is of all bytes, under all rules
 abbrev pub Sound : Type 0
-Sound = (limits : Rules) (bytes : List ℕ) → IsRead bytes (reading limits bytes)
+Sound = (limits : Rules) (bytes : List ℕ) → IsRead limits bytes (reading limits bytes)
 
 -- a step from where the bytes before it spell a path gives an item and the path with it, or it keeps the path; it ends where nothing is open and
 -- nothing is left

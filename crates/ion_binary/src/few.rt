@@ -1,10 +1,14 @@
 //! A few octets, in a word.
 ghost use Rattle.std.specs.Prelude.{◌≡◌, ◌+◌, ◌<◌, ◌≤◌, ◌∷◌, ◌++◌, [], List, ℕ, length, take, IfSome};
+ghost use Rattle.ion_value.specs.Float.{value_of};
+ghost use Rattle.ion_value.specs.FloatOctets.{float_octets};
 ghost use Rattle.ion_value.specs.Number.{uint_octets};
 ghost use Rattle.ion_binary.specs.Canonical.{headed, header, wrapped};
 ghost use Rattle.ion_binary.specs.Held.{counted_ids};
 ghost use Rattle.ion_binary.specs.Opening.{name_octets, noted};
 
+use ion_float::octets::float_to_octets;
+use ion_value::float::Float64;
 use std::marker::Model;
 
 /// At most eight octets, which are put as one block. A clause sees the list of them.
@@ -116,6 +120,23 @@ pub(crate) fn few_number(code: u8, n: u64) -> FewNumber
     FewNumber {
         first: Few::one(16 * code + size as u8),
         body: n.wrapping_shl(8 * zeros).to_be_bytes(),
+        size,
+    }
+}
+
+/// The octets of a float.
+#[inline(always)]
+pub(crate) fn few_float(float: Float64) -> FewNumber
+    ensures octets { result.first ++ take result.size result.body
+        ≡ headed 4 (float_octets (value_of float)) }
+    ensures few { length result.first ≤ 2 }
+    ensures size { result.size ≤ 8 }
+{
+    let octets = float_to_octets(float);
+    let size = octets.len();
+    FewNumber {
+        first: Few::one(64 + size as u8),
+        body: octets.block(),
         size,
     }
 }

@@ -21,7 +21,8 @@ pub fn limits_only_cut_short()
     ensures { Narrow }
 {}
 
-/// What is read is a path of the grammar, and where the reading finishes, the whole input is.
+/// What is read is a path of the grammar whose items the rules permit, and where the reading
+/// finishes, the whole input is.
 pub fn what_is_read_is_spelled()
     ensures { Sound }
 {}

@@ -1,5 +1,7 @@
 //! The octets of scalars.
 ghost use Rattle.std.specs.Prelude.{◌≡◌, ℕ, ◌<◌, ◌≤◌, if◌then◌else◌, [], ◌∷◌, length};
+ghost use Rattle.ion_value.specs.Float.{value_of};
+ghost use Rattle.ion_value.specs.FloatOctets.{float_octets};
 ghost use Rattle.ion_value.specs.Int.{IsInt};
 ghost use Rattle.ion_value.specs.Items.{raw_head};
 ghost use Rattle.ion_value.specs.Number.{uint_octets};
@@ -14,6 +16,7 @@ use crate::opening::{LONGEST, opening};
 use arrayvec::ArrayVec;
 use ion_float::octets::float_to_octets;
 use ion_value::decimal::decimal_to_bytes;
+use ion_value::float::Float64;
 use ion_value::int::{Int, int_to_bytes};
 use ion_value::ion_type::IonType;
 use ion_value::item::Head;
@@ -70,7 +73,7 @@ pub(crate) fn spell<'a>(head: Head<'a>, name: u32) -> Spelled<'a>
         Head::Null(of) => one(16 * type_code(of) + 15),
         Head::Bool(truth) => one(if truth { 17 } else { 16 }),
         Head::Int(int) => spell_int(int),
-        Head::Float(float) => with_body(4, float_to_octets(float).as_slice()),
+        Head::Float(float) => spell_float(float),
         Head::Decimal(decimal) => with_body(5, decimal_to_bytes(decimal).as_slice()),
         Head::Timestamp(timestamp) => with_body(6, timestamp_to_bytes(timestamp).as_slice()),
         Head::Symbol(_) => spell_id(name),
@@ -153,6 +156,15 @@ pub(crate) fn spell_int<'a>(int: Int) -> Spelled<'a>
         if int.negative { 3 } else { 2 },
         int_to_bytes(int).as_slice(),
     )
+}
+
+// A float.
+#[inline]
+fn spell_float<'a>(float: Float64) -> Spelled<'a>
+    ensures { spelled_octets result ≡ headed 4 (float_octets (value_of float)) }
+{
+    let octets = float_to_octets(float);
+    with_body(4, &octets.block()[..octets.len()])
 }
 
 // A symbol of this id.

@@ -159,7 +159,8 @@ fn the_texts_of_floats(rt: HostRuntime) {
 fn the_octets_of_floats(rt: HostRuntime) {
     for (bits, octets) in OCTETS {
         let float = Float64::from_bits(*bits);
-        same(&rt, float_to_octets(float).as_slice(), *octets);
+        let written = float_to_octets(float);
+        same(&rt, &written.block()[..written.len()], *octets);
         same(&rt, float_from_octets(octets), Some(float));
         same(&rt, float_from_octets(&bits.to_be_bytes()), Some(float));
     }

@@ -9,6 +9,8 @@ mod float;
 #[cfg(test)]
 mod float_forms;
 #[cfg(test)]
+mod float_laws;
+#[cfg(test)]
 mod meter;
 #[cfg(test)]
 mod same;

@@ -19,16 +19,16 @@ closed run = filter (λ b. not (b == 95)) run
 digit-other : (b : ℕ) → is_digit b ≡ true → (b == 95) ≡ false
 digit-other b e = grind (arith, nat_tests)
 
-pub closed-digits : (behind : Bool) (xs : List ℕ) → digits_from behind is_digit xs ≡ true → closed xs ≡ filter is_digit xs
-closed-digits behind [] h = refl
-closed-digits behind (b ∷ xs) h = elim (cases_Bool (is_digit b)) [
+pub closed-digits : (after : Bool) (xs : List ℕ) → digits_from after is_digit xs ≡ true → closed xs ≡ filter is_digit xs
+closed-digits after [] h = refl
+closed-digits after (b ∷ xs) h = elim (cases_Bool (is_digit b)) [
   | inl e ↦
       let rest = (and_parts _ _ h).1 in
       simp (e, digit-other b e) (ap (λ (ys : List ℕ). b ∷ ys) (closed-digits (is_digit b) xs rest))
   | inr e ↦
       let rest = (and_parts _ _ h).1 in
-      let head : (is_digit b || (b == 95 && behind)) ≡ true = (and_parts _ _ h).0 in
-      let mark = (and_parts (b == 95) behind (rw e at head)).0 in
+      let head : (is_digit b || (b == 95 && after)) ≡ true = (and_parts _ _ h).0 in
+      let mark = (and_parts (b == 95) after (rw e at head)).0 in
       simp (e, mark) (closed-digits (is_digit b) xs rest)
 ]
 

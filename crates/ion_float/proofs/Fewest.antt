@@ -12,7 +12,7 @@ use Rattle.fast_float.specs.Rounding.{scaled_bits, IsNearestBits}
 use Rattle.core.specs.Dec2flt.Rounding.{IsJustAbove}
 use Rattle.fast_float.proofs.ExactLemmas.{ten_to_pos}
 use Rattle.fast_float.proofs.Extremes.{nearest_of_huge, round_tens, tens_le}
-use Rattle.fast_float.proofs.RoundingLemmas.{nearest_of_near, nearest_below, nearest_tie}
+use Rattle.fast_float.proofs.RoundingLemmas.{nearest_of_near, nearest_below, nearest_above, nearest_tie}
 use Rattle.ion_value.specs.Shortest.{IsAboveZero, IsPositive, reads, near, reads_as, search, shortest}
 use Rattle.ion_float.proofs.Between.{squeezed, same_float, tens, zero-reads}
 use Rattle.ion_float.proofs.Few.{under, over}
@@ -40,11 +40,14 @@ module _ (bits m k a : ℕ) (pos : IsPositive bits) (finite : bits < ones binary
   bits_of : (n d r : ℕ) → IsNearestBits binary64 n d r → round binary64 false n d ≡ from_bits binary64 bits → r ≡ bits
   bits_of n d r near_bits read = let small = near_bits.1 in same_float n d r bits pos (omega arith) (omega arith) near_bits read
 
-  -- and those of the float below it are not
+  -- and those of the floats beside it are not
   not_before : scaled_bits binary64 (m - 1) k ≡ bits → ⊥
   not_before e = absurd (omega arith)
 
-  as_bits : (n d r : ℕ) → IsNearestBits binary64 n d r → r ≡ bits → round binary64 false n d ≡ from_bits binary64 bits
+  not_after : scaled_bits binary64 (m + 1) k ≡ bits → ⊥
+  not_after e = absurd (omega arith)
+
+  pub as_bits : (n d r : ℕ) → IsNearestBits binary64 n d r → r ≡ bits → round binary64 false n d ≡ from_bits binary64 bits
   as_bits n d r near_bits e = sym near_bits.0 ∙ ap (of_bits binary64) e
 
   value_reads : round binary64 false (m * 2 ^ k) (2 ^ low binary64) ≡ from_bits binary64 bits
@@ -66,7 +69,7 @@ module _ (bits m k a : ℕ) (pos : IsPositive bits) (finite : bits < ones binary
       }
 
   -- what reads as the double lies no further below it than half way to the float before
-  not_below : (n : ℕ) → round binary64 false n a ≡ from_bits binary64 bits → 2 * (n * 2 ^ low binary64) + a * 2 ^ k < 2 * (m * (a * 2 ^ k)) → ⊥
+  pub not_below : (n : ℕ) → round binary64 false n a ≡ from_bits binary64 bits → 2 * (n * 2 ^ low binary64) + a * 2 ^ k < 2 * (m * (a * 2 ^ k)) → ⊥
   not_below n read far =
       let w = a * 2 ^ k in
       let less : (m - 1) * w + w ≡ m * w = stepped (m - 1) m w (omega arith) in
@@ -89,6 +92,29 @@ module _ (bits m k a : ℕ) (pos : IsPositive bits) (finite : bits < ones binary
 
       first : (n l p t a : ℕ) → n * l < p * (a * t) → n * l ≤ p * t * a
       first n l p t a h = omega (arith, h)
+
+      regroup : (a b c : ℕ) → a * b * c ≡ a * (c * b)
+      regroup a b c = omega arith
+
+  -- and no further above it than half way to the next float
+  pub not_above : (n : ℕ) → m < 2 ^ prec binary64 → round binary64 false n a ≡ from_bits binary64 bits → 2 * (m * (a * 2 ^ k)) + a * 2 ^ k < 2 * (n * 2 ^ low binary64) → ⊥
+  not_above n small read far =
+      elim (cases_lt (n * 2 ^ low binary64) ((m + 1) * (a * 2 ^ k))) [
+        | inl h ↦
+            let just : IsJustAbove binary64 n a m k = record { significand = record { fits = small; normal = λ K. omega (arith, normal K) }; from = omega (arith, far); below = h } in
+            not_after (bits_of n a (scaled_bits binary64 (m + 1) k) (nearest_above binary64 n a m k A just (omega (arith, far))) read)
+        | inr h ↦
+            let mid = between_read (from_bits binary64 bits) (m * 2 ^ k) (2 ^ low binary64) n a ((m + 1) * 2 ^ k) (2 ^ low binary64) pos (pow_pos (low binary64)) A (pow_pos (low binary64))
+            (mul-le-mul_right (2 ^ low binary64) (mul-le-mul_right (2 ^ k) (upper m))) (last n (2 ^ low binary64) (m + 1) (2 ^ k) a h) value_reads read in
+            not_after (bits_of ((m + 1) * 2 ^ k) (2 ^ low binary64) (scaled_bits binary64 (m + 1) k)
+            (exactly ((m + 1) * 2 ^ k) (2 ^ low binary64) (m + 1) k (pow_pos (low binary64)) (regroup (m + 1) (2 ^ k) (2 ^ low binary64)) (omega arith) (λ K. omega (arith, normal K))) mid)
+      ]
+    where
+      upper : (q : ℕ) → q ≤ q + 1
+      upper q = omega arith
+
+      last : (n l p t a : ℕ) → p * (a * t) ≤ n * l → p * t * a ≤ n * l
+      last n l p t a h = omega (arith, h)
 
       regroup : (a b c : ℕ) → a * b * c ≡ a * (c * b)
       regroup a b c = omega arith

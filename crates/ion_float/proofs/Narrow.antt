@@ -1,11 +1,13 @@
 -- A float in the narrower format.
-use Rattle.std.proofs.Common.{◌≡◌, ℕ, zero, suc, ◌+◌, ◌-◌, ◌*◌, ◌/◌, ◌%◌, ◌^◌, ◌<◌, ◌≤◌, ℤ, pos, negsuc, Bool, true, false, cond, if◌then◌else◌, ◌&&◌, T, not, inl, inr, refl, sym, ap, ◌∙◌, subst, arith, pow-add, pow_pos, Some, None, w32, w64, from_bits}
+use Rattle.std.proofs.Common.{◌≡◌, ℕ, zero, suc, ◌+◌, ◌-◌, ◌*◌, ◌/◌, ◌%◌, ◌^◌, ◌<◌, ◌≤◌, ℤ, pos, negsuc, Bool, true, false, cond, if◌then◌else◌, ◌&&◌, T, not, inl, inr, take, refl, sym, ap, ◌∙◌, subst, arith, pow-add, pow_pos, Some, None, w32, w64, from_bits}
 use Rattle.std.specs.Int.{to_be_bytes}
 use Rattle.ion_value.proofs.FloatBits.{is_nan-nan}
 use Rattle.ion_value.specs.FloatOctets.{positive_zero, is_positive_zero, float_octets}
 use mathlib.Core.Bool.{true≢false}
 use Rattle.std.proofs.Math.Nat.{eq_of_mul-eq-mul_right}
 use Rattle.std.proofs.lemmas.Bool.{cases_Bool, cases_lt, eqb-true}
+use Rattle.std.proofs.lemmas.Nat.{div-mul-add}
+use lib.Ieee.Digits.{size-le}
 use lib.Pow.{pow-lt}
 use native.Mathlib.Nat.{mul-lt-mul_of_pos_right}
 use lib.Dec.{lt→ltb, eqb, ltb, leb, ltb→lt, leb→le}
@@ -152,6 +154,50 @@ narrowed_none x y bits e same other =
       | inr h ↦ rw h refl
     ]
 
+last_bits : (s : Bool) (m j w : ℕ) → m < 2 ^ 24 → 925 ≤ j → w ≡ m * 2 ^ j → (cond s (2 ^ 63) 0 + (size w - 53) * 2 ^ 52 + w / 2 ^ (size w - 53)) % 2 ^ 29 ≡ 0
+last_bits s m j w few least e =
+    let d = size w - 53 in
+    let under : w < 2 ^ (24 + j) = omega (arith, e, mul-lt-mul_of_pos_right few (pow_pos j), pow-add 2 24 j) in
+    let most : size w ≤ 24 + j = size-le w (24 + j) under in
+    let i = j - d - 29 in
+    let sum : 29 + i + d ≡ j = omega (arith, most, least) in
+    let powers : 2 ^ j ≡ 2 ^ 29 * 2 ^ i * 2 ^ d = ap (λ (z : ℕ). 2 ^ z) (sym sum) ∙ pow-add 2 (29 + i) d ∙ ap (λ (z : ℕ). z * 2 ^ d) (pow-add 2 29 i) in
+    let whole : w ≡ m * 2 ^ i * 2 ^ 29 * 2 ^ d + 0 = omega (arith, e, ap (λ (z : ℕ). m * z) powers) in
+    let cut : w / 2 ^ d ≡ m * 2 ^ i * 2 ^ 29 = ap (λ (z : ℕ). z / 2 ^ d) whole ∙ div-mul-add (m * 2 ^ i * 2 ^ 29) (2 ^ d) 0 (pow_pos d) in
+    elim s as (λ (b : Bool). (cond b (2 ^ 63) 0 + d * 2 ^ 52 + w / 2 ^ d) % 2 ^ 29 ≡ 0) [ true ↦ omega (arith, cut) | false ↦ omega (arith, cut) ]
+
+last_bits_fin : (s : Bool) (m : ℕ) (e : ℤ) (j : ℕ) → m < 2 ^ 24 → 925 ≤ j → m * up e * 2 ^ 1074 ≡ m * 2 ^ j * down e + 0 → to_bits binary64 (fin s m e) % 2 ^ 29 ≡ 0
+unfolding to_bits
+last_bits_fin s m e j few least same =
+    last_bits s m j (m * up e * 2 ^ 1074 / down e) few least
+    (ap (λ (z : ℕ). z / down e) same ∙ div-mul-add (m * 2 ^ j) (down e) 0 (down_pos e))
+
+-- what the narrower format holds ends in zeros in the wider one
+narrow_last : (x : Float) → T (fits binary32 x) → to_bits binary64 x % 2 ^ 29 ≡ 0
+unfolding to_bits
+narrow_last nan h = refl
+narrow_last (inf true) h = refl
+narrow_last (inf false) h = refl
+narrow_last (fin s zero e) h = last_bits_fin s zero e 925 (omega arith) (omega arith) (omega arith)
+narrow_last (fin s (suc m) (pos k)) h =
+    let z = holds binary32 s m (pos k) h in
+    last_bits_fin s (suc m) (pos k) (1074 + k) z.few (omega arith) (omega (arith, ap (λ (z : ℕ). suc m * z) (pow-add 2 1074 k)))
+narrow_last (fin s (suc m) (negsuc k)) h =
+    let z = holds binary32 s m (negsuc k) h in
+    let fine : suc k ≤ 149 = less_than (suc k) 149 z.fine in
+    let j = 1074 - suc k in
+    let sum : j + suc k ≡ 1074 = omega (arith, fine) in
+    last_bits_fin s (suc m) (negsuc k) j z.few (omega (arith, fine))
+    (omega (arith, ap (λ (z : ℕ). suc m * z) (sym (pow-add 2 j (suc k)) ∙ ap (λ (z : ℕ). 2 ^ z) sum)))
+
+pub narrowed_by_last : (x : Float) (bits : ℕ) → bits ≡ to_bits binary64 x → ¬ (bits % 2 ^ 29 ≡ 0)
+    → None ≡ (if fits binary32 x then Some (to_bits binary32 x) else None)
+narrowed_by_last x bits e other =
+    elim (cases_Bool (fits binary32 x)) [
+      | inl h ↦ absurd (other (ap (λ (n : ℕ). n % 2 ^ 29) e ∙ narrow_last x (subst T (sym h) tt)))
+      | inr h ↦ rw h refl
+    ]
+
 -- above the bits of infinity there is no number
 pub narrow_above : (bits : ℕ) → 2139095040 < bits % 2147483648 → nan ≡ from_bits binary32 bits
 narrow_above bits h =
@@ -200,6 +246,16 @@ four_octets x bits n b e z h =
 
     some_none : {a : ℕ} → Some a ≡ None → ⊥
     some_none h = cc
+
+-- four octets at the front of eight
+pub four_first : (n : ℕ) → take 4 (to_be_bytes w64 (n * 2 ^ 32 % 2 ^ 64)) ≡ to_be_bytes w32 n
+four_first n =
+    let m : ℕ = n * 2 ^ 32 % 2 ^ 64 in
+    let a : m / 256 ^ 7 % 256 ≡ n / 256 ^ 3 % 256 = omega arith in
+    let b : m / 256 ^ 6 % 256 ≡ n / 256 ^ 2 % 256 = omega arith in
+    let c : m / 256 ^ 5 % 256 ≡ n / 256 ^ 1 % 256 = omega arith in
+    let d : m / 256 ^ 4 % 256 ≡ n % 256 = omega arith in
+    rw (a, b, c, d) refl
 
 pub eight_octets : (x : Float) (bits n : ℕ) → bits ≡ to_bits binary64 x → from_bits binary64 bits ≡ x → ¬ (bits ≡ 0)
     → None ≡ (if fits binary32 x then Some (to_bits binary32 x) else None) → n ≡ to_bits binary64 x → to_be_bytes w64 n ≡ float_octets x

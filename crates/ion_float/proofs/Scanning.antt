@@ -9,7 +9,7 @@ use Rattle.std.specs.Float.Numeral.{Parts, digits_len, digits_end, exponent_star
 use Rattle.ion_value.specs.Digits.{is_digit, all_are}
 use Rattle.ion_value.specs.FloatText.{is_float_mark}
 
--- ---- digits, behind what stands in front of them
+-- ---- digits, after what stands in front of them
 
 digits_len-append : (ds rest : List ℕ) → all_are is_digit ds ≡ true → digits_len (ds ++ rest) ≡ length ds + digits_len rest
 digits_len-append [] rest h = omega arith
@@ -24,13 +24,13 @@ run-end front ds rest i at digits ends = rw (drop_at front (ds ++ rest) i at) (o
 run-is : (front ds rest : List ℕ) (i : ℕ) → length front ≡ i → slice_range (front ++ (ds ++ rest)) i (i + length ds) ≡ ds
 run-is front ds rest i at = rw (drop_at front (ds ++ rest) i at) (take_at ds rest (i + length ds - i) (omega arith))
 
-byte-behind : (front rest : List ℕ) (i k : ℕ) → length front ≡ i → get_or (front ++ rest) (i + k) 0 ≡ get_or rest k 0
-byte-behind front rest i k at = rw (← at) (get_or-append-add front rest k 0)
+byte-after : (front rest : List ℕ) (i k : ℕ) → length front ≡ i → get_or (front ++ rest) (i + k) 0 ≡ get_or rest k 0
+byte-after front rest i k at = rw (← at) (get_or-append-add front rest k 0)
 
 byte-at : (front rest : List ℕ) (i : ℕ) → length front ≡ i → get_or (front ++ rest) i 0 ≡ get_or rest 0 0
 byte-at front rest i at =
     let none : i + 0 ≡ i = omega arith in
-    rw none at (byte-behind front rest i 0 at)
+    rw none at (byte-after front rest i 0 at)
 
 -- ---- the exponent
 
@@ -77,14 +77,14 @@ mark-no_digit c e = (grind (arith, nat_tests), grind (arith, nat_tests))
 exponent-tail : (front sign : List ℕ) (c d : ℕ) (ds : List ℕ) (b : ℕ) (negative : Bool) → IsSign sign negative → length front ≡ b → is_float_mark c ≡ true
     → all_are is_digit (d ∷ ds) ≡ true → Tail (front ++ (c ∷ (sign ++ (d ∷ ds)))) b negative (d ∷ ds)
 exponent-tail front _ c d ds b _ none at mark digits =
-    let next : get_or (front ++ (c ∷ (d ∷ ds))) (b + 1) 0 ≡ d = byte-behind front (c ∷ (d ∷ ds)) b 1 at in
+    let next : get_or (front ++ (c ∷ (d ∷ ds))) (b + 1) 0 ≡ d = byte-after front (c ∷ (d ∷ ds)) b 1 at in
     let other = digit-no_sign d (and_parts (is_digit d) (all_are is_digit ds) digits).0 in
     tail front [] c d ds b false at mark digits (rw (next, other.0, other.1) (omega arith)) (rw next other.0)
 exponent-tail front _ c d ds b _ plus at mark digits =
-    let next : get_or (front ++ (c ∷ (43 ∷ (d ∷ ds)))) (b + 1) 0 ≡ 43 = byte-behind front (c ∷ (43 ∷ (d ∷ ds))) b 1 at in
+    let next : get_or (front ++ (c ∷ (43 ∷ (d ∷ ds)))) (b + 1) 0 ≡ 43 = byte-after front (c ∷ (43 ∷ (d ∷ ds))) b 1 at in
     tail front (43 ∷ []) c d ds b false at mark digits (rw next (omega arith)) (rw next refl)
 exponent-tail front _ c d ds b _ minus at mark digits =
-    let next : get_or (front ++ (c ∷ (45 ∷ (d ∷ ds)))) (b + 1) 0 ≡ 45 = byte-behind front (c ∷ (45 ∷ (d ∷ ds))) b 1 at in
+    let next : get_or (front ++ (c ∷ (45 ∷ (d ∷ ds)))) (b + 1) 0 ≡ 45 = byte-after front (c ∷ (45 ∷ (d ∷ ds))) b 1 at in
     tail front (45 ∷ []) c d ds b true at mark digits (rw next (omega arith)) (rw next refl)
 
 -- ---- the whole
@@ -131,8 +131,8 @@ scan-pointed whole fraction sign c d ds negative s w f mark digits =
     let cut : dotted ++ (fraction ++ rest) ≡ bs = append_assoc whole (46 ∷ []) (fraction ++ rest) in
     let front : (whole ++ (46 ∷ fraction)) ++ rest ≡ bs = append_assoc whole (46 ∷ fraction) rest in
     let b = a + 1 + length fraction in
-    let behind : length (whole ++ (46 ∷ fraction)) ≡ b = omega (arith, length-append whole (46 ∷ fraction)) in
+    let after : length (whole ++ (46 ∷ fraction)) ≡ b = omega (arith, length-append whole (46 ∷ fraction)) in
     scan-is bs whole fraction (d ∷ ds) true negative a b (run-end [] whole (46 ∷ (fraction ++ rest)) 0 refl w refl) (rw (byte-at whole (46 ∷ (fraction ++ rest)) a at) refl)
     (rw cut at (run-end dotted fraction rest (a + 1) long f ends)) (run-is [] whole (46 ∷ (fraction ++ rest)) 0 refl)
     (rw cut at (run-is dotted fraction rest (a + 1) long))
-    (rw front at (exponent-tail (whole ++ (46 ∷ fraction)) sign c d ds b negative s behind mark digits))
+    (rw front at (exponent-tail (whole ++ (46 ∷ fraction)) sign c d ds b negative s after mark digits))

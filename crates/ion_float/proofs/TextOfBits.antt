@@ -1,48 +1,41 @@
 -- The text of a float by its bits.
-use Rattle.std.proofs.Common.{◌≡◌, ℕ, zero, suc, ◌+◌, ◌-◌, ◌*◌, ◌/◌, ◌%◌, ◌^◌, ◌<◌, ◌≤◌, ◌≢◌, pos, negsuc, neg_ℤ, w32, SFits, to_z, of_z, append_assoc, ◌≤ℤ◌, ℤ, Bool, true, false, cond, T, List, [], ◌∷◌, ◌++◌, length, codes, from_bits, inl, inr, refl, sym, ap, ◌∙◌, subst, arith}
+use Rattle.std.proofs.Common.{◌≡◌, ℕ, zero, suc, ◌+◌, ◌-◌, ◌*◌, ◌/◌, ◌%◌, ◌^◌, ◌<◌, ◌≤◌, ◌≢◌, pos, negsuc, neg_ℤ, w32, SFits, to_z, of_z, ◌≤ℤ◌, ℤ, Bool, true, false, cond, T, List, [], ◌∷◌, ◌++◌, length, codes, from_bits, inl, inr, refl, sym, ap, ◌∙◌, subst, arith}
 use mathlib.Core.Bool.{true≢false}
 use native.Mathlib.Nat.{eq-zero-or-pos}
 use Rattle.std.specs.Fmt.{decimal, signed_decimal}
 use Rattle.std.proofs.lemmas.Fmt.{length-decimal-le, length_signed_le}
 use Rattle.std.proofs.lemmas.Int.{ints, to_z-of_z}
 use Rattle.ion_value.proofs.TextDecimals.{spells}
-use Rattle.std.proofs.lemmas.List.{length-append}
-use lib.Signed.{mag}
-use Rattle.ion_value.specs.Decimal.{integer_text}
 use lib.Dec.{leb, eqb, le→leb}
 use lib.Ieee.{Float, nan, inf, fin, Format, binary64, prec, low, hid, top, ones, odd, is_nan, of_fields, of_bits, to_bits}
 use lib.Ieee.Bits.{to_bits-of_bits, nan_bits_is, nan_bits_above, is_true}
 use lib.Ieee.Positive.{positive}
-use Rattle.std.proofs.lemmas.Bool.{cases_lt, ltb-false, leb-true, false_from_ne_true}
+use Rattle.std.proofs.lemmas.Bool.{cases_lt, lt-ltb, leb-true, false_from_ne_true}
 use Rattle.std.specs.Float.{float_with_sign}
 use Rattle.ion_value.specs.Shortest.{IsAboveZero, near, reads_as, search, shortest}
-use Rattle.ion_value.specs.FloatText.{pointed, digits_text, float_text}
+use Rattle.ion_value.specs.FloatText.{digits_text, float_text}
 use Rattle.ion_value.proofs.FloatBits.{infinite-bits, below-bits, nan_above, nan_there}
 use Rattle.ion_float.proofs.Between.{positive-number}
 use Rattle.ion_float.proofs.Reading.{is-positive}
 
 -- ---- no number, and infinities
 
-pub no_number : (x : Float) → is_nan x ≡ true → codes "nan" ≡ float_text x
+no_number : (x : Float) → is_nan x ≡ true → codes "nan" ≡ float_text x
 unfolding is_nan
 no_number nan h = refl
 no_number (inf s) h = absurd (true≢false (sym h))
 no_number (fin s m e) h = absurd (true≢false (sym h))
+
+pub no_number-bits : (x : Float) (bits : ℕ) → from_bits binary64 bits ≡ x → bits < 2 ^ 64 → 2047 * 2 ^ 52 ≤ bits % 2 ^ 63 → bits ≢ 9218868437227405312 → bits ≢ 18442240474082181120 → codes "nan" ≡ float_text x
+no_number-bits x bits e fits least a b =
+    let above : ones binary64 * hid binary64 < bits % top binary64 = omega arith in
+    no_number x (ap is_nan (sym e) ∙ sym (nan_bits_is binary64 bits) ∙ nan_bits_above binary64 bits ∙ lt-ltb (ones binary64 * hid binary64) (bits % top binary64) above)
 
 pub infinite : (x : Float) (bits : ℕ) → from_bits binary64 bits ≡ x → bits ≡ 9218868437227405312 → codes "+inf" ≡ float_text x
 infinite x bits e b = ap float_text (sym infinite-bits ∙ ap (from_bits binary64) (sym b) ∙ e)
 
 pub infinite_below : (x : Float) (bits : ℕ) → from_bits binary64 bits ≡ x → bits ≡ 18442240474082181120 → codes "-inf" ≡ float_text x
 infinite_below x bits e b = ap float_text (sym below-bits ∙ ap (from_bits binary64) (sym b) ∙ e)
-
--- ---- finite floats
-
-pub finite-bits : (x : Float) (bits : ℕ) → from_bits binary64 bits ≡ x → is_nan x ≡ false → bits < 2 ^ 64 → bits ≢ 9218868437227405312 → bits ≢ 18442240474082181120
-    → bits % 2 ^ 63 < 2047 * 2 ^ 52
-finite-bits x bits e number fits a b =
-    let test = sym (nan_bits_above binary64 bits) ∙ nan_bits_is binary64 bits ∙ ap is_nan e ∙ number in
-    let most : bits % 2 ^ 63 ≤ 2047 * 2 ^ 52 = ltb-false (ones binary64 * hid binary64) (bits % top binary64) test in
-    omega arith
 
 -- ---- the sign
 
@@ -192,20 +185,11 @@ digits-short n h = length-decimal-le 17 n (omega arith) h (omega arith)
 pub digits-some : (n : ℕ) → n < 10 ^ 17 → 1 ≤ length (decimal n)
 digits-some n h = (spells n (omega arith)).some
 
-pub behind-nothing : (old text new : List ℕ) → old ≡ [] → new ≡ old ++ text → new ≡ text
-behind-nothing old text new e h = rw e at h
+pub after-nothing : (old text new : List ℕ) → old ≡ [] → new ≡ old ++ text → new ≡ text
+after-nothing old text new e h = rw e at h
 
 -- ---- what is pushed
 
 pub exponent-passed : (z : ℤ) (text : List ℕ) → SFits w32 z → neg_ℤ (pos 342) ≤ℤ z → z ≤ℤ pos 325 → text ≡ signed_decimal (to_z w32 (of_z w32 z)) → length text ≤ 4
 exponent-passed z text fits l h e =
     subst (λ (t : List ℕ). length t ≤ 4) (sym (e ∙ ap signed_decimal (to_z-of_z w32 z fits))) (exponent-short z l h)
-
-pub number-written : (old ds pushed new : List ℕ) (z e : ℤ) → mag z < 2 ^ 31 → pushed ≡ old ++ pointed ds
-    → new ≡ pushed ++ (101 ∷ integer_text (to_z w32 (of_z w32 z))) → z ≡ e → new ≡ old ++ (pointed ds ++ (101 ∷ integer_text e))
-number-written old ds pushed new z e fits p n same =
-    n ∙ ap (λ (y : ℤ). pushed ++ (101 ∷ integer_text y)) (to_z-of_z w32 z (record { sfits = fits }) ∙ same)
-    ∙ ap (λ (t : List ℕ). t ++ (101 ∷ integer_text e)) p ∙ append_assoc old (pointed ds) (101 ∷ integer_text e)
-
-pub room-left : (old pushed text : List ℕ) (b : ℕ) → length old ≤ 19 → pushed ≡ old ++ b ∷ [] → length text ≤ 4 → length pushed + length text ≤ 24
-room-left old pushed text b room e short = rw e (omega (arith, length-append {A = ℕ}))

@@ -61,16 +61,16 @@ range-other false d h = cc
 abbrev refusal : Bool → Result Decimal Reason
 refusal e = if e then Err reason.Float else Err BadToken
 
-behind-decimal : (e : Bool) → refusal e ≡ Err reason.Float → e ≡ true
-behind-decimal true h = refl
-behind-decimal false h = absurd (cc)
+after-decimal : (e : Bool) → refusal e ≡ Err reason.Float → e ≡ true
+after-decimal true h = refl
+after-decimal false h = absurd (cc)
 
 refused-left : (m d f e : Bool) (r : Result Decimal Reason) → (r ≡ Err reason.Float → ⊥)
     → (if m && (d || f) then r else (if m && e then Err reason.Float else Err BadToken)) ≡ Err reason.Float → (m ≡ true) × (d ≡ false) × (e ≡ true)
-refused-left false d f e r other h = absurd (true≢false (sym (behind-decimal false h)))
+refused-left false d f e r other h = absurd (true≢false (sym (after-decimal false h)))
 refused-left true true f e r other h = absurd (other h)
 refused-left true false true e r other h = absurd (other h)
-refused-left true false false e r other h = (refl, refl, behind-decimal e h)
+refused-left true false false e r other h = (refl, refl, after-decimal e h)
 
 pub refused-float : (negative : Bool) (p : Parts) → decimal_of_parts negative p ≡ Err reason.Float → is_float p ≡ true
 refused-float negative p h =

@@ -16,7 +16,7 @@ use std::marker::Model;
 // They hold 2,176 bits, and the greatest number that occurs is below 2^54 · 2^971 · 10^342.
 const LIMBS: usize = 34;
 
-// The limb at this index, or 0 behind the last.
+// The limb at this index, or 0 after the last.
 #[inline]
 fn limb_at(limbs: &[u64], index: usize) -> u64
     ensures { result ≡ slice_index limbs.now index }

@@ -2,7 +2,7 @@
 ghost use Rattle.std.specs.Prelude.{◌≡◌, ◌<◌, ◌≤◌, ◌^◌, ◌↔◌, IsTrue};
 ghost use Rattle.ion_value.specs.Shortest.{IsAboveZero, IsTaken, NoneAbove, reads, shortest};
 
-use crate::bounds::is_surely_nearest;
+use crate::bounds::{is_surely_nearest, is_surely_shortest};
 use crate::exact::Ratio;
 use crate::guess::guess;
 use fast_float::nearest_bits;
@@ -28,9 +28,11 @@ pub fn shortest(bits: u64) -> Digits
     ensures few { result.digits < 10 ^ 17 }
     ensures row { result.row < 651 }
 {
-    match guess(bits) {
-        Some(found) if is_shortest(found, bits) => found,
-        _ => search_down(bits),
+    let found = guess(bits);
+    if is_shortest(found, bits) {
+        found
+    } else {
+        search_down(bits)
     }
 }
 
@@ -43,10 +45,27 @@ fn is_shortest(found: Digits, bits: u64) -> bool
     ensures row { IsTrue result → found.row < 651 }
 {
     let Digits { digits, row } = found;
-    if digits >= MOST || row > 650 || !reads_back(digits, row, bits) {
+    if digits >= MOST || row > 650 {
         return false;
     }
-    is_last_row(digits, row, bits) && is_taken(digits, row, bits)
+    if is_surely_shortest(digits, row, bits) {
+        return true;
+    }
+    is_shortest_exactly(digits, row, bits)
+}
+
+// The answer by tests that leave nothing open, which few decimals need.
+#[cold]
+#[inline(never)]
+fn is_shortest_exactly(digits: u64, row: u32, bits: u64) -> bool
+    requires above_zero { IsAboveZero bits }
+    requires sizes { (digits < 10 ^ 17) × (row < 651) }
+    ensures { IsTrue result ↔ ((digits, row) ≡ shortest bits) }
+{
+    if !reads_back(digits, row, bits) || !is_last_row(digits, row, bits) {
+        return false;
+    }
+    is_taken(digits, row, bits)
 }
 
 // Whether this decimal reads as the double with these bits.

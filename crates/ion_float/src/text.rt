@@ -1,5 +1,5 @@
 //! Floats in text.
-ghost use Rattle.std.specs.Prelude.{◌≡◌, ◌+◌, ◌*◌, ◌%◌, ◌^◌, ◌<◌, ◌≤◌, ◌≤ℤ◌, neg_ℤ, pos, ◌∷◌, ◌++◌, length, IsAscii, from_bits};
+ghost use Rattle.std.specs.Prelude.{◌≡◌, ◌+◌, ◌*◌, ◌%◌, ◌^◌, ◌<◌, ◌≤◌, ◌-ℤ◌, ◌≤ℤ◌, neg_ℤ, pos, ◌∷◌, ◌++◌, length, IsAscii, from_bits};
 ghost use Rattle.std.specs.Float.{binary64};
 ghost use Rattle.arrayvec.specs.ArrayString.{array_string_len};
 ghost use Rattle.ion_value.specs.Decimal.{integer_text};
@@ -28,14 +28,14 @@ pub fn float_to_text(float: Float64) -> ArrayString<24>
 {
     let mut text = ArrayString::new();
     let bits = float.bits();
-    if float.is_nan() {
-        text.push_str("nan");
+    if bits % SIGN < INFINITY {
+        push_finite(&mut text, bits);
     } else if bits == INFINITY {
         text.push_str("+inf");
     } else if bits == SIGN + INFINITY {
         text.push_str("-inf");
     } else {
-        push_finite(&mut text, bits);
+        text.push_str("nan");
     }
     text
 }
@@ -80,32 +80,39 @@ fn push_number(text: &mut ArrayString<24>, number: Digits)
     let mut buffer = Buffer::new();
     let digits = buffer.format(number.digits);
     push_pointed(text, digits);
-    push_exponent(text, exponent(digits.len(), number.row));
+    // With the point after the first digit.
+    push_exponent(text, number.row + (digits.len() - 1) as u32);
 }
 
-// The exponent of so many digits whose last counts ten to the row less 342, with the point after
-// the first.
+// Adds an `e` and the exponent of a row, which is less by 342.
 #[inline]
-fn exponent(count: usize, row: u32) -> i32
-    requires some { 1 ≤ count }
-    requires few { count ≤ 17 }
-    requires row { row < 651 }
-    ensures value { result ≡ exponent_of count row }
-    ensures least { neg_ℤ (pos 342) ≤ℤ result }
-    ensures most { result ≤ℤ pos 325 }
-{
-    count as i32 + row as i32 - 343
-}
-
-// Adds an `e` and an exponent.
-#[inline]
-fn push_exponent(text: &mut ArrayString<24>, exponent: i32)
+fn push_exponent(text: &mut ArrayString<24>, row: u32)
     requires room { array_string_len text.old ≤ 19 }
-    requires least { neg_ℤ (pos 342) ≤ℤ exponent }
-    requires most { exponent ≤ℤ pos 325 }
-    ensures { text.new.bytes ≡ text.old.bytes ++ (101 ∷ integer_text exponent) }
+    requires most { row ≤ 667 }
+    ensures { text.new.bytes ≡ text.old.bytes ++ (101 ∷ integer_text (pos row -ℤ pos 342)) }
 {
     text.push('e');
+    // Most have one digit.
+    let above = row.wrapping_sub(342);
+    let below = 342_u32.wrapping_sub(row);
+    if above < 10 {
+        text.push((b'0' + above as u8) as char);
+    } else if below < 10 {
+        text.push('-');
+        text.push((b'0' + below as u8) as char);
+    } else {
+        push_long_exponent(text, row as i32 - 342);
+    }
+}
+
+// Adds an exponent of any length.
+#[inline(never)]
+fn push_long_exponent(text: &mut ArrayString<24>, exponent: i32)
+    requires room { array_string_len text.old ≤ 20 }
+    requires least { neg_ℤ (pos 342) ≤ℤ exponent }
+    requires most { exponent ≤ℤ pos 325 }
+    ensures { text.new.bytes ≡ text.old.bytes ++ integer_text exponent }
+{
     let mut buffer = Buffer::new();
     text.push_str(buffer.format(exponent));
 }

@@ -23,7 +23,7 @@ use Rattle.ion_text_in.specs.Places.{run_of, after_run}
 use Rattle.ion_text_in.specs.Quoted.{short_quote, long_quote, text_at}
 use Rattle.ion_text_in.specs.Token.{Token, plain, first_at, token_of}
 use Rattle.ion_text_in.specs.Meaning.{Limit, Allows, IsBase64, at, solid, BlobText, BlobsAreBase64, Base64IsRead}
-use Rattle.ion_text_in.proofs.WentWell.{went, passed}
+use Rattle.ion_value.proofs.WentWell.{went, passed}
 use Rattle.ion_text_in.proofs.Meaning.{all-append, allowed, allows-fewer, skip-prefix, run-more, run-none}
 use Rattle.ion_value.specs.Digits.{first_is, all_are}
 use Rattle.ion_value.specs.Name.{begins_with}

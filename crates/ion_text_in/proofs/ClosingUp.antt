@@ -16,7 +16,7 @@ pub record Moves (run old : List ℕ) (count place : ℕ) : Type 0 where
 both-tails : (a b : ℕ) (xs ys : List ℕ) → a ∷ xs ≡ b ∷ ys → (a ≡ b) × (xs ≡ ys)
 both-tails a b xs ys h = (cc, cc)
 
--- the byte at a place, and what stands behind it
+-- the byte at a place, and what stands after it
 next : (run old : List ℕ) (place : ℕ) → length run ≡ length old → place < length run → drop place run ≡ drop place old
     → (get_or run place 0 ≡ get_or old place 0) × (drop (suc place) run ≡ drop (suc place) old)
 next run old place size within rest =

@@ -30,7 +30,7 @@ use Rattle.ion_text_in.specs.declared.word.Word.TheVariants as word
 use Rattle.ion_text_in.specs.Waiting.{IsOfNoTable, DeclaresNone, NoneIsDeclared}
 use Rattle.ion_text_in.proofs.RunTokens.{if-scalar}
 use Rattle.ion_text_in.proofs.SegmentTexts.{text-first}
-use Rattle.ion_text_in.proofs.WentWell.{if-any, if-passed, if-then}
+use Rattle.ion_value.proofs.WentWell.{if-any, if-passed, if-then}
 
 abbrev is_dollar : ℕ → Bool
 is_dollar b = b == 36

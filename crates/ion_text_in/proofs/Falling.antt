@@ -25,7 +25,7 @@ use Rattle.ion_text_in.proofs.Advancing.{tok-took}
 use Rattle.ion_text_in.proofs.Shrinking.{Passed, Past, skip-within, blanks-pass, blanks-within, token-past}
 use Rattle.ion_text_in.proofs.Steps.{tok-read, colons-after}
 use Rattle.ion_text_in.proofs.TokenCuts.{Cut, same, limit, bind-Cut, Short, token_counts, token-cut}
-use Rattle.ion_text_in.proofs.WentWell.{part-known}
+use Rattle.ion_value.proofs.WentWell.{part-known}
 
 -- ---- what a step leaves
 

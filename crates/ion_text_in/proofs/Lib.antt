@@ -3,7 +3,6 @@ mod Steps
 mod Shrinking
 mod Falling
 pub mod Sound
-mod WentWell
 mod TokenLimits
 mod Tokens
 mod Advancing

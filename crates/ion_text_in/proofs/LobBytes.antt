@@ -20,7 +20,7 @@ use Rattle.ion_text_in.specs.Meaning.{IsRawScalar}
 use Rattle.ion_text_in.specs.Quoted.{Quote, short_quote, long_quote, Piece, Hex, number, no_digit, cut_digits, hex_after, byte_code, letter, coded, by_letter, escape, is_raw, raw, piece_at}
 use Rattle.ion_text_in.proofs.DecodedBytes.{decoded-bytes}
 use Rattle.ion_text_in.proofs.Shrinking.{Joins, PieceHas, LobOf, lob-is}
-use Rattle.ion_text_in.proofs.WentWell.{if-either, if-more}
+use Rattle.ion_value.proofs.WentWell.{if-either, if-more}
 
 -- ---- pieces of a clob
 

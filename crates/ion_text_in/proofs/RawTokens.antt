@@ -41,7 +41,7 @@ use Rattle.ion_text_in.proofs.RunTokens.{if-scalar}
 use Rattle.ion_text_in.proofs.Shrinking.{Any, SizedAt, Sized, any-pieces, text-sized}
 use Rattle.ion_text_in.proofs.TokenBegins.{what-begins}
 use Rattle.ion_text_in.proofs.Tokens.{tok-stands}
-use Rattle.ion_text_in.proofs.WentWell.{if-any, if-then, if-passed, if-either, if-more}
+use Rattle.ion_value.proofs.WentWell.{if-any, if-then, if-passed, if-either, if-more}
 
 -- ---- runs
 

@@ -1,5 +1,5 @@
 -- What is read is permitted: a float only where floats are read.
-use Rattle.std.proofs.Common.{◌≡◌, ℕ, zero, suc, Bool, true, false, not, nat_le, nat_lt, sum_by, List, [], ◌∷◌, ◌++◌, length, Option, Some, None, Result, Ok, Err, refl}
+use Rattle.std.proofs.Common.{◌≡◌, ℕ, suc, Bool, true, false, not, nat_le, nat_lt, sum_by, List, [], ◌∷◌, ◌++◌, length, Option, Some, None, Result, Ok, Err, refl}
 use Rattle.std.specs.Result.{IfOk}
 use lib.Ieee.{Float}
 use Rattle.ion_meter.specs.Sources.{Cursor, skip}
@@ -15,12 +15,12 @@ use Rattle.ion_value.specs.Decimal.{decimal_of_text}
 use Rattle.ion_value.specs.Int.{int_of_text}
 use Rattle.ion_value.specs.Name.{Keyword, a_null, a_bool, keyword}
 use Rattle.ion_value.specs.Parts.{Placed, part, refuse, ◌>>=◌, ◌>>◌}
-use Rattle.ion_value.specs.Reading.{Reading, Step, Ends, Stops, Gives, GoesOn, items_of, next_reading, reading_for}
-use Rattle.ion_value.specs.ReadingLaws.{IsPermitted, HeadIsPermitted, ArePermitted}
+use Rattle.ion_value.specs.Reading.{Step, Gives, items_of}
+use Rattle.ion_value.specs.ReadingLaws.{IsPermitted, ArePermitted}
 use Rattle.ion_value.specs.Scalar.{scalar_of_run, scalar_of_readings}
 use Rattle.ion_value.specs.Timestamp.{timestamp_of_text}
 use Rattle.ion_value.specs.Value as value
-use Rattle.ion_value.specs.Value.{Symbol, SymbolAt, Scalar}
+use Rattle.ion_value.specs.Value.{SymbolAt}
 use Rattle.ion_text_in.specs.Blanks.{blanks}
 use Rattle.ion_text_in.specs.Limit.{passes}
 use Rattle.ion_text_in.specs.Lob.{lob_at}
@@ -31,7 +31,8 @@ use Rattle.ion_text_in.specs.Reading.{after_colons, may_come, part_at, size, sta
 use Rattle.ion_text_in.specs.Token.{First, a_colon, a_run, a_word, a_quoted, a_short, a_long, a_lob, an_operator, an_infinity, Token, plain, float, name, text, operator, begin, end, comma, by_keyword, bytes_of, counted, first_at, in_operator, in_run, run_token, token_of, word_of, word_token}
 use Rattle.ion_text_in.proofs.LobBytes.{lob-raw}
 use Rattle.ion_text_in.proofs.RunTokens.{if-scalar}
-use Rattle.ion_text_in.proofs.WentWell.{if-any, if-passed, if-then}
+use Rattle.ion_value.proofs.Permitted.{GivesPermitted, reading-permitted}
+use Rattle.ion_value.proofs.WentWell.{if-any, if-passed, if-then}
 
 -- ---- tokens
 
@@ -73,11 +74,6 @@ token-none limit an_infinity c = if-passed _ (passes limit 4) ScalarLimit _ (λ 
 token-none limit mark c = tt
 
 -- ---- steps
-
--- the item that a step gives is permitted
-abbrev GivesPermitted : Rules → Step State → Type 0
-GivesPermitted limits (Gives item after) = HeadIsPermitted limits item.head
-GivesPermitted limits o = Unit {0}
 
 module _ (limits : Rules) where
   abbrev Fine : Placed (Step State) → Type 0
@@ -174,16 +170,6 @@ module _ (limits : Rules) where
 
   -- ---- what is read
 
-  next-permitted : (f : State → Reading) (o : Step State) → GivesPermitted limits o → ((s : State) → ArePermitted limits (items_of (f s))) → ArePermitted limits (items_of (next_reading f o))
-  next-permitted f Ends h more = tt
-  next-permitted f (Stops why place) h more = tt
-  next-permitted f (Gives item after) h more = (h, more after)
-  next-permitted f (GoesOn after) h more = more after
-
-  for-permitted : (n : ℕ) (s : State) → ArePermitted limits (items_of (reading_for (step limits) n s))
-  for-permitted zero s = tt
-  for-permitted (suc n) s = next-permitted (λ t. reading_for (step limits) n t) (step limits s) (step-permitted s) (λ t. for-permitted n t)
-
   pub read-permitted : (bytes : List ℕ) → ArePermitted limits (items_of (reading.reading limits bytes))
   unfolding reading.reading
-  read-permitted bytes = for-permitted (suc (size (start bytes))) (start bytes)
+  read-permitted bytes = reading-permitted limits (step limits) step-permitted (suc (size (start bytes))) (start bytes)

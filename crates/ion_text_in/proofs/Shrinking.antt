@@ -33,7 +33,7 @@ use Rattle.ion_text_in.specs.Token as tokens
 use Rattle.ion_text_in.specs.Token.{First, a_word, a_quoted, a_short, a_long, a_run, a_lob, an_operator, an_infinity, two_colons, no_token, Token, plain, name, text, operator, token_of, in_run, in_word, in_operator, bytes_of, word_of, counted, run_token, word_token}
 use Rattle.ion_text_in.proofs.RunTokens.{if-scalar}
 use Rattle.ion_text_in.proofs.TokenLimits.{CountsAll, run_token-counts, word_token-counts}
-use Rattle.ion_text_in.proofs.WentWell.{any-ok, if-then, if-passed, if-either, if-more, if-both}
+use Rattle.ion_value.proofs.WentWell.{any-ok, if-then, if-passed, if-either, if-more, if-both}
 
 -- no more is left at one cursor than at another
 abbrev pub NoLonger : Cursor → Cursor → Type 0

@@ -36,7 +36,7 @@ use Rattle.ion_text_in.specs.Token as tokens
 use Rattle.ion_text_in.specs.Token.{First, a_word, a_quoted, a_short, a_long, a_run, a_lob, an_operator, an_infinity, no_token, Token, plain, name, text, operator, bytes_of, in_run, in_operator, word_of, counted, token_of, run_token, word_token}
 use Rattle.ion_text_in.proofs.RunTokens.{scalar_token-blames}
 use Rattle.ion_text_in.proofs.TokenLimits.{got, CountsAll, run_token-counts, word_token-counts}
-use Rattle.ion_text_in.proofs.WentWell.{if-any, if-passed, if-more}
+use Rattle.ion_value.proofs.WentWell.{if-any, if-passed, if-more}
 
 -- ---- a result, or a limit's fault in its place
 

@@ -29,7 +29,7 @@ use Rattle.ion_text_in.specs.Grammar.{Tok}
 use Rattle.ion_text_in.proofs.RunTokens.{if-scalar}
 use Rattle.ion_text_in.proofs.TokenCuts.{token-exact}
 use Rattle.ion_text_in.proofs.TokenLimits.{got}
-use Rattle.ion_text_in.proofs.WentWell.{if-then, went, part-known, if-any, if-passed}
+use Rattle.ion_value.proofs.WentWell.{if-then, went, part-known, if-any, if-passed}
 
 -- ---- what a token's first bytes told
 

@@ -46,7 +46,7 @@ use Rattle.ion_text_in.proofs.RunTokens.{if-scalar}
 use Rattle.ion_text_in.proofs.Shrinking.{Any, LobOf, any-lob}
 use Rattle.ion_text_in.proofs.TokenLimits.{CountsAll, run_token-counts, word_token-counts}
 use Rattle.ion_text_in.proofs.Tokens.{tok-stands}
-use Rattle.ion_text_in.proofs.WentWell.{if-then, if-any}
+use Rattle.ion_value.proofs.WentWell.{if-then, if-any}
 
 all-more : {A : Type 0} (P Q : A → Type 0) → ((x : A) → P x → Q x) → (xs : List A) → AllByRecursion P xs → AllByRecursion Q xs
 all-more P Q more [] h = tt

@@ -325,7 +325,7 @@ impl<L: Layout, A: Allocator + Copy> LaidOut<L, A> {
         self.take_marked(sink, name, note, minus(negative), digits, b"")
     }
 
-    // A float.
+    // A float. Its text goes to no further call, which would move all that this one was given.
     #[inline(never)]
     fn take_float<O: Output>(
         &mut self,
@@ -338,7 +338,7 @@ impl<L: Layout, A: Allocator + Copy> LaidOut<L, A> {
             name.now note.now (float_text (value_of float)) }
     {
         let text = float_to_text(float);
-        self.take_text(sink, name, note, text.as_str().as_bytes())
+        self.take_marked(sink, name, note, b"", text.as_str().as_bytes(), b"")
     }
 
     // A decimal. It is in line, since what is handed to a call of its own would go by memory, which all ways

@@ -129,7 +129,7 @@ fn catalog_arg<'a>(alloc: Global) -> Arg<'a>
     Arg::new(alloc, "catalog")
         .long("catalog")
         .value_name("FILE")
-        .help("File of shared symbol tables, in either form")
+        .help("File of shared symbol tables, in either form, without floats")
 }
 
 /// The option `--floats`.

@@ -39,3 +39,4 @@ pub mod Passing
 pub mod GrowsWithin
 mod Words
 pub mod Handing
+pub mod WentWell

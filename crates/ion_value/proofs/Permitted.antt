@@ -1,10 +1,11 @@
 -- Where rules permit the items of a path, they permit its values, and the members of its open containers.
-use Rattle.std.proofs.Common.{◌≡◌, ◌∙◌, ℕ, true, List, [], ◌∷◌, ◌++◌, Option}
+use Rattle.std.proofs.Common.{◌≡◌, ◌∙◌, ℕ, zero, suc, true, List, [], ◌∷◌, ◌++◌, Option}
 use Rattle.std.specs.Bool.{⊤}
 use Rattle.std.specs.List.{AllByRecursion}
 use Rattle.ion_meter.specs.declared.profile.Rules.{Rules}
 use Rattle.ion_value.specs.declared.ion_type.Kind.{Kind}
 use Rattle.ion_value.specs.Path.{Path, closed, opened, Nest, outermost, inner, nest_items, path_items, open_in}
+use Rattle.ion_value.specs.Reading.{Reading, Step, Ends, Stops, Gives, GoesOn, items_of, next_reading, reading_for}
 use Rattle.ion_value.specs.ReadingLaws.{IsPermitted, ArePermitted, HeadIsPermitted}
 use Rattle.ion_value.specs.Value.{SymbolAt, Scalar, null, bool, int, float, decimal, timestamp, symbol, string, clob, blob, Head, whole, begin, end, marker, Value, Members, scalar, container, nothing, member, Top, version, tree, PlacedItem, value_items, member_items, one_top, top_items}
 
@@ -35,7 +36,7 @@ pub permitted-alike : (limits wide : Rules) → wide.floats ≡ limits.floats �
 permitted-alike limits wide same [] h = tt
 permitted-alike limits wide same (item ∷ items) h = (head-alike limits wide same item.head h.0, permitted-alike limits wide same items h.1)
 
-scalar-all : {S : Type 0} (limits : Rules) → limits.floats ≡ true → (body : Scalar S) → IsPermitted limits body
+pub scalar-all : {S : Type 0} (limits : Rules) → limits.floats ≡ true → (body : Scalar S) → IsPermitted limits body
 scalar-all limits on (float number) = on
 scalar-all limits on (null type) = tt
 scalar-all limits on (bool truth) = tt
@@ -122,3 +123,25 @@ module _ (limits : Rules) where
       → PathIsPermitted (open_in path q field annotations p kind members) → PathIsPermitted path × MembersArePermitted members
   open-permitted (closed tops) q field annotations p kind members h = h
   open-permitted (opened tops first nest) q field annotations p kind members h = ((h.0, h.1.0), h.1.1)
+
+-- ---- what a reading gives
+
+-- the item that a step gives is permitted
+abbrev pub GivesPermitted : {T : Type 0} → Rules → Step T → Type 0
+GivesPermitted limits (Gives item after) = HeadIsPermitted limits item.head
+GivesPermitted limits Ends = ⊤
+GivesPermitted limits (Stops why place) = ⊤
+GivesPermitted limits (GoesOn after) = ⊤
+
+module _ {T : Type 0} (limits : Rules) (step : T → Step T) (fine : (s : T) → GivesPermitted limits (step s)) where
+  next-permitted : (later : T → Reading) (o : Step T) → GivesPermitted limits o → ((s : T) → ArePermitted limits (items_of (later s)))
+      → ArePermitted limits (items_of (next_reading later o))
+  next-permitted later Ends h more = tt
+  next-permitted later (Stops why place) h more = tt
+  next-permitted later (Gives item after) h more = (h, more after)
+  next-permitted later (GoesOn after) h more = more after
+
+  -- where each step gives what is permitted, a reading does
+  pub reading-permitted : (n : ℕ) (s : T) → ArePermitted limits (items_of (reading_for step n s))
+  reading-permitted zero s = tt
+  reading-permitted (suc n) s = next-permitted (λ t. reading_for step n t) (step s) (fine s) (λ t. reading-permitted n t)

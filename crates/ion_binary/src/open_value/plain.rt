@@ -1,16 +1,19 @@
 //! Plain scalars, which are put where there is room for them, the octets before a body as one block.
 ghost use Rattle.std.specs.Prelude.{◌≡◌, ◌^◌, ◌<◌, ◌≤◌, ◌∷◌, [], ◌++◌, false, if◌then◌else◌, length, take};
+ghost use Rattle.ion_value.specs.Float.{value_of};
+ghost use Rattle.ion_value.specs.FloatOctets.{float_octets};
 ghost use Rattle.ion_value.specs.Number.{coefficient_octets, uint_octets};
 ghost use Rattle.ion_binary.specs.Canonical.{headed};
 ghost use Rattle.ion_binary.specs.Opening.{AddsOctets, CanAdd, both_octets, noted, noted_by};
 
 use super::OpenValue;
-use crate::few::{Few, few_header, few_number, noted_front};
+use crate::few::{Few, few_float, few_header, few_number, noted_front};
 use crate::header::header;
 use crate::noted::noted_scalar;
 use crate::scalar::Octets;
 use ion_meter::limits::Limits;
 use ion_meter::meter::Meter;
+use ion_value::float::Float64;
 use ion_value::var::var_uint_write;
 use std::alloc::Allocator;
 
@@ -98,6 +101,32 @@ impl<A: Allocator + Copy> OpenValue<A> {
             self.old self.new meter.old meter.new result }
     {
         let number = few_number(code, n);
+        self.put_few(
+            meter,
+            limits,
+            name,
+            note,
+            &number.first,
+            number.body,
+            number.size,
+        )
+    }
+
+    /// Adds a float.
+    #[inline(always)]
+    pub fn put_float(
+        &mut self,
+        meter: &mut Meter<A>,
+        limits: &Limits,
+        name: u32,
+        note: u32,
+        float: Float64,
+    ) -> bool
+        requires { CanAdd limits.now self.old meter.old }
+        ensures { AddsOctets limits.now (noted name note (headed 4 (float_octets (value_of float))))
+            self.old self.new meter.old meter.new result }
+    {
+        let number = few_float(float);
         self.put_few(
             meter,
             limits,

@@ -12,7 +12,7 @@ ghost use Rattle.ion_binary.specs.Writer.{CanTake};
 
 use super::BinWriter;
 use super::single::{SingleItem, is_scalar};
-use crate::few::{FewNumber, few_number, few_octet, noted_front};
+use crate::few::{FewNumber, few_float, few_number, few_octet, noted_front};
 use crate::noted::{id_octets, noted_scalar};
 use crate::scalar::{Octets, spell, type_code};
 use ion_meter::buf::Added;
@@ -199,7 +199,7 @@ impl<A: Allocator + Copy> BinWriter<A> {
     }
 }
 
-// The octets of an int that 64 bits hold, of a symbol of this id, of a null, or of a bool.
+// The octets of an int that 64 bits hold, of a float, of a symbol of this id, of a null, or of a bool.
 #[inline(always)]
 pub(super) fn few_of(head: Head<'_>, symbol: u32) -> Option<FewNumber>
     ensures few { IfSome result (λ number. length number.first ≤ 2) }
@@ -213,6 +213,7 @@ pub(super) fn few_of(head: Head<'_>, symbol: u32) -> Option<FewNumber>
             Ok(n) => Some(few_number(if int.negative { 3 } else { 2 }, n)),
             Err(_) => None,
         },
+        Head::Float(float) => Some(few_float(float)),
         Head::Symbol(_) => Some(few_number(7, u64::from(symbol))),
         Head::Null(of) => Some(few_octet(16 * type_code(of) + 15)),
         Head::Bool(truth) => Some(few_octet(if truth { 17 } else { 16 })),

@@ -1,8 +1,9 @@
 //! Plain items, added at once to a value that is open, or put where they are whole.
 ghost use Rattle.std.specs.Prelude.{◌≡◌, ◌<◌, ◌∷◌, [], true, false, IfSome};
+ghost use Rattle.ion_value.specs.Float.{value_of};
 ghost use Rattle.ion_value.specs.Items.{raw_head, symbol_at};
 ghost use Rattle.ion_value.specs.Number.{uint_octets, var_int_octets};
-ghost use Rattle.ion_value.specs.Value.{begin, decimal, end, int, string, symbol, whole};
+ghost use Rattle.ion_value.specs.Value.{begin, decimal, end, float, int, string, symbol, whole};
 ghost use Rattle.ion_binary.specs.Canonical.{headed, id_in};
 ghost use Rattle.ion_binary.specs.ItemOctets.{head_octets, user_head};
 ghost use Rattle.ion_binary.specs.Opening.{MayCome, both_octets};
@@ -19,6 +20,7 @@ use ion_meter::device::Output;
 use ion_meter::meter::Meter;
 use ion_meter::sink::Sink;
 use ion_value::decimal::Decimal;
+use ion_value::float::Float64;
 use ion_value::int::Int;
 use ion_value::ion_type::Kind;
 use ion_value::item::{Head, SymAt};
@@ -56,6 +58,7 @@ impl<A: Allocator + Copy> BinWriter<A> {
             Head::Bool(truth) => self.add_octet(meter, sink, &item, if truth { 17 } else { 16 }),
             Head::Int(int) => self.add_int(meter, sink, &item, int),
             Head::Symbol(at) => self.add_symbol(meter, sink, &item, at),
+            Head::Float(float) => self.add_float(meter, sink, &item, float),
             Head::Decimal(decimal) => self.add_decimal(meter, sink, &item, decimal),
             Head::String(text) => self.add_string(meter, sink, &item, text),
             _ => self.add_spelled(meter, sink, &item),
@@ -240,6 +243,29 @@ impl<A: Allocator + Copy> BinWriter<A> {
         };
         self.open_value
             .put_text(meter, &self.limits, ids.name, ids.note, text)
+    }
+
+    // Adds a float. It is a call of its own, since what takes items in line is near the size from which the
+    // compiler puts nothing in line.
+    #[inline(never)]
+    fn add_float<O: Output>(
+        &mut self,
+        meter: &mut Meter<A>,
+        sink: &mut Sink<O, A>,
+        item: &SingleItem<'_, '_>,
+        number: Float64,
+    ) -> bool
+        requires can_take { CanTake self.old meter.old }
+        requires comes { MayCome self.old.limits self.old.open_value (as_item item.now) }
+        requires head { raw_head item.now.head ≡ whole (float (value_of number)) }
+        ensures { TakesPlain self.old self.new meter.old meter.new
+            sink.old sink.new (as_item item.now) result }
+    {
+        let Some(ids) = self.ids_of(item) else {
+            return self.add_fresh(meter, sink, *item);
+        };
+        self.open_value
+            .put_float(meter, &self.limits, ids.name, ids.note, number)
     }
 
     // Adds a decimal: one that is not zero without an `ArrayVec` of its octets, where 63 bits hold its

@@ -34,7 +34,7 @@ loop-index-preserved c =
       },
     )
 
--- behind the last limb nothing is carried
+-- after the last limb nothing is carried
 none_left : (low carry number factor len index : ℕ) → low + carry * weight index ≡ number * factor → number < weight len → factor < 2 ^ 64 → len + 1 ≤ index → carry ≡ 0
 none_left low carry number factor len index done small fits above =
     elim (eq-zero-or-pos carry) [

@@ -1,26 +1,12 @@
-use Rattle.std.proofs.Common.{◌≡◌, ℕ, zero, suc, ◌+◌, ◌-◌, ◌*◌, ◌/◌, ◌%◌, ◌^◌, ◌<◌, false, subst, arith}
-use Rattle.std.specs.Prelude.{from_bits}
+use Rattle.std.proofs.Common.{◌/◌, ◌%◌, ◌^◌, arith}
 use lib.Bits.{and_mask}
-use lib.Ieee.{binary64}
-use lib.Ieee.Exact.{HasValue}
-use Rattle.fast_float.proofs.Patterns.{of_bits_value, field_units}
+use Rattle.ion_float.proofs.Fields.{value_by_fields, normal_value}
 use Rattle.ion_float.proofs.exact.parts_of.Goals as goal
 
-by_fields : (bits x t : ℕ) → x < 2047 → t < 2 ^ 52 → x * 2 ^ 52 + t ≡ bits → HasValue (from_bits binary64 bits) false (field_units binary64 x t) (2 ^ 1074)
-by_fields bits x t X H e = subst (λ b. HasValue (from_bits binary64 b) false (field_units binary64 x t) (2 ^ 1074)) e (of_bits_value binary64 x t X H)
-
-normal : (bits x t : ℕ) → 0 < x → x < 2047 → t < 2 ^ 52 → x * 2 ^ 52 + t ≡ bits → HasValue (from_bits binary64 bits) false ((t + 2 ^ 52) * 2 ^ (x - 1)) (2 ^ 1074)
-normal bits zero t P X H e = absurd (omega arith)
-normal bits (suc j) t P X H e =
-    let one : j ≡ suc j - 1 = omega arith in
-    let sum : 2 ^ 52 + t ≡ t + 2 ^ 52 = omega arith in
-    subst (λ k. HasValue (from_bits binary64 bits) false ((t + 2 ^ 52) * 2 ^ k) (2 ^ 1074)) one
-    (subst (λ s. HasValue (from_bits binary64 bits) false (s * 2 ^ j) (2 ^ 1074)) sum (by_fields bits (suc j) t X H e))
-
 pub returns-then-field-eq0-clause-value : goal.returns-then-field-eq0-clause-value
-returns-then-field-eq0-clause-value c = rw (and_mask c.args.bits 52) (by_fields c.args.bits 0 (c.args.bits % 2 ^ 52) (omega arith) (omega arith) (omega arith))
+returns-then-field-eq0-clause-value c = rw (and_mask c.args.bits 52) (value_by_fields c.args.bits 0 (c.args.bits % 2 ^ 52) (omega arith) (omega arith) (omega arith))
 
 pub returns-else-field-eq0-clause-value : goal.returns-else-field-eq0-clause-value
 returns-else-field-eq0-clause-value c =
     let b = c.args.bits in
-    rw (and_mask b 52) (normal b (b / 2 ^ 52) (b % 2 ^ 52) (omega arith) (omega arith) (omega arith) (omega arith))
+    rw (and_mask b 52) (normal_value b (b / 2 ^ 52) (b % 2 ^ 52) (omega arith) (omega arith) (omega arith) (omega arith))

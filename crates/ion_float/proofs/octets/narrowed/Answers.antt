@@ -3,8 +3,11 @@ use Rattle.std.proofs.lemmas.Float.{T_from_true}
 use Rattle.std.specs.Float.{round_to_format}
 use lib.Ieee.{binary32, binary64}
 use Rattle.ion_value.specs.Float.{value_of}
-use Rattle.ion_float.proofs.Narrow.{nan_fits, number_bits, narrowed_number, widens, narrowed_some, narrowed_none}
+use Rattle.ion_float.proofs.Narrow.{nan_fits, number_bits, narrowed_number, widens, narrowed_some, narrowed_none, narrowed_by_last}
 use Rattle.ion_float.proofs.octets.narrowed.Goals as goal
+
+pub returns-then-bits-ne0 : goal.returns-then-bits-ne0
+returns-then-bits-ne0 c = narrowed_by_last (value_of c.args.float) c.bits.result c.bits.ensures.bits c.if-bits-ne0.true
 
 pub returns-then-is_nan : goal.returns-then-is_nan
 returns-then-is_nan c = nan_fits (value_of c.args.float) (sym c.is_nan.ensures ∙ c.if-is_nan.true)
@@ -31,10 +34,10 @@ float_to_bits-result c =
 
 pub returns-then-narrow-bits : goal.returns-then-narrow-bits
 returns-then-narrow-bits c =
-    narrowed_some (value_of c.args.float) c.nearest_f64_to_f32-narrow.result c.bits.result c.bits.ensures.value
+    narrowed_some (value_of c.args.float) c.nearest_f64_to_f32-narrow.result c.bits-2.result c.bits-2.ensures.value
     (T_from_true _ c.nearest_f64_to_f32-narrow.type_inv) c.if-narrow-bits.true
 
 pub returns-else-narrow-bits : goal.returns-else-narrow-bits
 returns-else-narrow-bits c =
-    narrowed_none (value_of c.args.float) c.nearest_f64_to_f32-narrow.result c.bits.result c.bits.ensures.bits
+    narrowed_none (value_of c.args.float) c.nearest_f64_to_f32-narrow.result c.bits-2.result c.bits-2.ensures.bits
     (c.nearest_f64_to_f32-narrow.ensures ∙ ap (round_to_format binary32) c.bits-wide.ensures.value) c.if-narrow-bits.false

@@ -8,4 +8,4 @@ pub returns-clause-is : goal.returns-clause-is
 returns-clause-is g c =
     c.found.ensures
     ∙ ap found_float (closed-read c.args.text.now _ (values_of c.nearest_float.result) c.requires
-    (ap (λ (l : List ℕ). take c.close_up-count.result l) c.as_slice.ensures ∙ c.close_up-count.ensures.closed) c.nearest_float.ensures)
+    (ap (λ (l : List ℕ). take c.close_up-count.result l) c.as_slice.ensures ∙ c.close_up-count.ensures.closed) c.nearest_float.ensures.read)

@@ -19,7 +19,7 @@ loop-preserved c =
       long = c.push.ensures.len ∙ omega (arith, l.invariant.long);
     }
 
--- the low limb of the shifted number, and both of its limbs, behind q zeros
+-- the low limb of the shifted number, and both of its limbs, after q zeros
 one_limb : (xs ys : List ℕ) (wide q : ℕ) → value xs ≡ 0 → length xs ≡ q → ys ≡ xs ++ bit_and wide (2 ^ 64 - 1) ∷ [] → value ys ≡ wide % 2 ^ 64 * weight q
 one_limb xs ys wide q v long e =
     ap value e ∙ value-append xs (bit_and wide (2 ^ 64 - 1))

@@ -28,6 +28,10 @@ pub if-any : {A B E : Type 0} (Q : B → Type 0) (o : Result A E) (f : A → Res
 if-any Q (Ok x) f h = h x
 if-any Q (Err reason) f h = tt
 
+pub if-next : {A B E : Type 0} (Q : B → Type 0) (o : Result A E) (p : Result B E) → IfOk p Q → IfOk (o >> p) Q
+if-next Q (Ok x) p h = h
+if-next Q (Err reason) p h = tt
+
 pub if-more : {A E : Type 0} (P Q : A → Type 0) (o : Result A E) → IfOk o P → ((x : A) → P x → Q x) → IfOk o Q
 if-more P Q (Ok x) h more = more x h
 if-more P Q (Err reason) h more = tt

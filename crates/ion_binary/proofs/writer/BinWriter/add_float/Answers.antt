@@ -1,0 +1,27 @@
+use Rattle.std.proofs.Common.{◌≡◌, ℕ, List, refl, subst, sym}
+use Rattle.ion_value.specs.Float.{value_of}
+use Rattle.ion_value.specs.FloatOctets.{float_octets}
+use Rattle.ion_value.specs.Value.{Head, PlacedItem, SymbolAt, map_head, user_symbol_at}
+use Rattle.ion_binary.specs.Canonical.{headed, id_in}
+use Rattle.ion_binary.specs.ItemOctets.{head_octets}
+use Rattle.ion_binary.specs.Plain.{HaveIds, IsWhole, as_item}
+use Rattle.ion_binary.specs.Writing.{head_symbols}
+use Rattle.ion_binary.proofs.PlainAdded.{adds-taken, member-plain}
+use Rattle.ion_binary.proofs.writer.BinWriter.add_float.Goals as goal
+
+pub returns : goal.returns
+returns g c =
+    let w = c.args.self.now in
+    let item : PlacedItem = as_item c.args.item.now in
+    let k = c.in-Some.ensures in
+    let texts : List (List ℕ) = w.symbols.texts in
+    let body : List ℕ = float_octets (value_of c.args.number) in
+    let W : Head SymbolAt → Type 0 = λ h. IsWhole h in
+    let K : Head SymbolAt → Type 0 = λ h. HaveIds texts (head_symbols h) in
+    let O : Head SymbolAt → Type 0 = λ h. headed 4 body ≡ head_octets (id_in texts) (map_head user_symbol_at h) in
+    let whole = subst W (sym c.requires.head) tt in
+    let known = subst K (sym c.requires.head) tt in
+    let octets = subst O (sym c.requires.head) refl in
+    adds-taken w (record w { open_value = c.put_float.new.self }) c.args.meter.now c.put_float.new.meter c.args.sink.now item c.put_float.result
+    (member-plain w c.put_float.new.self c.args.meter.now c.put_float.new.meter item c.put_float.result c.in-Some.ids.name c.in-Some.ids.note (headed 4 body) c.requires.can_take k.open
+    whole k.field_known k.note_known known k.field k.note octets c.put_float.ensures)

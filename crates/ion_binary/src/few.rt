@@ -8,6 +8,7 @@ ghost use Rattle.ion_binary.specs.Held.{counted_ids};
 ghost use Rattle.ion_binary.specs.Opening.{name_octets, noted};
 
 use ion_float::octets::float_to_octets;
+use ion_value::decimal::Decimal;
 use ion_value::float::Float64;
 use std::marker::Model;
 
@@ -141,6 +142,28 @@ pub(crate) fn few_float(float: Float64) -> FewNumber
     }
 }
 
+/// The octets of a decimal that is not zero, where 63 bits hold its coefficient and one octet its exponent.
+#[inline(always)]
+pub(crate) fn few_decimal(number: Decimal) -> Option<FewNumber>
+{
+    let magnitude = number.coefficient;
+    if magnitude == 0 || magnitude >= 1 << 63 {
+        return None;
+    }
+    let Some(exponent) = var_int_octet(number.exponent < 0, number.exponent.unsigned_abs()) else {
+        return None;
+    };
+    let coefficient = magnitude as u64;
+    let zeros = (coefficient.leading_zeros() - 1) / 8;
+    let size = 8 - zeros as usize;
+    let sign = sign_bit(number.negative);
+    Some(FewNumber {
+        first: Few::one(exponent).after(81 + size as u8),
+        body: (coefficient.wrapping_shl(8 * zeros) + sign).to_be_bytes(),
+        size,
+    })
+}
+
 /// A scalar of one octet.
 #[inline(always)]
 pub(crate) fn few_octet(octet: u8) -> FewNumber
@@ -200,4 +223,26 @@ fn wrapped_front(front: &Few, more: usize, note: u32) -> Option<Few>
         return Some(ids.after(224 + inside as u8));
     }
     Some(ids.after(128 + inside as u8).after(238))
+}
+
+// The octet of a VarInt of six bits and a sign.
+#[inline(always)]
+fn var_int_octet(negative: bool, magnitude: u32) -> Option<u8>
+    ensures { IfSome result (λ octet. octet ∷ [] ≡ var_int_octets negative magnitude) }
+{
+    if magnitude >= 64 {
+        return None;
+    }
+    if negative {
+        return Some(192 + magnitude as u8);
+    }
+    Some(128 + magnitude as u8)
+}
+
+// The sign of a number as the highest bit of a word.
+#[inline(always)]
+fn sign_bit(negative: bool) -> u64
+    ensures { result ≡ (if negative then 2 ^ 63 else 0) }
+{
+    if negative { 1 << 63 } else { 0 }
 }

@@ -7,13 +7,12 @@ ghost use Rattle.ion_binary.specs.Canonical.{headed};
 ghost use Rattle.ion_binary.specs.Opening.{AddsOctets, CanAdd, both_octets, noted, noted_by};
 
 use super::OpenValue;
-use crate::few::{Few, few_float, few_header, few_number, noted_front};
+use crate::few::{Few, FewNumber, few_header, noted_front};
 use crate::header::header;
 use crate::noted::noted_scalar;
 use crate::scalar::Octets;
 use ion_meter::limits::Limits;
 use ion_meter::meter::Meter;
-use ion_value::float::Float64;
 use ion_value::var::var_uint_write;
 use std::alloc::Allocator;
 
@@ -66,25 +65,7 @@ impl<A: Allocator + Copy> OpenValue<A> {
         self.extend_if_room(meter, *limits, &octets)
     }
 
-    /// Adds a scalar of one octet, as `put_octets` does.
-    #[inline(never)]
-    pub fn put_octet(
-        &mut self,
-        meter: &mut Meter<A>,
-        limits: &Limits,
-        name: u32,
-        note: u32,
-        octet: u8,
-    ) -> bool
-        requires { CanAdd limits.now self.old meter.old }
-        ensures { AddsOctets limits.now (noted name note (octet ∷ []))
-            self.old self.new meter.old meter.new result }
-    {
-        let front = Few::one(octet);
-        self.put_few(meter, limits, name, note, &front, [0; 8], 0)
-    }
-
-    /// Adds a scalar whose body is a number of 64 bits.
+    /// Adds a scalar of few octets.
     #[inline(always)]
     pub fn put_number(
         &mut self,
@@ -92,77 +73,24 @@ impl<A: Allocator + Copy> OpenValue<A> {
         limits: &Limits,
         name: u32,
         note: u32,
-        code: u8,
-        n: u64,
+        number: &FewNumber,
     ) -> bool
         requires can_add { CanAdd limits.now self.old meter.old }
-        requires code { code < 16 }
-        ensures { AddsOctets limits.now (noted name note (headed code (uint_octets n)))
-            self.old self.new meter.old meter.new result }
-    {
-        let number = few_number(code, n);
-        self.put_few(
-            meter,
-            limits,
-            name,
-            note,
-            &number.first,
-            number.body,
-            number.size,
-        )
-    }
-
-    /// Adds a float.
-    #[inline(always)]
-    pub fn put_float(
-        &mut self,
-        meter: &mut Meter<A>,
-        limits: &Limits,
-        name: u32,
-        note: u32,
-        float: Float64,
-    ) -> bool
-        requires { CanAdd limits.now self.old meter.old }
-        ensures { AddsOctets limits.now (noted name note (headed 4 (float_octets (value_of float))))
-            self.old self.new meter.old meter.new result }
-    {
-        let number = few_float(float);
-        self.put_few(
-            meter,
-            limits,
-            name,
-            note,
-            &number.first,
-            number.body,
-            number.size,
-        )
-    }
-
-    /// Adds a decimal that is not zero: the octet of its exponent, and a coefficient of 63 bits.
-    #[inline(never)]
-    pub fn put_decimal(
-        &mut self,
-        meter: &mut Meter<A>,
-        limits: &Limits,
-        name: u32,
-        note: u32,
-        exponent: u8,
-        negative: bool,
-        coefficient: u64,
-    ) -> bool
-        requires can_add { CanAdd limits.now self.old meter.old }
-        requires some { 0 < coefficient }
-        requires most { coefficient < 2 ^ 63 }
+        requires few { length number.now.first ≤ 2 }
+        requires size { number.now.size ≤ 8 }
         ensures { AddsOctets limits.now
-            (noted name note (headed 5 (exponent ∷ coefficient_octets negative coefficient)))
+            (noted name note (number.now.first ++ take number.now.size number.now.body))
             self.old self.new meter.old meter.new result }
     {
-        let zeros = (coefficient.leading_zeros() - 1) / 8;
-        let size = 8 - zeros as usize;
-        let sign = sign_bit(negative);
-        let front = Few::one(exponent).after(81 + size as u8);
-        let body = (coefficient.wrapping_shl(8 * zeros) + sign).to_be_bytes();
-        self.put_few(meter, limits, name, note, &front, body, size)
+        self.put_few(
+            meter,
+            limits,
+            name,
+            note,
+            &number.first,
+            number.body,
+            number.size,
+        )
     }
 
     /// Adds a string.
@@ -269,12 +197,4 @@ impl<A: Allocator + Copy> OpenValue<A> {
         };
         self.put_octets(meter, limits, name, note, &octets)
     }
-}
-
-// The sign of a number as the highest bit of a word.
-#[inline(always)]
-fn sign_bit(negative: bool) -> u64
-    ensures { result ≡ (if negative then 2 ^ 63 else 0) }
-{
-    if negative { 1 << 63 } else { 0 }
 }

@@ -12,7 +12,7 @@ ghost use Rattle.ion_binary.specs.Writer.{CanTake};
 
 use super::BinWriter;
 use super::single::{SingleItem, is_scalar};
-use crate::few::{FewNumber, few_float, few_number, few_octet, noted_front};
+use crate::few::{FewNumber, few_decimal, few_float, few_number, few_octet, noted_front};
 use crate::noted::{id_octets, noted_scalar};
 use crate::scalar::{Octets, spell, type_code};
 use ion_meter::buf::Added;
@@ -214,6 +214,7 @@ pub(super) fn few_of(head: Head<'_>, symbol: u32) -> Option<FewNumber>
             Err(_) => None,
         },
         Head::Float(float) => Some(few_float(float)),
+        Head::Decimal(decimal) => few_decimal(decimal),
         Head::Symbol(_) => Some(few_number(7, u64::from(symbol))),
         Head::Null(of) => Some(few_octet(16 * type_code(of) + 15)),
         Head::Bool(truth) => Some(few_octet(if truth { 17 } else { 16 })),

@@ -1,22 +1,16 @@
 //! Plain items, added at once to a value that is open, or put where they are whole.
-ghost use Rattle.std.specs.Prelude.{◌≡◌, ◌<◌, ◌∷◌, [], true, false, IfSome};
-ghost use Rattle.ion_value.specs.Float.{value_of};
-ghost use Rattle.ion_value.specs.Items.{raw_head, symbol_at};
-ghost use Rattle.ion_value.specs.Number.{uint_octets, var_int_octets};
-ghost use Rattle.ion_value.specs.Value.{begin, decimal, end, float, int, string, symbol, whole};
-ghost use Rattle.ion_binary.specs.Canonical.{headed, id_in};
-ghost use Rattle.ion_binary.specs.ItemOctets.{head_octets, user_head};
-ghost use Rattle.ion_binary.specs.Opening.{MayCome, both_octets};
-ghost use Rattle.ion_binary.specs.Plain.{AddsPlain, HaveIds, IsWhole, TakesPlain, as_item, as_pair};
+ghost use Rattle.std.specs.Prelude.{◌≡◌, true, false};
+ghost use Rattle.ion_value.specs.Items.{raw_head};
+ghost use Rattle.ion_value.specs.Value.{begin, end, string, whole};
+ghost use Rattle.ion_binary.specs.Opening.{MayCome};
+ghost use Rattle.ion_binary.specs.Plain.{AddsPlain, IsWhole, TakesPlain, as_item, as_pair};
 ghost use Rattle.ion_binary.specs.Writer.{CanTake};
-ghost use Rattle.ion_binary.specs.Writing.{head_symbols};
 
 use super::BinWriter;
-use super::fresh::few_of;
-use super::single::{Ids, SingleItem, is_scalar};
+use super::single::{SingleItem, is_scalar};
 use crate::declaration::FIRST_ID;
+use crate::few::few_of;
 use crate::header::header;
-use crate::scalar::spell;
 use ion_meter::device::Output;
 use ion_meter::meter::Meter;
 use ion_meter::sink::Sink;
@@ -153,26 +147,12 @@ impl<A: Allocator + Copy> BinWriter<A> {
         match few_of(item.head, symbol) {
             Some(number) => {
                 self.open_value
-                    .put_number(meter, &self.limits, ids.name, ids.note, &number)
+                    .put_few(meter, &self.limits, ids.name, ids.note, &number)
             }
-            None => self.add_spelled(meter, item.head, symbol, ids),
+            None => self
+                .open_value
+                .put_spelled(meter, &self.limits, ids.name, ids.note, item.head, symbol),
         }
-    }
-
-    // Adds a scalar of any kind.
-    #[inline(never)]
-    fn add_spelled(
-        &mut self,
-        meter: &mut Meter<A>,
-        head: Head<'_>,
-        symbol: u32,
-        ids: Ids,
-    ) -> bool
-    {
-        let spelled = spell(head, symbol);
-        let octets = spelled.octets();
-        self.open_value
-            .put_octets(meter, &self.limits, ids.name, ids.note, &octets)
     }
 
     // Adds a string.

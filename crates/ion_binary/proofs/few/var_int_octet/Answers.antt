@@ -1,7 +1,7 @@
 use Rattle.std.proofs.Common.{◌≡◌, ◌+◌, ◌<◌, Bool, true, false, [], ◌∷◌, ℕ, subst, sym, arith}
 use Rattle.ion_value.specs.Number.{var_int_octets}
 use Rattle.ion_binary.proofs.ShortDecimals.{small-exponent}
-use Rattle.ion_binary.proofs.writer.plain.var_int_octet.Goals as goal
+use Rattle.ion_binary.proofs.few.var_int_octet.Goals as goal
 
 pub returns-then-negative : goal.returns-then-negative
 returns-then-negative c =

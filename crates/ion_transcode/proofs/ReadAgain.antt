@@ -12,7 +12,7 @@ use Rattle.ion_binary.specs.Laws as binary_laws
 use Rattle.ion_binary.specs.Spelling.{TheFormIsRead, WhatIsWithinIsShort}
 use Rattle.ion_text_in.specs.Grammar as text_grammar
 use Rattle.ion_text_in.specs.Laws as text_laws
-use Rattle.ion_text_out.specs.Text.{text}
+use Rattle.ion_text_out.specs.Text.{text, text_by}
 use Rattle.ion_transcode.specs.declared.to.Form.{Form}
 use Rattle.ion_transcode.specs.declared.to.Form.TheVariants as form
 use Rattle.ion_transcode.specs.declared.to.Target.TheVariants as target
@@ -22,8 +22,8 @@ use Rattle.ion_transcode.specs.Acceptance.{WhatIsReadIsAccepted, WhatIsAcceptedI
 use Rattle.ion_transcode.specs.Forms.{encoding_of, form_of}
 use Rattle.ion_transcode.specs.Outputs.{resolved}
 use Rattle.ion_transcode.specs.Verdict.{HasVerdictWith}
-use Rattle.ion_transcode.specs.RoundTrip.{ValuesOfStreams, TextIsRead, RoundTrip, ShowOnce, ThereAndBack}
-use Rattle.ion_transcode.proofs.TextWithoutPlaces.{same-text}
+use Rattle.ion_transcode.specs.RoundTrip.{ValuesOfStreams, EachTextIsRead, TextIsRead, LayoutsAreAlike, RoundTrip, ShowOnce, ThereAndBack}
+use Rattle.ion_transcode.proofs.TextWithoutPlaces.{same-text, same-text-by}
 
 -- ---- values of streams
 
@@ -39,7 +39,7 @@ round-trip values is_text is_binary profile f catalog other limit bytes tops us 
     let are : AreUsers us = values profile f catalog bytes tops us small texts stream users in
     (is_text other us are, λ short. is_binary other limit us are.0 short)
 
--- ---- what is shown of a stream whose user values are known
+-- ---- what is read of them again
 
 length-unplaced : (us : List (Top UserSymbol ℕ)) → length (map unplaced_top us) ≡ length us
 length-unplaced [] = refl
@@ -50,6 +50,16 @@ same-length us vs e = sym (length-unplaced us) ∙ (ap length e ∙ length-unpla
 
 pub some-same : (us vs : List (Top UserSymbol ℕ)) → ◌≡◌ {A = Option (List (Top UserSymbol ℕ))} (Some us) (Some vs) → us ≡ vs
 some-same us vs e = cc e
+
+pub layouts-are-alike : EachTextIsRead → text_laws.OneStream → LayoutsAreAlike
+layouts-are-alike each one layout other is catalog us again tops users stream are =
+    let r = each layout is catalog us users in
+    let spelled : r.raw ≡ tops = one (text_by layout us) r.raw tops r.stream stream in
+    let found : r.users ≡ again = some-same r.users again (sym r.users_are ∙ (ap (user_tops catalog system) spelled ∙ are)) in
+    let same : map unplaced_top again ≡ map unplaced_top us = ap (map unplaced_top) (sym found) ∙ r.same in
+    (same-text-by other again us same, same-length again us same)
+
+-- ---- what is shown of a stream whose user values are known
 
 -- the same bytes are one stream at most
 abbrev IsOne : Profile → Form → List ℕ → Type 0

@@ -16,7 +16,8 @@ use Rattle.ion_symbols.specs.Table.{Shared, system}
 use Rattle.ion_symbols.specs.Tree.{user_tops}
 use Rattle.ion_symbols.specs.UserValues.{AreUsers, CatalogIsText}
 use Rattle.ion_text_in.specs.Reading.{reading}
-use Rattle.ion_text_out.specs.Text.{text}
+use Rattle.ion_text_out.specs.Layout.{Layout, IsLayout, canonical}
+use Rattle.ion_text_out.specs.Text.{text_by}
 use Rattle.ion_transcode.specs.declared.to.Form.TheVariants as form
 use Rattle.ion_transcode.specs.declared.to.Target.TheVariants as target
 use Rattle.ion_transcode.specs.declared.to.To.{To}
@@ -80,23 +81,35 @@ FitsText limits (tree first annotations place x) = AnnotationsFit limits annotat
 
 -- ---- what is written of them is read under these limits
 
--- the canonical text of values is read to its end, its symbols are all resolved whatever the catalogue is, and its user values
+-- the text of values by a layout is read to its end, its symbols are all resolved whatever the catalogue is, and its user values
 -- are these again, in all but their places
-pub record IsReadWithin (profile : Profile) (catalog : List Shared) (limits : Limits) (tops : List (Top UserSymbol ℕ)) : Type 0 where
+pub record IsReadWithinBy (layout : Layout) (profile : Profile) (catalog : List Shared) (limits : Limits)
+    (tops : List (Top UserSymbol ℕ)) : Type 0 where
   pub raw : List (Top SymbolAt ℕ)
   pub users : List (Top UserSymbol ℕ)
-  pub form : form_of (text tops) ≡ form.Text
-  pub read : reading (rules limits profile) (text tops) ≡ items_then (path_items (closed raw)) Finished
+  pub form : form_of (text_by layout tops) ≡ form.Text
+  pub read : reading (rules limits profile) (text_by layout tops) ≡ items_then (path_items (closed raw)) Finished
   pub resolved : AreResolved catalog limits.symbols system raw
   pub users_are : user_tops catalog system raw ≡ Some users
   pub same : map unplaced_top users ≡ map unplaced_top tops
 
--- so it is of all values that a user can have and that fit, and are no deeper than the limit, where the limit on scalars is 64
--- or more
-abbrev pub TextIsReadWithin : Type 0
-TextIsReadWithin =
+-- so it is, where the limit on scalars is 64 or more, of values that a user can have, and that fit and are no deeper than the limit
+abbrev pub AreReadWithinBy : Layout → Type 0
+AreReadWithinBy layout =
     (profile : Profile) (catalog : List Shared) (limits : Limits) (tops : List (Top UserSymbol ℕ)) → 64 ≤ limits.scalar → AreUsers tops
-    → AllByRecursion (IsNoDeeper limits.depth) tops → AllByRecursion (FitsText (rules limits profile)) tops → IsReadWithin profile catalog limits tops
+    → AllByRecursion (IsNoDeeper limits.depth) tops → AllByRecursion (FitsText (rules limits profile)) tops
+    → IsReadWithinBy layout profile catalog limits tops
+
+-- by each layout: its white space counts for no limit
+abbrev pub EachTextIsReadWithin : Type 0
+EachTextIsReadWithin = (layout : Layout) → IsLayout layout → AreReadWithinBy layout
+
+-- canonical text
+abbrev pub IsReadWithin : Profile → List Shared → Limits → List (Top UserSymbol ℕ) → Type 0
+IsReadWithin profile catalog limits tops = IsReadWithinBy canonical profile catalog limits tops
+
+abbrev pub TextIsReadWithin : Type 0
+TextIsReadWithin = AreReadWithinBy canonical
 
 -- ---- what was shown is accepted
 

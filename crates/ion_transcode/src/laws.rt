@@ -7,8 +7,8 @@ ghost use Rattle.ion_transcode.specs.Catalogues.{CatalogVerdictsAreRead, Catalog
 ghost use Rattle.ion_transcode.specs.Depth.{WhatIsReadIsNoDeeper};
 ghost use Rattle.ion_transcode.specs.Forms.{binary_encoding, text_encoding};
 ghost use Rattle.ion_transcode.specs.Laws.{BinaryIsComplete, BinaryIsSound, OneSpelling, OneVerdict, SpellsOnce, StreamsAreRead, TextIsComplete, TextIsSound, WhatStrictAcceptsIsAccepted};
-ghost use Rattle.ion_transcode.specs.RoundTrip.{RoundTrip, ShowOnce, TextIsRead, ThereAndBack, ValuesOfStreams};
-ghost use Rattle.ion_transcode.specs.ShownAgain.{TextIsReadWithin, WhatIsShownIsAccepted};
+ghost use Rattle.ion_transcode.specs.RoundTrip.{EachTextIsRead, LayoutsAreAlike, RoundTrip, ShowOnce, TextIsRead, ThereAndBack, ValuesOfStreams};
+ghost use Rattle.ion_transcode.specs.ShownAgain.{EachTextIsReadWithin, TextIsReadWithin, WhatIsShownIsAccepted};
 ghost use Rattle.ion_transcode.specs.UserPaths.{FaultlessPathsAreRead, RefusedOutputIsThatOfAPath};
 ghost use Rattle.ion_transcode.specs.WrittenAgain.{WrittenBinaryIsAccepted};
 
@@ -19,7 +19,7 @@ use ion_symbols::laws::{
     what_is_declared, what_is_resolved_is_accepted, why_refused,
 };
 use ion_text_in::laws as text;
-use ion_text_out::laws::{path_text_is_that_of_items, text_is_that_of_items};
+use ion_text_out::laws::{are_layouts, path_text_is_that_of_items, text_is_that_of_items};
 
 /// The binary encoding is sound: its reading is that of its steps, and each step follows its
 /// grammar.
@@ -180,10 +180,11 @@ pub fn one_catalog()
     one_spelling();
 }
 
-/// The canonical text of values that a user of a stream can have is a stream of text, and the user
-/// values of that stream are these values again, whatever the catalogue.
-pub fn text_is_read()
-    ensures { TextIsRead }
+/// The text by any layout of values that a user of a stream can have is a stream of text, and the user
+/// values of that stream are these values again, whatever the catalogue. A layout has only white space
+/// between tokens, and the commas and colons that the grammar asks for.
+pub fn each_layout_is_read()
+    ensures { EachTextIsRead }
 {
     text::what_ends_a_number();
     text::what_ends_a_symbol();
@@ -200,6 +201,23 @@ pub fn text_is_read()
     text::id_is_read();
     text::clob_text_is_read();
     text::base64_is_read();
+}
+
+/// So it is of canonical text.
+pub fn text_is_read()
+    ensures { TextIsRead }
+{
+    each_layout_is_read();
+    are_layouts();
+}
+
+/// What is shown by any layout of the text by another is what is shown of the values themselves: where
+/// text by a layout is read, the text of what is read is that of the values.
+pub fn layouts_are_alike()
+    ensures { LayoutsAreAlike }
+{
+    each_layout_is_read();
+    text::one_stream();
 }
 
 /// The user values of each stream of bytes are values that a user can have: numbers in their ranges,
@@ -317,11 +335,12 @@ pub fn what_is_read_is_no_deeper()
     ensures { WhatIsReadIsNoDeeper }
 {}
 
-/// The canonical text of values is read to its end under limits that the values fit, where the limit
-/// on scalars is 64 or more, and its symbols are all resolved: of all values that a user of a stream
-/// can have. No number and no timestamp has more than 64 bytes.
-pub fn text_is_read_within()
-    ensures { TextIsReadWithin }
+/// The text of values by any layout is read to its end under limits that the values fit, where the
+/// limit on scalars is 64 or more, and its symbols are all resolved: of all values that a user of a
+/// stream can have. No number and no timestamp has more than 64 bytes, and white space counts for no
+/// limit.
+pub fn each_layout_is_read_within()
+    ensures { EachTextIsReadWithin }
 {
     text::what_ends_a_number();
     text::what_ends_a_symbol();
@@ -339,6 +358,14 @@ pub fn text_is_read_within()
     text::clob_text_is_read();
     text::base64_is_read();
     text::what_is_within_limits_is_read();
+}
+
+/// So it is of canonical text.
+pub fn text_is_read_within()
+    ensures { TextIsReadWithin }
+{
+    each_layout_is_read_within();
+    are_layouts();
 }
 
 /// What a run to text wrote is accepted, where its values fit the limits, and a run to text over it

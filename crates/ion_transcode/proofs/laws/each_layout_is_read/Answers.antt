@@ -1,8 +1,8 @@
-use Rattle.ion_transcode.proofs.TextOfValuesIsRead.{text-is-read}
-use Rattle.ion_transcode.proofs.laws.text_is_read.Goals as goal
+use Rattle.ion_transcode.proofs.TextOfValuesIsRead.{each-text-is-read}
+use Rattle.ion_transcode.proofs.laws.each_layout_is_read.Goals as goal
 
 pub returns : goal.returns
-returns c = text-is-read (record {
+returns c = each-text-is-read (record {
   numbers_end = c.what_ends_a_number.ensures.ends;
   identifiers_end = c.what_ends_a_symbol.ensures.identifiers;
   begins = c.what_begins_a_token.ensures.computed;

@@ -645,8 +645,9 @@ mutual
         after = v.after;
         spells = Inside.with_value o.spells fr.spells v.spells;
         are = λ t.
-            let field = fr.is t ∙ sym (option_map_id f) in
-            same_member tt (o.are t) field (v.annotations_are t ∙ sym (id-map notes)) (v.value_is t);
+            let named = fr.is t ∙ sym (option_map_id f) in
+            same_member {f = option_map (user_at t) fr.own} {a = map (user_at t) v.own} {x = seen t v.raw} tt (o.are t) named
+            (v.annotations_are t ∙ sym (id-map notes)) (v.value_is t);
         stand = (o.stand, fr.stands, v.annotations_stand, v.value_stands);
         within = λ limits depth wide fits deep. (
           o.within limits depth wide fits.0 deep.0,

@@ -16,6 +16,7 @@ use Rattle.ion_text_out.specs.Layout.{Layout, IsLayout, canonical}
 use Rattle.ion_text_out.specs.Text.{text, text_by}
 use Rattle.ion_transcode.specs.declared.to.Form.{Form}
 use Rattle.ion_transcode.specs.declared.to.Form.TheVariants as form
+use Rattle.ion_transcode.specs.declared.to.Target.{Target}
 use Rattle.ion_transcode.specs.declared.to.Target.TheVariants as target
 use Rattle.ion_transcode.specs.declared.to.To.{To}
 use Rattle.ion_transcode.specs.declared.to.To.TheVariants as to
@@ -73,6 +74,36 @@ LayoutsAreAlike =
     → (text_by other again ≡ text_by other us) × (length again ≡ length us)
 
 -- ---- runs
+
+-- which targets are text, and by which layout
+pub data IsTextBy : Layout → Target → Type 0 where
+  canonical_text : IsTextBy canonical target.Text
+
+-- of what a run to text by a layout wrote of a stream, and of what a run to text by another wrote over that: both are the text of
+-- the stream's user values, each by its own layout, and both count as many values; and each run over the stream itself that writes
+-- text by the other layout, and is accepted, writes the same as the second
+pub record AreShownAlike (profile : Profile) (catalog : List Shared) (layout other : Layout) (bytes shown again : List ℕ) (n m : ℕ)
+    : Type 0 where
+  pub tops : List (Top SymbolAt ℕ)
+  pub us : List (Top UserSymbol ℕ)
+  pub stream : (encoding_of profile (form_of bytes)).Stream bytes tops
+  pub users_are : user_tops catalog system tops ≡ Some us
+  pub output : shown ≡ text_by layout us
+  pub output_again : again ≡ text_by other us
+  pub count : m ≡ n
+  pub directly : (target : Target) (asked : To) (most : Limits) (out : List ℕ) (k : ℕ) → IsTextBy other target
+      → resolved (form_of bytes) asked ≡ Some target → HasVerdictWith profile catalog most asked bytes (Accepted k) out
+      → (out ≡ again) × (k ≡ n)
+
+-- so it is where both are accepted: whatever their catalogues, their limits and their profiles are
+abbrev pub LayoutsAreShownAlike : Type 0
+LayoutsAreShownAlike =
+    (profile next : Profile) (catalog known : List Shared) (limits wide : Limits) (asked back : To) (bytes shown again : List ℕ) (n m : ℕ)
+    (first second : Target) (layout other : Layout) → IsTextBy layout first → IsTextBy other second → AreBytes bytes
+    → CatalogIsText catalog → resolved (form_of bytes) asked ≡ Some first
+    → HasVerdictWith profile catalog limits asked bytes (Accepted n) shown → resolved (form_of shown) back ≡ Some second
+    → HasVerdictWith next known wide back shown (Accepted m) again
+    → AreShownAlike profile catalog layout other bytes shown again n m
 
 -- a run to text over what a run to text wrote writes the same bytes, and counts as many values, where both are accepted: whatever
 -- their catalogues, their limits and their profiles are

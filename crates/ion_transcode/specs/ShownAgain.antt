@@ -1,4 +1,4 @@
--- What was shown is accepted: which values rules allow in canonical text, by lengths and numbers alone. Laws that contracts cite.
+-- What was shown is accepted: which values rules allow in text by any layout, by lengths and numbers alone. Laws that contracts cite.
 use Rattle.std.specs.Prelude.{◌≡◌, ℕ, ◌+◌, ◌≤◌, List, [], length, map, sum_by, true, Option, Some, None, ⊤}
 use Rattle.std.specs.List.{AllByRecursion}
 use Rattle.ion_meter.specs.declared.limits.Limits.{Limits}
@@ -19,15 +19,17 @@ use Rattle.ion_text_in.specs.Reading.{reading}
 use Rattle.ion_text_out.specs.Layout.{Layout, IsLayout, canonical}
 use Rattle.ion_text_out.specs.Text.{text_by}
 use Rattle.ion_transcode.specs.declared.to.Form.TheVariants as form
+use Rattle.ion_transcode.specs.declared.to.Target.{Target}
 use Rattle.ion_transcode.specs.declared.to.Target.TheVariants as target
 use Rattle.ion_transcode.specs.declared.to.To.{To}
 use Rattle.ion_transcode.specs.declared.to.To.TheVariants as to
 use Rattle.ion_transcode.specs.Depth.{IsNoDeeper}
 use Rattle.ion_transcode.specs.Forms.{encoding_of, form_of}
 use Rattle.ion_transcode.specs.Outputs.{resolved}
+use Rattle.ion_transcode.specs.RoundTrip.{IsTextBy}
 use Rattle.ion_transcode.specs.Verdict.{HasVerdictWith}
 
--- ---- which values rules allow in canonical text
+-- ---- which values rules allow in text
 
 -- the text of a symbol is no longer than the limit on scalars; one of unknown text is written `$0`
 abbrev pub SymbolFits : Rules → UserSymbol → Type 0
@@ -113,9 +115,28 @@ TextIsReadWithin = AreReadWithinBy canonical
 
 -- ---- what was shown is accepted
 
--- what a run to text wrote is accepted by a run to text, which writes the same bytes, and by a run to nothing, and both count as
--- many values: whatever the catalogue is, where the values fit these runs' limits and profile, and of the limits that on scalars is
--- 64 or more and that on depth is no lower than the first run's. `tops` and `us` are what the first run read, and its user values
+-- what a run wrote is the text of these values by a layout, and is accepted by each run to text, which writes the text of the
+-- values by its own layout, and by a run to nothing, and they count as many values
+pub record IsAcceptedAgain (profile : Profile) (catalog : List Shared) (limits : Limits) (layout : Layout) (us : List (Top UserSymbol ℕ))
+    (shown : List ℕ) (n : ℕ) : Type 0 where
+  pub output : shown ≡ text_by layout us
+  pub as_text : (target : Target) (other : Layout) (asked : To) → IsTextBy other target → resolved form.Text asked ≡ Some target
+      → HasVerdictWith profile catalog limits asked shown (Accepted n) (text_by other us)
+  pub as_nothing : HasVerdictWith profile catalog limits to.Nothing shown (Accepted n) []
+
+-- so it is with what a run to text wrote, whatever the catalogue is, where the values fit these runs' limits and profile, and of
+-- the limits that on scalars is 64 or more and that on depth is no lower than the first run's. `tops` and `us` are what the first
+-- run read, and its user values
+abbrev pub EachShownTextIsAccepted : Type 0
+EachShownTextIsAccepted =
+    (profile next : Profile) (catalog other : List Shared) (limits wide : Limits) (asked : To) (bytes shown : List ℕ) (n : ℕ)
+    (tops : List (Top SymbolAt ℕ)) (us : List (Top UserSymbol ℕ)) (target : Target) (layout : Layout) → IsTextBy layout target
+    → AreBytes bytes → CatalogIsText catalog → resolved (form_of bytes) asked ≡ Some target
+    → HasVerdictWith profile catalog limits asked bytes (Accepted n) shown → (encoding_of profile (form_of bytes)).Stream bytes tops
+    → user_tops catalog system tops ≡ Some us → 64 ≤ wide.scalar → limits.depth ≤ wide.depth
+    → AllByRecursion (FitsText (rules wide next)) us → IsAcceptedAgain next other wide layout us shown n
+
+-- what a run to canonical text wrote is accepted by such a run, which writes the same bytes, and by a run to nothing
 abbrev pub WhatIsShownIsAccepted : Type 0
 WhatIsShownIsAccepted =
     (profile next : Profile) (catalog other : List Shared) (limits wide : Limits) (asked : To) (bytes shown : List ℕ) (n : ℕ)

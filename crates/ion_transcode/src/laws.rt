@@ -7,8 +7,8 @@ ghost use Rattle.ion_transcode.specs.Catalogues.{CatalogVerdictsAreRead, Catalog
 ghost use Rattle.ion_transcode.specs.Depth.{WhatIsReadIsNoDeeper};
 ghost use Rattle.ion_transcode.specs.Forms.{binary_encoding, text_encoding};
 ghost use Rattle.ion_transcode.specs.Laws.{BinaryIsComplete, BinaryIsSound, OneSpelling, OneVerdict, SpellsOnce, StreamsAreRead, TextIsComplete, TextIsSound, WhatStrictAcceptsIsAccepted};
-ghost use Rattle.ion_transcode.specs.RoundTrip.{EachTextIsRead, LayoutsAreAlike, RoundTrip, ShowOnce, TextIsRead, ThereAndBack, ValuesOfStreams};
-ghost use Rattle.ion_transcode.specs.ShownAgain.{EachTextIsReadWithin, TextIsReadWithin, WhatIsShownIsAccepted};
+ghost use Rattle.ion_transcode.specs.RoundTrip.{EachTextIsRead, LayoutsAreAlike, LayoutsAreShownAlike, RoundTrip, ShowOnce, TextIsRead, ThereAndBack, ValuesOfStreams};
+ghost use Rattle.ion_transcode.specs.ShownAgain.{EachShownTextIsAccepted, EachTextIsReadWithin, TextIsReadWithin, WhatIsShownIsAccepted};
 ghost use Rattle.ion_transcode.specs.UserPaths.{FaultlessPathsAreRead, RefusedOutputIsThatOfAPath};
 ghost use Rattle.ion_transcode.specs.WrittenAgain.{WrittenBinaryIsAccepted};
 
@@ -241,15 +241,26 @@ pub fn round_trip()
     binary::the_form_is_read();
 }
 
+/// What is shown by a layout of the text by another is what is shown by it of the stream that the text
+/// was written of: a run to text over the output of a run to text writes the text of the same values by
+/// its own layout, and counts as many, where both are accepted.
+pub fn layouts_are_shown_alike()
+    ensures { LayoutsAreShownAlike }
+{
+    what_is_accepted_is_read();
+    values_of_streams();
+    each_layout_is_read();
+    are_layouts();
+    one_spelling();
+    text::one_stream();
+}
+
 /// To show what was shown changes nothing: a run to text over the output of a run to text writes that
 /// output again, and counts as many values, where both are accepted.
 pub fn show_once()
     ensures { ShowOnce }
 {
-    what_is_accepted_is_read();
-    values_of_streams();
-    text_is_read();
-    text::one_stream();
+    layouts_are_shown_alike();
 }
 
 /// To convert a text and show the binary is to show the text: a run to text over the binary that was
@@ -368,18 +379,26 @@ pub fn text_is_read_within()
     are_layouts();
 }
 
-/// What a run to text wrote is accepted, where its values fit the limits, and a run to text over it
-/// writes the same bytes. Where depth is no lower and the limit on scalars is 64 or more, only texts,
-/// lobs and annotations may be too long.
-pub fn what_is_shown_is_accepted()
-    ensures { WhatIsShownIsAccepted }
+/// What a run to text by any layout wrote is accepted, where its values fit the limits, and a run to text
+/// over it writes the text of its values by its own layout. Where depth is no lower and the limit on
+/// scalars is 64 or more, only texts, lobs and annotations may be too long.
+pub fn each_shown_text_is_accepted()
+    ensures { EachShownTextIsAccepted }
 {
     what_is_accepted_is_read();
     one_spelling();
     values_of_streams();
     what_is_read_is_no_deeper();
-    text_is_read_within();
+    each_layout_is_read_within();
+    are_layouts();
     what_is_read_is_accepted();
+}
+
+/// So is canonical text, and a run to canonical text over it writes the same bytes.
+pub fn what_is_shown_is_accepted()
+    ensures { WhatIsShownIsAccepted }
+{
+    each_shown_text_is_accepted();
 }
 
 /// Where a run to binary accepts a text, a run over what it wrote accepts that too, under the same

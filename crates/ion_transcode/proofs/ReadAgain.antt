@@ -86,6 +86,7 @@ show-once is_read values is_text one profile next catalog other limits wide aske
 pub of-text : (f : Form) (asked : To) → resolved f asked ≡ Some target.Binary → f ≡ form.Text
 of-text form.Text asked e = refl
 of-text form.Binary to.Text e = absurd (cc e)
+of-text form.Binary to.Pretty e = absurd (cc e)
 of-text form.Binary to.Binary e = absurd (cc e)
 of-text form.Binary to.Nothing e = absurd (cc e)
 of-text form.Binary to.Other e = absurd (cc e)

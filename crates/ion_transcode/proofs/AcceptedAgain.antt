@@ -48,6 +48,7 @@ again accepted layout profile catalog limits us asked t out to_is taken written 
 
 text-taken : {layout : Layout} {t : Target} → IsTextBy layout t → (limits : Limits) (us : List (Top UserSymbol ℕ)) → AreTaken t limits us
 text-taken IsTextBy.canonical_text limits us = tt
+text-taken IsTextBy.pretty_text limits us = tt
 
 pub each-shown-text-is-accepted : WhatIsAcceptedIsRead → OneSpelling → ValuesOfStreams → WhatIsReadIsNoDeeper → EachTextIsReadWithin
     → AreLayouts → WhatIsReadIsAccepted → EachShownTextIsAccepted

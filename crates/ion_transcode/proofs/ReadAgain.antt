@@ -72,6 +72,7 @@ IsOne profile f bytes = (a b : List (Top SymbolAt ℕ)) → (encoding_of profile
 pub text-output : {layout : Layout} {t : Target} → IsTextBy layout t → (limits : Limits) (us : List (Top UserSymbol ℕ))
     → (outputs_of t limits).whole_output us ≡ text_by layout us
 text-output IsTextBy.canonical_text limits us = refl
+text-output IsTextBy.pretty_text limits us = refl
 
 -- where these are the same as others but for their places, the text of the others is shown
 shows-text : WhatIsAcceptedIsRead → {layout : Layout} {t : Target} → IsTextBy layout t → (profile : Profile) (f : Form) (catalog : List Shared)
@@ -91,6 +92,7 @@ shows-text is_read {layout} {t} by profile f catalog limits asked bytes out n ra
 
 pub text-laid : {layout : Layout} {t : Target} → AreLayouts → IsTextBy layout t → IsLayout layout
 text-laid are IsTextBy.canonical_text = are.0
+text-laid are IsTextBy.pretty_text = are.1
 
 pub layouts-are-shown-alike : WhatIsAcceptedIsRead → ValuesOfStreams → EachTextIsRead → AreLayouts → OneSpelling → text_laws.OneStream
     → LayoutsAreShownAlike
@@ -135,6 +137,7 @@ show-once alike profile next catalog other limits wide asked bytes shown again n
 pub of-text : (f : Form) (asked : To) → resolved f asked ≡ Some target.Binary → f ≡ form.Text
 of-text form.Text asked e = refl
 of-text form.Binary to.Text e = absurd (cc e)
+of-text form.Binary to.Pretty e = absurd (cc e)
 of-text form.Binary to.Binary e = absurd (cc e)
 of-text form.Binary to.Nothing e = absurd (cc e)
 of-text form.Binary to.Other e = absurd (cc e)

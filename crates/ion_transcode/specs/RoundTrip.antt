@@ -12,7 +12,7 @@ use Rattle.ion_symbols.specs.Tree.{user_tops}
 use Rattle.ion_symbols.specs.UserValues.{AreUsers, CatalogIsText}
 use Rattle.ion_binary.specs.Spelling.{AreShort, IsRead}
 use Rattle.ion_text_in.specs.Grammar as text_grammar
-use Rattle.ion_text_out.specs.Layout.{Layout, IsLayout, canonical}
+use Rattle.ion_text_out.specs.Layout.{Layout, IsLayout, canonical, pretty}
 use Rattle.ion_text_out.specs.Text.{text, text_by}
 use Rattle.ion_transcode.specs.declared.to.Form.{Form}
 use Rattle.ion_transcode.specs.declared.to.Form.TheVariants as form
@@ -78,6 +78,7 @@ LayoutsAreAlike =
 -- which targets are text, and by which layout
 pub data IsTextBy : Layout → Target → Type 0 where
   canonical_text : IsTextBy canonical target.Text
+  pretty_text : IsTextBy pretty target.Pretty
 
 -- of what a run to text by a layout wrote of a stream, and of what a run to text by another wrote over that: both are the text of
 -- the stream's user values, each by its own layout, and both count as many values; and each run over the stream itself that writes

@@ -19,7 +19,7 @@ use ion_symbols::laws::{
     what_is_declared, what_is_resolved_is_accepted, why_refused,
 };
 use ion_text_in::laws as text;
-use ion_text_out::laws::{are_layouts, path_text_is_that_of_items, text_is_that_of_items};
+use ion_text_out::laws::{are_layouts, each_text_is_that_of_items};
 
 /// The binary encoding is sound: its reading is that of its steps, and each step follows its
 /// grammar.
@@ -90,7 +90,7 @@ pub fn one_verdict()
     ensures { OneVerdict }
 {
     users_are_read();
-    text_is_that_of_items();
+    each_text_is_that_of_items();
 }
 
 /// Each stream has the verdict that the reading of its items one by one has.
@@ -101,7 +101,7 @@ pub fn streams_are_read()
     text_is_sound();
     users_are_read();
     open_users_are_read();
-    text_is_that_of_items();
+    each_text_is_that_of_items();
     binary::items_put_the_form();
     binary::open_items_put_what_is_whole();
     binary::items_are_refused_as_in_trees();
@@ -123,7 +123,7 @@ pub fn refused_output_is_that_of_a_path()
     ensures { RefusedOutputIsThatOfAPath }
 {
     faultless_paths_are_read();
-    path_text_is_that_of_items();
+    each_text_is_that_of_items();
 }
 
 /// What reading item by item says of a stream is its verdict as a catalogue.
@@ -289,7 +289,7 @@ pub fn what_is_read_is_accepted()
     users_are_read();
     what_is_resolved_is_accepted();
     binary::none_is_refused_within();
-    text_is_that_of_items();
+    each_text_is_that_of_items();
     binary::items_put_the_form();
 }
 

@@ -3,7 +3,10 @@ use Rattle.std.proofs.Common.{◌≡◌, ℕ, List, [], ◌∷◌, length, map, 
 use Rattle.ion_meter.specs.declared.limits.Limits.{Limits}
 use Rattle.ion_meter.specs.declared.profile.Profile.{Profile}
 use Rattle.ion_value.specs.Outcome.{Accepted}
+use Rattle.ion_value.specs.Path.{closed, path_items}
+use Rattle.ion_value.specs.Reading.{Finished, items_then}
 use Rattle.ion_value.specs.Value.{SymbolAt, UserSymbol, Top, unplaced_top}
+use Rattle.ion_symbols.specs.Resolved.{AreResolved}
 use Rattle.ion_symbols.specs.Table.{Shared, system}
 use Rattle.ion_symbols.specs.Tree.{user_tops}
 use Rattle.ion_symbols.specs.UserValues.{AreUsers, UsersOfRawValues}
@@ -14,19 +17,19 @@ use Rattle.ion_text_in.specs.Grammar as text_grammar
 use Rattle.ion_text_in.specs.Laws as text_laws
 use Rattle.ion_text_out.specs.Laws.{AreLayouts}
 use Rattle.ion_text_out.specs.Layout.{Layout, IsLayout, canonical}
-use Rattle.ion_text_out.specs.Text.{text, text_by}
+use Rattle.ion_text_out.specs.Text.{text_by}
 use Rattle.ion_transcode.specs.declared.to.Form.{Form}
 use Rattle.ion_transcode.specs.declared.to.Form.TheVariants as form
 use Rattle.ion_transcode.specs.declared.to.Target.{Target}
 use Rattle.ion_transcode.specs.declared.to.Target.TheVariants as target
 use Rattle.ion_transcode.specs.declared.to.To.{To}
 use Rattle.ion_transcode.specs.declared.to.To.TheVariants as to
-use Rattle.ion_transcode.specs.Acceptance.{WhatIsReadIsAccepted, WhatIsAcceptedIsRead}
-use Rattle.ion_transcode.specs.Forms.{encoding_of, form_of}
+use Rattle.ion_transcode.specs.Acceptance.{AreTaken, WhatIsReadIsAccepted, WhatIsAcceptedIsRead}
+use Rattle.ion_transcode.specs.Forms.{encoding_of, form_of, reading_of}
 use Rattle.ion_transcode.specs.Laws.{OneSpelling}
 use Rattle.ion_transcode.specs.Outputs.{outputs_of, resolved}
 use Rattle.ion_transcode.specs.Verdict.{HasVerdictWith}
-use Rattle.ion_transcode.specs.RoundTrip.{ValuesOfStreams, EachTextIsRead, TextIsRead, LayoutsAreAlike, RoundTrip, IsTextBy, LayoutsAreShownAlike, ShowOnce, ThereAndBack}
+use Rattle.ion_transcode.specs.RoundTrip.{ValuesOfStreams, EachTextIsRead, TextIsRead, LayoutsAreAlike, RoundTrip, IsTextBy, IsShown, LayoutsAreShownAlike, ShowOnce, ThereAndBack}
 use Rattle.ion_transcode.proofs.TextWithoutPlaces.{same-text-by}
 
 -- ---- values of streams
@@ -88,7 +91,44 @@ shows-text is_read {layout} {t} by profile f catalog limits asked bytes out n ra
     let all : map unplaced_top a.us ≡ map unplaced_top us = ap (map unplaced_top) found ∙ same in
     (a.output ∙ (text-output by limits a.us ∙ same-text-by layout a.us us all), a.count ∙ same-length a.us us all)
 
--- ---- runs
+-- ---- what is read to its end is shown
+
+pub text-taken : {layout : Layout} {t : Target} → IsTextBy layout t → (limits : Limits) (us : List (Top UserSymbol ℕ)) → AreTaken t limits us
+text-taken IsTextBy.canonical_text limits us = tt
+text-taken IsTextBy.pretty_text limits us = tt
+
+-- a stream of a form that is read to its end under limits, and whose user values are these, so many, in all but their places
+pub record IsReadAs (profile : Profile) (f : Form) (catalog : List Shared) (limits : Limits) (bytes : List ℕ) (us : List (Top UserSymbol ℕ)) (n : ℕ) : Type 0 where
+  pub raw : List (Top SymbolAt ℕ)
+  pub users : List (Top UserSymbol ℕ)
+  pub form : form_of bytes ≡ f
+  pub read : reading_of profile f limits bytes ≡ items_then (path_items (closed raw)) Finished
+  pub resolved : AreResolved catalog limits.symbols system raw
+  pub users_are : user_tops catalog system raw ≡ Some users
+  pub same : map unplaced_top users ≡ map unplaced_top us
+  pub count : n ≡ length us
+
+module _ (accepted : WhatIsReadIsAccepted) (profile : Profile) (f : Form) (catalog : List Shared) (limits : Limits) (bytes : List ℕ) (us : List (Top UserSymbol ℕ)) (n : ℕ)
+    (r : IsReadAs profile f catalog limits bytes us n) where
+  verdict-as : (asked : To) (t : Target) → resolved f asked ≡ Some t → AreTaken t limits r.users
+      → HasVerdictWith profile catalog limits asked bytes (Accepted n) ((outputs_of t limits).whole_output r.users)
+  verdict-as asked t to taken =
+      let to_is = ap (λ (g : Form). resolved g asked) r.form ∙ to in
+      let read : reading_of profile (form_of bytes) limits bytes ≡ items_then (path_items (closed r.raw)) Finished =
+      ap (λ (g : Form). reading_of profile g limits bytes) r.form ∙ r.read in
+      subst (λ (m : ℕ). HasVerdictWith profile catalog limits asked bytes (Accepted m) ((outputs_of t limits).whole_output r.users))
+      (same-length r.users us r.same ∙ sym r.count)
+      (accepted profile catalog limits asked bytes t r.raw r.users to_is read r.resolved r.users_are taken)
+
+  pub is-shown : IsShown profile catalog limits f bytes n us
+  is-shown t layout asked by to =
+      subst (λ (out : List ℕ). HasVerdictWith profile catalog limits asked bytes (Accepted n) out)
+      (text-output by limits r.users ∙ same-text-by layout r.users us r.same) (verdict-as asked t to (text-taken by limits r.users))
+
+  pub is-checked : resolved f to.Nothing ≡ Some target.Nothing → HasVerdictWith profile catalog limits to.Nothing bytes (Accepted n) []
+  is-checked e = verdict-as to.Nothing target.Nothing e tt
+
+-- ---- runs over what was shown
 
 pub text-laid : {layout : Layout} {t : Target} → AreLayouts → IsTextBy layout t → IsLayout layout
 text-laid are IsTextBy.canonical_text = are.0
@@ -145,7 +185,7 @@ of-text form.Binary to.Other e = absurd (cc e)
 pub there-and-back : WhatIsAcceptedIsRead → WhatIsReadIsAccepted → UsersOfRawValues → text_laws.StreamsAreRaw → TheFormIsRead
     → WhatIsWithinIsShort → binary_laws.OneStream → text_laws.OneStream → ThereAndBack
 there-and-back is_read accepted values raw is_binary short one one_text profile next catalog other limits wide asked back_as bytes written back n m
-    texts checked to_is first to_text second =
+    t layout by texts checked to_is first to_text second =
     let w = is_read profile catalog limits asked bytes target.Binary n written to_is first in
     let us : List (Top UserSymbol ℕ) = w.us in
     let f_is : form_of bytes ≡ form.Text = of-text (form_of bytes) asked to_is in
@@ -155,13 +195,23 @@ there-and-back is_read accepted values raw is_binary short one one_text profile 
     let octets : List ℕ = binary limits.symbols us in
     let of_form : form_of octets ≡ form.Binary = ap form_of r.stream.begins.1 in
     let moved = subst (λ (xs : List ℕ). HasVerdictWith next other wide back_as xs (Accepted m) back) w.output second in
-    let moved_to = subst (λ (xs : List ℕ). resolved (form_of xs) back_as ≡ Some target.Text) w.output to_text in
-    let b = shows-text is_read IsTextBy.canonical_text next form.Binary other wide back_as octets back m r.raw r.users us (one octets) of_form r.stream r.users_are
+    let moved_to = subst (λ (xs : List ℕ). resolved (form_of xs) back_as ≡ Some t) w.output to_text in
+    let b = shows-text is_read by next form.Binary other wide back_as octets back m r.raw r.users us (one octets) of_form r.stream r.users_are
     r.same moved_to moved in
-    let as_text : resolved (form_of bytes) to.Text ≡ Some target.Text = ap (λ (g : Form). resolved g to.Text) f_is in
-    let shown = accepted profile catalog limits to.Text bytes target.Text w.tops us as_text w.read w.resolved_are w.users_are tt in
-    let same = λ (any : Profile) (most : Limits) (out : List ℕ) (k : ℕ) (v : HasVerdictWith any catalog most to.Text bytes (Accepted k) out).
-    shows-text is_read IsTextBy.canonical_text any form.Text catalog most to.Text bytes out k w.tops us us (one_text bytes) f_is stream w.users_are refl as_text v in
+    let here : IsReadAs profile form.Text catalog limits bytes us n = record {
+      raw = w.tops;
+      users = us;
+      form = f_is;
+      read = subst (λ (g : Form). reading_of profile g limits bytes ≡ items_then (path_items (closed w.tops)) Finished) f_is w.read;
+      resolved = w.resolved_are;
+      users_are = w.users_are;
+      same = refl;
+      count = w.count;
+    } in
+    let alike = λ (any : Profile) (most : Limits) (u : Target) (asks : To) (out : List ℕ) (k : ℕ) (is : IsTextBy layout u)
+    (to : resolved form.Text asks ≡ Some u) (v : HasVerdictWith any catalog most asks bytes (Accepted k) out).
+    shows-text is_read is any form.Text catalog most asks bytes out k w.tops us us (one_text bytes) f_is stream w.users_are refl
+    (ap (λ (g : Form). resolved g asks) f_is ∙ to) v in
     record {
       tops = w.tops;
       us = us;
@@ -169,6 +219,7 @@ there-and-back is_read accepted values raw is_binary short one one_text profile 
       users_are = w.users_are;
       output = b.0;
       count = b.1 ∙ sym w.count;
-      shown = subst (λ (m : ℕ). HasVerdictWith profile catalog limits to.Text bytes (Accepted m) (text us)) (sym w.count) shown;
-      shown_by = λ any most out k v. ((same any most out k v).0 ∙ sym b.0, (same any most out k v).1 ∙ sym w.count);
+      shown = is-shown accepted profile form.Text catalog limits bytes us n here;
+      shown_by = λ any most u asks out k is to v.
+          ((alike any most u asks out k is to v).0 ∙ sym b.0, (alike any most u asks out k is to v).1 ∙ sym w.count);
     }

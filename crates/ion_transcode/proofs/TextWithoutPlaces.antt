@@ -3,8 +3,8 @@ use Rattle.std.proofs.Common.{◌≡◌, ℕ, Bool, List, [], ◌∷◌, ◌++�
 use Rattle.std.specs.List.{flat_map}
 use Rattle.ion_value.specs.declared.ion_type.Kind.{Kind}
 use Rattle.ion_value.specs.Value.{UserSymbol, Value, Members, scalar, container, nothing, member, Top, version, tree, unplaced_top}
-use Rattle.ion_text_out.specs.Layout.{Layout, canonical, further_in}
-use Rattle.ion_text_out.specs.Text.{scalar_text, field_text_by, annotation_text, opener, closer, is_empty, value_text_by, members_text_by, top_text_by, text_by, text}
+use Rattle.ion_text_out.specs.Layout.{Layout, further_in}
+use Rattle.ion_text_out.specs.Text.{scalar_text, field_text_by, annotation_text, opener, closer, is_empty, value_text_by, members_text_by, top_text_by, text_by}
 use Rattle.ion_transcode.proofs.ValuesAreSpelled.{unplaced, unplaced_members, id-scalar, id-map}
 
 joined : {a b c d : List ℕ} → a ≡ b → c ≡ d → a ++ c ≡ b ++ d
@@ -46,6 +46,3 @@ text-unplaced layout (t ∷ ts) = joined (top-same layout t) (text-unplaced layo
 pub same-text-by : (layout : Layout) (us vs : List (Top UserSymbol ℕ)) → map unplaced_top us ≡ map unplaced_top vs
     → text_by layout us ≡ text_by layout vs
 same-text-by layout us vs e = sym (text-unplaced layout us) ∙ (ap (text_by layout) e ∙ text-unplaced layout vs)
-
-pub same-text : (us vs : List (Top UserSymbol ℕ)) → map unplaced_top us ≡ map unplaced_top vs → text us ≡ text vs
-same-text us vs e = same-text-by canonical us vs e

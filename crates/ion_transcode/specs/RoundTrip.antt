@@ -13,7 +13,7 @@ use Rattle.ion_symbols.specs.UserValues.{AreUsers, CatalogIsText}
 use Rattle.ion_binary.specs.Spelling.{AreShort, IsRead}
 use Rattle.ion_text_in.specs.Grammar as text_grammar
 use Rattle.ion_text_out.specs.Layout.{Layout, IsLayout, canonical, pretty}
-use Rattle.ion_text_out.specs.Text.{text, text_by}
+use Rattle.ion_text_out.specs.Text.{text_by}
 use Rattle.ion_transcode.specs.declared.to.Form.{Form}
 use Rattle.ion_transcode.specs.declared.to.Form.TheVariants as form
 use Rattle.ion_transcode.specs.declared.to.Target.{Target}
@@ -115,25 +115,34 @@ ShowOnce =
     → HasVerdictWith profile catalog limits asked bytes (Accepted n) shown
     → HasVerdictWith next other wide to.Text shown (Accepted m) again → (again ≡ shown) × (m ≡ n)
 
--- of a text with these user values: what was shown back is their canonical text, and counts as many values; a run to text over the
--- text itself is accepted under these limits, and shows the same; and so does each that is accepted, whatever its limits and its
--- profile are
-pub record IsShownBack (profile : Profile) (catalog : List Shared) (limits : Limits) (bytes back : List ℕ) (n m : ℕ) : Type 0 where
+-- a run to text by whatever layout accepts a stream of this form, counts so many values, and writes the text of these by its layout
+abbrev pub IsShown : Profile → List Shared → Limits → Form → List ℕ → ℕ → List (Top UserSymbol ℕ) → Type 0
+IsShown profile catalog limits form bytes n us =
+    (target : Target) (layout : Layout) (asked : To) → IsTextBy layout target → resolved form asked ≡ Some target
+    → HasVerdictWith profile catalog limits asked bytes (Accepted n) (text_by layout us)
+
+-- of a text with these user values: what was shown back is their text by this layout, and counts as many values; a run to text by
+-- whatever layout over the text itself is accepted under these limits, and shows them; and each by this layout that is accepted
+-- shows what was shown back, whatever its limits and its profile are
+pub record IsShownBack (profile : Profile) (catalog : List Shared) (limits : Limits) (layout : Layout) (bytes back : List ℕ) (n m : ℕ)
+    : Type 0 where
   pub tops : List (Top SymbolAt ℕ)
   pub us : List (Top UserSymbol ℕ)
   pub stream : text_grammar.Stream bytes tops
   pub users_are : user_tops catalog system tops ≡ Some us
-  pub output : back ≡ text us
+  pub output : back ≡ text_by layout us
   pub count : m ≡ n
-  pub shown : HasVerdictWith profile catalog limits to.Text bytes (Accepted n) (text us)
-  pub shown_by : (next : Profile) (most : Limits) (out : List ℕ) (k : ℕ) → HasVerdictWith next catalog most to.Text bytes (Accepted k) out
+  pub shown : IsShown profile catalog limits form.Text bytes n us
+  pub shown_by : (next : Profile) (most : Limits) (target : Target) (asked : To) (out : List ℕ) (k : ℕ) → IsTextBy layout target
+      → resolved form.Text asked ≡ Some target → HasVerdictWith next catalog most asked bytes (Accepted k) out
       → (out ≡ back) × (k ≡ n)
 
--- so it is where a run to binary accepts a text, and a run to text accepts what it wrote: whatever the limits and the profile
--- of the second are, and the catalogue by which the binary is read
+-- so it is where a run to binary accepts a text, and a run to text by this layout accepts what it wrote: whatever the limits and
+-- the profile of the second are, and the catalogue by which the binary is read
 abbrev pub ThereAndBack : Type 0
 ThereAndBack =
     (profile next : Profile) (catalog other : List Shared) (limits wide : Limits) (asked shown : To) (bytes written back : List ℕ) (n m : ℕ)
-    → CatalogIsText catalog → AreChecked limits → resolved (form_of bytes) asked ≡ Some target.Binary
-    → HasVerdictWith profile catalog limits asked bytes (Accepted n) written → resolved (form_of written) shown ≡ Some target.Text
-    → HasVerdictWith next other wide shown written (Accepted m) back → IsShownBack profile catalog limits bytes back n m
+    (second : Target) (layout : Layout) → IsTextBy layout second → CatalogIsText catalog → AreChecked limits
+    → resolved (form_of bytes) asked ≡ Some target.Binary → HasVerdictWith profile catalog limits asked bytes (Accepted n) written
+    → resolved (form_of written) shown ≡ Some second → HasVerdictWith next other wide shown written (Accepted m) back
+    → IsShownBack profile catalog limits layout bytes back n m

@@ -26,7 +26,7 @@ use Rattle.ion_transcode.specs.declared.to.To.TheVariants as to
 use Rattle.ion_transcode.specs.Depth.{IsNoDeeper}
 use Rattle.ion_transcode.specs.Forms.{encoding_of, form_of}
 use Rattle.ion_transcode.specs.Outputs.{resolved}
-use Rattle.ion_transcode.specs.RoundTrip.{IsTextBy}
+use Rattle.ion_transcode.specs.RoundTrip.{IsTextBy, IsShown}
 use Rattle.ion_transcode.specs.Verdict.{HasVerdictWith}
 
 -- ---- which values rules allow in text
@@ -117,11 +117,10 @@ TextIsReadWithin = AreReadWithinBy canonical
 
 -- what a run wrote is the text of these values by a layout, and is accepted by each run to text, which writes the text of the
 -- values by its own layout, and by a run to nothing, and they count as many values
-pub record IsAcceptedAgain (profile : Profile) (catalog : List Shared) (limits : Limits) (layout : Layout) (us : List (Top UserSymbol ℕ))
+pub record IsShownAgain (profile : Profile) (catalog : List Shared) (limits : Limits) (layout : Layout) (us : List (Top UserSymbol ℕ))
     (shown : List ℕ) (n : ℕ) : Type 0 where
   pub output : shown ≡ text_by layout us
-  pub as_text : (target : Target) (other : Layout) (asked : To) → IsTextBy other target → resolved form.Text asked ≡ Some target
-      → HasVerdictWith profile catalog limits asked shown (Accepted n) (text_by other us)
+  pub as_text : IsShown profile catalog limits form.Text shown n us
   pub as_nothing : HasVerdictWith profile catalog limits to.Nothing shown (Accepted n) []
 
 -- so it is with what a run to text wrote, whatever the catalogue is, where the values fit these runs' limits and profile, and of
@@ -134,7 +133,7 @@ EachShownTextIsAccepted =
     → AreBytes bytes → CatalogIsText catalog → resolved (form_of bytes) asked ≡ Some target
     → HasVerdictWith profile catalog limits asked bytes (Accepted n) shown → (encoding_of profile (form_of bytes)).Stream bytes tops
     → user_tops catalog system tops ≡ Some us → 64 ≤ wide.scalar → limits.depth ≤ wide.depth
-    → AllByRecursion (FitsText (rules wide next)) us → IsAcceptedAgain next other wide layout us shown n
+    → AllByRecursion (FitsText (rules wide next)) us → IsShownAgain next other wide layout us shown n
 
 -- what a run to canonical text wrote is accepted by such a run, which writes the same bytes, and by a run to nothing
 abbrev pub WhatIsShownIsAccepted : Type 0

@@ -14,12 +14,13 @@ use Rattle.ion_symbols.specs.Tree.{user_tops}
 use Rattle.ion_symbols.specs.UserValues.{CatalogIsText}
 use Rattle.ion_binary.specs.WrittenLimits.{AllowDeclarations, FitsBinary}
 use Rattle.ion_text_in.specs.Grammar as text_grammar
-use Rattle.ion_text_out.specs.Text.{text}
+use Rattle.ion_transcode.specs.declared.to.Form.TheVariants as form
 use Rattle.ion_transcode.specs.declared.to.Target.TheVariants as target
 use Rattle.ion_transcode.specs.declared.to.To.{To}
 use Rattle.ion_transcode.specs.declared.to.To.TheVariants as to
 use Rattle.ion_transcode.specs.Forms.{form_of}
 use Rattle.ion_transcode.specs.Outputs.{resolved}
+use Rattle.ion_transcode.specs.RoundTrip.{IsShown}
 use Rattle.ion_transcode.specs.Verdict.{HasVerdictWith}
 
 -- ---- what is declared when values are written as binary: each text of their symbols that the system symbol table has not
@@ -56,16 +57,15 @@ OfUsers catalog bytes P =
 
 -- ---- the law
 
--- of a text with these user values: a run to text accepts it, and writes their canonical text; so does one over the binary that was
--- written of it, whatever the catalogue is by which that is read; and one to nothing accepts it too. All count as many values
+-- of a text with these user values: a run to text accepts it, and writes their text by its layout; so does one over the binary that
+-- was written of it, whatever the catalogue is by which that is read; and one to nothing accepts it too. All count as many values
 pub record IsAcceptedAgain (profile : Profile) (catalog other : List Shared) (limits : Limits) (bytes written : List ℕ) (n : ℕ) : Type 0 where
   pub tops : List (Top SymbolAt ℕ)
   pub us : List (Top UserSymbol ℕ)
   pub stream : text_grammar.Stream bytes tops
   pub users_are : user_tops catalog system tops ≡ Some us
-  pub shown : HasVerdictWith profile catalog limits to.Text bytes (Accepted n) (text us)
-  pub as_text : HasVerdictWith profile other limits to.Text written (Accepted n) (text us)
-  pub as_other : HasVerdictWith profile other limits to.Other written (Accepted n) (text us)
+  pub shown : IsShown profile catalog limits form.Text bytes n us
+  pub as_text : IsShown profile other limits form.Binary written n us
   pub as_nothing : HasVerdictWith profile other limits to.Nothing written (Accepted n) []
 
 -- so it is with each run to binary that accepts its text, under checked limits that allow what is written

@@ -264,9 +264,9 @@ pub fn show_once()
 }
 
 /// To convert a text and show the binary is to show the text: a run to text over the binary that was
-/// written of a text writes the canonical text of its values, where both runs are accepted, and counts
-/// as many. A run to text over the text itself is then accepted under the first run's limits, and
-/// each that is accepted, under whatever limits, writes the same.
+/// written of a text writes the text of its values by its layout, where both runs are accepted, and
+/// counts as many. A run to text over the text itself is then accepted under the first run's limits,
+/// and each by that layout that is accepted, under whatever limits, writes the same.
 pub fn there_and_back()
     ensures { ThereAndBack }
 {

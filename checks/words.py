@@ -35,6 +35,8 @@ LINE = b"{name:[1,-1.50]}\n"
 CUT = b"5 [6, x"
 IMPORT = b'$ion_symbol_table::{imports:[{name:"x",version:1,max_id:2}]} $10 $11'
 IMPORT_AND_A = b'$ion_symbol_table::{imports:[{name:"x",version:1,max_id:2}],symbols:["a"]} $12 $10'
+# a struct, an empty s-expression and another, as people write them
+PRETTY = b"{\n  a: [\n    1,\n    {}\n  ],\n  'b c': x::\"y\\n\"\n}\n()\n(\n  a\n  1d5\n)\n"
 # each value after the declaration of its new text
 P_AND_Q = bytes.fromhex("EA 81 83 D7 86 71 03 87 B2 81 70 71 0A EA 81 83 D7 86 71 03 87 B2 81 71 71 0B")
 FILES = {
@@ -98,6 +100,10 @@ ROWS = [
     ("floats, checked", "check --floats -", b"1e0 nan", 0, b"ok 2 values\n", b""),
     ("floats, to binary", "convert --floats", b"0e0 -1.5e0 0.1", 0, MARKER + bytes.fromhex("40 44bfc00000 52c101"), b""),
     ("floats, from binary", "convert --floats -", MARKER + bytes.fromhex("48 3fb999999999999a"), 0, b"1e-1\n", b""),
+    ("pretty text", "show --pretty", b"{a:[1,{}],'b c':x::\"y\\n\"} () (a 1d5)", 0, PRETTY, b""),
+    ("pretty text by its form", "convert --pretty --to text", b"{a:[1,{}],'b c':x::\"y\\n\"} () (a 1d5)", 0, PRETTY, b""),
+    ("pretty text of a refused stream", "show --pretty -", b"[1,{a:2 3", 1, b"[\n  1,\n  {\n    a: 2", b"refused BadToken at 8\n"),
+    ("pretty text of floats", "show --floats --pretty", b"[1e0]", 0, b"[\n  1e0\n]\n", b""),
     ("show without a catalogue", "show imports.ion", b"", 1, b"", b"refused UnknownSymbol at 61\n"),
     ("a catalogue that is none", "show --catalog notables.ion six.ion", b"", 1, b"", b"catalog refused CatalogEntry at 0\n"),
     ("a catalogue past its limit", "show --symbols 33 --catalog tables.ion six.ion", b"", 1, b"", b"catalog refused SymbolLimit at 55\n"),
@@ -138,7 +144,7 @@ ROWS = [
      b"error: invalid value 'x' for '--scalar <N>': invalid digit found in string\n" + TRY),
     ("a limit past its maximum", "show --depth 65536", b"1", 2, b"",
      b"error: invalid value '65536' for '--depth <N>': 65536 is not in 0..=65535\n" + TRY),
-    ("a form that is none", "convert --to ion six.ion", b"", 2, b"", b"error: '--to <FORM>' takes text or binary\n" + TRY),
+    ("a form that is none", "convert --to ion six.ion", b"", 2, b"", b"error: '--to <FORM>' takes text or binary; '--pretty' needs '--to text'\n" + TRY),
     ("no form", "convert --to", b"", 2, b"", b"error: a value is required for '--to <FORM>' but none was supplied\n" + TRY),
     ("a form to show", "show --to text six.ion", b"", 2, b"",
      b"error: unexpected argument '--to' found\n\n  tip: to pass '--to' as a value, use '-- --to'\n\n"
@@ -148,8 +154,8 @@ ROWS = [
      b"Usage: ion check [OPTIONS] [FILE]\n" + TRY),
     ("a limit twice", "show --depth 1 --depth 2", b"1", 2, b"",
      b"error: the argument '--depth <N>' cannot be used multiple times\n\nUsage: ion show [OPTIONS] [FILE]\n" + TRY),
-    ("no such option", "convert --pretty six.ion", b"", 2, b"",
-     b"error: unexpected argument '--pretty' found\n\n  tip: to pass '--pretty' as a value, use '-- --pretty'\n\n"
+    ("no such option", "convert --xyz six.ion", b"", 2, b"",
+     b"error: unexpected argument '--xyz' found\n\n  tip: to pass '--xyz' as a value, use '-- --xyz'\n\n"
      b"Usage: ion convert [OPTIONS] [FILE]\n" + TRY),
 ]
 
@@ -245,6 +251,9 @@ USAGE = [
     "show --scalar x",
     "show --to text",
     "check --to binary",
+    "check --pretty six.ion",
+    "convert --pretty six.ion",
+    "convert --pretty --to binary six.ion",
     "convert --to other",
     "convert --to text --to text",
 ]

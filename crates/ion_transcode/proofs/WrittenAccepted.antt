@@ -1,8 +1,6 @@
 -- What was written as binary is accepted under the limits of its run, and shows what the text shows.
-use Rattle.std.proofs.Common.{◌≡◌, inl, inr, ℕ, List, [], refl, ap, sym, subst}
+use Rattle.std.proofs.Common.{◌≡◌, inl, inr, ℕ, List, refl, ap, sym, subst}
 use Rattle.std.specs.List.{AllByRecursion}
-use Rattle.ion_meter.specs.declared.limits.Limits.{Limits}
-use Rattle.ion_meter.specs.declared.profile.Profile.{Profile}
 use Rattle.ion_meter.specs.Rules.{rules}
 use Rattle.ion_value.specs.Path.{closed, path_items}
 use Rattle.ion_value.specs.Reading.{Finished, items_then}

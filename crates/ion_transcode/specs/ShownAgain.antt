@@ -107,9 +107,6 @@ abbrev pub EachTextIsReadWithin : Type 0
 EachTextIsReadWithin = (layout : Layout) → IsLayout layout → AreReadWithinBy layout
 
 -- canonical text
-abbrev pub IsReadWithin : Profile → List Shared → Limits → List (Top UserSymbol ℕ) → Type 0
-IsReadWithin profile catalog limits tops = IsReadWithinBy canonical profile catalog limits tops
-
 abbrev pub TextIsReadWithin : Type 0
 TextIsReadWithin = AreReadWithinBy canonical
 

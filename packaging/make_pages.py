@@ -33,6 +33,8 @@ stream then has a name:
 A stream is binary if its first byte is E0, whatever the file is called. A script that may run twice says --to, since convert
 alone would turn everything back. Binary is not written again as binary: that is refused as SameForm at 0.
 
+--pretty goes with show, and with convert --to text.
+
 Without --floats a float other than null.float is refused, as Float, and so is a number of JSON with an exponent, which is one.
 
 If the reader of a pipe ends before the output does, as head does, the next write fails, and ion ends with "write

@@ -158,7 +158,7 @@ def to_text(stream: _Bytes, *, catalog: _Bytes = b"", depth: int = 64, scalar: i
 
 def to_pretty(stream: _Bytes, *, catalog: _Bytes = b"", depth: int = 64, scalar: int = 1 << 20, symbols: int = 1 << 20,
               value: int = 1 << 24, input: int = 1 << 48, floats: bool = False) -> bytes:
-    """The stream, text or binary, as pretty text: each member of a container is a line of its own."""
+    """The stream, text or binary, as pretty text: each member of a container begins a line."""
     return _call("cozgelt_to_pretty_with", floats, stream, catalog, (depth, scalar, symbols, value, input), 4)[0]
 
 

@@ -317,7 +317,7 @@ pub fn to_text(stream: &[u8], catalog: &[u8], limits: &Limits) -> Result<Vec<u8>
     to_text_with(Profile::Strict, stream, catalog, limits)
 }
 
-/// The stream, text or binary, as pretty text: each member of a container is a line of its own.
+/// The stream, text or binary, as pretty text: each member of a container begins a line.
 pub fn to_pretty(stream: &[u8], catalog: &[u8], limits: &Limits) -> Result<Vec<u8>, Error> {
     to_pretty_with(Profile::Strict, stream, catalog, limits)
 }

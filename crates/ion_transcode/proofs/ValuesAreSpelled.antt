@@ -543,6 +543,25 @@ inner-is layout is = record {
   closer = λ empty depth. is.closer empty (1 + depth);
 }
 
+-- a member after others, where its field and its value are read
+one-member : (k : Kind) (c : Cursor) (before : Members UserSymbol ℕ) (f : Option UserSymbol) (notes : List UserSymbol) (place : ℕ)
+    (x : Value UserSymbol ℕ) (tail body rest : List ℕ) (o : Opened k c before tail)
+    (fr : FieldRead k (at o.place (o.gap ++ tail)) f body) → ValueRead (Some k) (at fr.place (fr.gap ++ body)) notes x rest
+    → MembersRead k c (member before f notes place x) (has_commas (Some k)) rest
+one-member k c before f notes place x tail body rest o fr v = record {
+  raw = member o.raw fr.own v.own v.place v.raw;
+  after = v.after;
+  spells = Inside.with_value o.spells fr.spells v.spells;
+  are = λ t.
+      let named = fr.is t ∙ sym (option_map_id f) in
+      same_member tt (o.are t) named (v.annotations_are t ∙ sym (id-map notes)) (v.value_is t);
+  stand = (o.stand, fr.stands, v.annotations_stand, v.value_stands);
+  within = λ limits depth wide fits deep. (
+    o.within limits depth wide fits.0 deep.0,
+    (fr.within limits wide fits.1, v.within limits depth wide fits.2 fits.3 deep.1),
+  );
+}
+
 mutual
   pub value-read : TextLaws → (layout : Layout) → IsLayout layout → (k : Option Kind) (f : Option UserSymbol)
       (notes : List UserSymbol) (x : Value UserSymbol ℕ) (gap : List ℕ) → AreWhite gap → (p : ℕ) (rest : List ℕ)
@@ -640,22 +659,9 @@ mutual
       let o = opened k c before between tail may r in
       let fr = field-read laws layout is k f fielded writable.1.0 o.gap o.is_gap o.place body body_start in
       let v = value-read laws layout is (Some k) f notes x fr.gap fr.is_gap fr.place rest own writable.1.1 small.1 (after refl) in
-      let whole : MembersRead k c (member before f notes place x) (has_commas (Some k)) rest = record {
-        raw = member o.raw fr.own v.own v.place v.raw;
-        after = v.after;
-        spells = Inside.with_value o.spells fr.spells v.spells;
-        are = λ t.
-            let named = fr.is t ∙ sym (option_map_id f) in
-            same_member {f = option_map (user_at t) fr.own} {a = map (user_at t) v.own} {x = seen t v.raw} tt (o.are t) named
-            (v.annotations_are t ∙ sym (id-map notes)) (v.value_is t);
-        stand = (o.stand, fr.stands, v.annotations_stand, v.value_stands);
-        within = λ limits depth wide fits deep. (
-          o.within limits depth wide fits.0 deep.0,
-          (fr.within limits wide fits.1, v.within limits depth wide fits.2 fits.3 deep.1),
-        );
-      } in
       subst (λ (xs : List ℕ). MembersRead k (at p xs) (member before f notes place x) (has_commas (Some k)) rest)
-      (sym (member-join front between field (annotations_text notes) own_text rest)) whole
+      (sym (member-join front between field (annotations_text notes) own_text rest))
+      (one-member k c before f notes place x tail body rest o fr v)
 
 -- what a value at top level begins with
 pub top-starts : TextLaws → (layout : Layout) (notes : List UserSymbol) (x : Value UserSymbol ℕ)

@@ -4,13 +4,13 @@ use Rattle.ion_meter.specs.declared.limits.Limits.{Limits}
 use Rattle.ion_meter.specs.declared.profile.Profile.{Profile}
 use Rattle.ion_value.specs.Outcome.{Accepted}
 use Rattle.ion_value.specs.Value.{SymbolAt, UserSymbol, Top, unplaced_top}
+use Rattle.ion_value.specs.Writable.{AreBytes}
 use Rattle.ion_symbols.specs.Table.{Shared, system}
 use Rattle.ion_symbols.specs.Tree.{user_tops}
-use Rattle.ion_symbols.specs.UserValues.{AreUsers, UsersOfRawValues}
+use Rattle.ion_symbols.specs.UserValues.{AreUsers, CatalogIsText, UsersOfRawValues}
 use Rattle.ion_binary.specs.Canonical.{binary}
 use Rattle.ion_binary.specs.Laws as binary_laws
 use Rattle.ion_binary.specs.Spelling.{TheFormIsRead, WhatIsWithinIsShort}
-use Rattle.ion_text_in.specs.Grammar as text_grammar
 use Rattle.ion_text_in.specs.Laws as text_laws
 use Rattle.ion_text_out.specs.Text.{text}
 use Rattle.ion_transcode.specs.declared.to.Form.{Form}
@@ -20,6 +20,7 @@ use Rattle.ion_transcode.specs.declared.to.To.{To}
 use Rattle.ion_transcode.specs.declared.to.To.TheVariants as to
 use Rattle.ion_transcode.specs.Acceptance.{WhatIsReadIsAccepted, WhatIsAcceptedIsRead}
 use Rattle.ion_transcode.specs.Forms.{encoding_of, form_of}
+use Rattle.ion_transcode.specs.Laws.{OneSpelling}
 use Rattle.ion_transcode.specs.Outputs.{resolved}
 use Rattle.ion_transcode.specs.Verdict.{HasVerdictWith}
 use Rattle.ion_transcode.specs.RoundTrip.{ValuesOfStreams, TextIsRead, RoundTrip, ShowOnce, ThereAndBack}
@@ -27,12 +28,18 @@ use Rattle.ion_transcode.proofs.TextWithoutPlaces.{same-text}
 
 -- ---- values of streams
 
--- by what is true of them before their ids are resolved
-pub values-of-streams : UsersOfRawValues → binary_laws.StreamsAreRaw → text_laws.StreamsAreRaw → ValuesOfStreams
-values-of-streams users binary_raw text_raw profile form.Binary catalog bytes tops us small texts stream are =
-    users catalog tops us texts (binary_raw bytes tops small stream) are
-values-of-streams users binary_raw text_raw profile form.Text catalog bytes tops us small texts stream are =
+-- by what is true of them before their ids are resolved, and of text whatever its bytes are
+pub users-of : UsersOfRawValues → binary_laws.StreamsAreRaw → text_laws.StreamsAreRaw → (profile : Profile) (f : Form) (catalog : List Shared)
+    (bytes : List ℕ) (tops : List (Top SymbolAt ℕ)) (us : List (Top UserSymbol ℕ)) → (f ≡ form.Binary → AreBytes bytes) → CatalogIsText catalog
+    → (encoding_of profile f).Stream bytes tops → user_tops catalog system tops ≡ Some us → AreUsers us
+users-of users binary_raw text_raw profile form.Binary catalog bytes tops us small texts stream are =
+    users catalog tops us texts (binary_raw bytes tops (small refl) stream) are
+users-of users binary_raw text_raw profile form.Text catalog bytes tops us small texts stream are =
     users catalog tops us texts (text_raw bytes tops stream) are
+
+pub values-of-streams : UsersOfRawValues → binary_laws.StreamsAreRaw → text_laws.StreamsAreRaw → ValuesOfStreams
+values-of-streams users binary_raw text_raw profile f catalog bytes tops us small texts stream are =
+    users-of users binary_raw text_raw profile f catalog bytes tops us (λ e. small) texts stream are
 
 pub round-trip : ValuesOfStreams → TextIsRead → TheFormIsRead → RoundTrip
 round-trip values is_text is_binary profile f catalog other limit bytes tops us small texts stream users =
@@ -82,39 +89,40 @@ show-once is_read values is_text one profile next catalog other limits wide aske
     to_text moved in
     (b.0 ∙ sym a.output, b.1 ∙ sym a.count)
 
--- binary is written of text alone
-pub of-text : (f : Form) (asked : To) → resolved f asked ≡ Some target.Binary → f ≡ form.Text
-of-text form.Text asked e = refl
-of-text form.Binary to.Text e = absurd (cc e)
-of-text form.Binary to.Pretty e = absurd (cc e)
-of-text form.Binary to.Binary e = absurd (cc e)
-of-text form.Binary to.Nothing e = absurd (cc e)
-of-text form.Binary to.Other e = absurd (cc e)
+-- each form can be shown
+pub shown-as : (f : Form) → resolved f to.Text ≡ Some target.Text
+shown-as form.Text = refl
+shown-as form.Binary = refl
 
-pub there-and-back : WhatIsAcceptedIsRead → WhatIsReadIsAccepted → UsersOfRawValues → text_laws.StreamsAreRaw → TheFormIsRead
-    → WhatIsWithinIsShort → binary_laws.OneStream → text_laws.OneStream → ThereAndBack
-there-and-back is_read accepted values raw is_binary short one one_text profile next catalog other limits wide asked back_as bytes written back n m
-    texts checked to_is first to_text second =
+-- what bytes spell does not look at the profile
+same-stream : (profile next : Profile) (f : Form) (bytes : List ℕ) (tops : List (Top SymbolAt ℕ)) → (encoding_of profile f).Stream bytes tops
+    → (encoding_of next f).Stream bytes tops
+same-stream profile next form.Text bytes tops stream = stream
+same-stream profile next form.Binary bytes tops stream = stream
+
+pub there-and-back : WhatIsAcceptedIsRead → WhatIsReadIsAccepted → UsersOfRawValues → binary_laws.StreamsAreRaw → text_laws.StreamsAreRaw
+    → TheFormIsRead → WhatIsWithinIsShort → OneSpelling → ThereAndBack
+there-and-back is_read accepted values binary_raw text_raw is_binary short one profile next catalog other limits wide asked back_as bytes written
+    back n m texts checked small to_is first to_text second =
     let w = is_read profile catalog limits asked bytes target.Binary n written to_is first in
     let us : List (Top UserSymbol ℕ) = w.us in
-    let f_is : form_of bytes ≡ form.Text = of-text (form_of bytes) asked to_is in
-    let stream : text_grammar.Stream bytes w.tops = subst (λ (g : Form). (encoding_of profile g).Stream bytes w.tops) f_is w.stream in
-    let are : AreUsers us = values catalog w.tops us texts (raw bytes w.tops stream) w.users_are in
+    let f : Form = form_of bytes in
+    let are : AreUsers us = users-of values binary_raw text_raw profile f catalog bytes w.tops us small texts w.stream w.users_are in
     let r = is_binary other limits.symbols us are.0 (short limits us checked w.taken) in
     let octets : List ℕ = binary limits.symbols us in
     let of_form : form_of octets ≡ form.Binary = ap form_of r.stream.begins.1 in
     let moved = subst (λ (xs : List ℕ). HasVerdictWith next other wide back_as xs (Accepted m) back) w.output second in
     let moved_to = subst (λ (xs : List ℕ). resolved (form_of xs) back_as ≡ Some target.Text) w.output to_text in
-    let b = shows-text is_read next form.Binary other wide back_as octets back m r.raw r.users us (one octets) of_form r.stream r.users_are
-    r.same moved_to moved in
-    let as_text : resolved (form_of bytes) to.Text ≡ Some target.Text = ap (λ (g : Form). resolved g to.Text) f_is in
-    let shown = accepted profile catalog limits to.Text bytes target.Text w.tops us as_text w.read w.resolved_are w.users_are tt in
+    let b = shows-text is_read next form.Binary other wide back_as octets back m r.raw r.users us ((one next form.Binary).stream octets) of_form
+    r.stream r.users_are r.same moved_to moved in
+    let shown = accepted profile catalog limits to.Text bytes target.Text w.tops us (shown-as f) w.read w.resolved_are w.users_are tt in
     let same = λ (any : Profile) (most : Limits) (out : List ℕ) (k : ℕ) (v : HasVerdictWith any catalog most to.Text bytes (Accepted k) out).
-    shows-text is_read any form.Text catalog most to.Text bytes out k w.tops us us (one_text bytes) f_is stream w.users_are refl as_text v in
+    shows-text is_read any f catalog most to.Text bytes out k w.tops us us ((one any f).stream bytes) refl
+    (same-stream profile any f bytes w.tops w.stream) w.users_are refl (shown-as f) v in
     record {
       tops = w.tops;
       us = us;
-      stream = stream;
+      stream = w.stream;
       users_are = w.users_are;
       output = b.0;
       count = b.1 ∙ sym w.count;

@@ -1,4 +1,4 @@
--- What was written as binary is accepted under the limits of its run, and shows what the text shows.
+-- What was written as binary is accepted under the limits of its run, and shows what the stream shows.
 use Rattle.std.proofs.Common.{◌≡◌, inl, inr, ℕ, List, [], length, Some, refl, ap, sym, ◌∙◌, subst, subst₂}
 use Rattle.std.specs.List.{AllByRecursion}
 use Rattle.ion_meter.specs.declared.limits.Limits.{Limits}
@@ -7,20 +7,21 @@ use Rattle.ion_meter.specs.Rules.{rules}
 use Rattle.ion_value.specs.Outcome.{Accepted}
 use Rattle.ion_value.specs.Path.{closed, path_items}
 use Rattle.ion_value.specs.Reading.{Finished, items_then}
-use Rattle.ion_value.specs.Value.{UserSymbol, Top}
+use Rattle.ion_value.specs.Value.{SymbolAt, UserSymbol, Top}
 use Rattle.ion_symbols.specs.Resolved.{AreResolved}
 use Rattle.ion_symbols.specs.Table.{Shared, system}
 use Rattle.ion_symbols.specs.TextsOfUsers.{TextsOfUsersAreShort}
+use Rattle.ion_symbols.specs.Tree.{user_tops}
 use Rattle.ion_symbols.specs.UserValues.{AreUsers, UsersOfRawValues}
 use Rattle.ion_binary.specs.Canonical.{binary}
+use Rattle.ion_binary.specs.Laws as binary_laws
 use Rattle.ion_binary.specs.Reading as binary_reading
+use Rattle.ion_binary.specs.Refusals.{AreWithin}
 use Rattle.ion_binary.specs.Spelling.{IsRead, TheFormIsRead, WhatIsWithinIsShort}
 use Rattle.ion_binary.specs.WrittenLimits.{FitsBinary, WhatIsWrittenIsWithinLimits}
 use Rattle.ion_binary.specs.WrittenNumbers.{NumbersInTextFit}
 use Rattle.ion_binary.specs.WrittenSymbols.{TextsWithinFit, WhatIsWrittenIsResolved}
-use Rattle.ion_text_in.specs.Grammar as text_grammar
 use Rattle.ion_text_in.specs.Laws.{StreamsAreRaw}
-use Rattle.ion_text_in.specs.Reading as text_reading
 use Rattle.ion_text_in.specs.ReadWithin.{ValuesReadAreWithin}
 use Rattle.ion_text_out.specs.Text.{text}
 use Rattle.ion_transcode.specs.declared.to.Form.{Form}
@@ -33,8 +34,8 @@ use Rattle.ion_transcode.specs.Acceptance.{AreTaken, WhatIsReadIsAccepted, WhatI
 use Rattle.ion_transcode.specs.Forms.{encoding_of, form_of, reading_of}
 use Rattle.ion_transcode.specs.Outputs.{outputs_of, resolved}
 use Rattle.ion_transcode.specs.Verdict.{HasVerdictWith}
-use Rattle.ion_transcode.specs.WrittenAgain.{WrittenBinaryIsAccepted}
-use Rattle.ion_transcode.proofs.ReadAgain.{same-length, of-text}
+use Rattle.ion_transcode.specs.WrittenAgain.{WrittenFitsFrom, WrittenBinaryIsAccepted}
+use Rattle.ion_transcode.proofs.ReadAgain.{same-length, shown-as, users-of}
 use Rattle.ion_transcode.proofs.TextWithoutPlaces.{same-text}
 use Rattle.ion_transcode.proofs.WrittenFits.{users-of-read-fit}
 
@@ -54,35 +55,40 @@ module _ (accepted : WhatIsReadIsAccepted) (profile : Profile) (other : List Sha
       subst (λ (n : ℕ). HasVerdictWith profile other limits asked bytes (Accepted n) ((outputs_of t limits).whole_output r.users)) (same-length r.users us r.same)
       (accepted profile other limits asked bytes t r.raw r.users to_target as_read resolved_are r.users_are taken)
 
-module _ (is_read : WhatIsAcceptedIsRead) (accepted : WhatIsReadIsAccepted) (values : UsersOfRawValues) (raw : StreamsAreRaw) (kept : ValuesReadAreWithin)
+module _ (is_read : WhatIsAcceptedIsRead) (accepted : WhatIsReadIsAccepted) (values : UsersOfRawValues) (binary_raw : binary_laws.StreamsAreRaw) (raw : StreamsAreRaw) (kept : ValuesReadAreWithin)
     (texts : TextsOfUsersAreShort) (room : TextsWithinFit) (is_binary : TheFormIsRead) (short : WhatIsWithinIsShort) (within : WhatIsWrittenIsWithinLimits) (stands : WhatIsWrittenIsResolved)
     (numbers : NumbersInTextFit) where
+  -- by the form of the stream that was read
+  fits-from : (f : Form) (profile : Profile) (catalog : List Shared) (limits : Limits) (bytes : List ℕ) (tops : List (Top SymbolAt ℕ)) (us : List (Top UserSymbol ℕ))
+      → WrittenFitsFrom f profile limits catalog us → (encoding_of profile f).Stream bytes tops
+      → reading_of profile f limits bytes ≡ items_then (path_items (closed tops)) Finished → AreWithin limits [] us
+      → user_tops catalog system tops ≡ Some us → AllByRecursion (FitsBinary (rules limits profile)) us
+  fits-from form.Text profile catalog limits bytes tops us allowed stream read taken are =
+      elim allowed [
+        | inl enough ↦ users-of-read-fit profile limits numbers enough.0 texts room catalog tops us enough.1 (raw bytes tops stream) (kept (rules limits profile) bytes tops stream read) taken are
+        | inr own ↦ own
+      ]
+  fits-from form.Binary profile catalog limits bytes tops us own stream read taken are = own
+
   pub written-binary : WrittenBinaryIsAccepted
-  written-binary profile catalog other limits asked bytes written n is_text checked allowed to_is verdict =
+  written-binary profile catalog other limits asked bytes written n is_text checked small allowed to_is verdict =
       let f : Form = form_of bytes in
       let w = is_read profile catalog limits asked bytes target.Binary n written to_is verdict in
-      let f_is : f ≡ form.Text = of-text f asked to_is in
       let us : List (Top UserSymbol ℕ) = w.us in
-      let stream : text_grammar.Stream bytes w.tops = subst (λ (g : Form). (encoding_of profile g).Stream bytes w.tops) f_is w.stream in
-      let read : text_reading.reading (rules limits profile) bytes ≡ items_then (path_items (closed w.tops)) Finished =
-      subst (λ (g : Form). reading_of profile g limits bytes ≡ items_then (path_items (closed w.tops)) Finished) f_is w.read in
-      let raw_are = raw bytes w.tops stream in
-      let are : AreUsers us = values catalog w.tops us is_text raw_are w.users_are in
+      let are : AreUsers us = users-of values binary_raw raw profile f catalog bytes w.tops us small is_text w.stream w.users_are in
       let fits : AllByRecursion (FitsBinary (rules limits profile)) us =
-      elim (allowed w.tops us stream w.users_are) [
-        | inl enough ↦ users-of-read-fit profile limits numbers enough.0 texts room catalog w.tops us enough.1 raw_are (kept (rules limits profile) bytes w.tops stream read) w.taken w.users_are
-        | inr own ↦ own
-      ] in
+      fits-from f profile catalog limits bytes w.tops us (allowed w.tops us w.stream w.users_are) w.stream w.read w.taken w.users_are
+      in
       let r = is_binary other limits.symbols us are.0 (short limits us checked w.taken) in
       let read_again = within limits profile us r.raw checked are.0 w.taken fits r.stream in
       let resolved_again = stands other limits us r.raw checked are.0 w.taken r.stream in
       let same : text r.users ≡ text us = same-text r.users us r.same in
       let again = read-again accepted profile other limits us r read_again resolved_again in
-      let shown = accepted profile catalog limits to.Text bytes target.Text w.tops us (ap (λ (g : Form). resolved g to.Text) f_is) w.read w.resolved_are w.users_are tt in
+      let shown = accepted profile catalog limits to.Text bytes target.Text w.tops us (shown-as f) w.read w.resolved_are w.users_are tt in
       record {
         tops = w.tops;
         us = us;
-        stream = stream;
+        stream = w.stream;
         users_are = w.users_are;
         shown = subst (λ (m : ℕ). HasVerdictWith profile catalog limits to.Text bytes (Accepted m) (text us)) (sym w.count) shown;
         as_text = moved profile to.Text us w.output w.count same (again to.Text target.Text refl tt);

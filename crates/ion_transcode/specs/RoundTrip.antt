@@ -65,13 +65,13 @@ ShowOnce =
     → HasVerdictWith profile catalog limits asked bytes (Accepted n) shown
     → HasVerdictWith next other wide to.Text shown (Accepted m) again → (again ≡ shown) × (m ≡ n)
 
--- of a text with these user values: what was shown back is their canonical text, and counts as many values; a run to text over the
--- text itself is accepted under these limits, and shows the same; and so does each that is accepted, whatever its limits and its
+-- of a stream with these user values: what was shown back is their canonical text, and counts as many values; a run to text over the
+-- stream itself is accepted under these limits, and shows the same; and so does each that is accepted, whatever its limits and its
 -- profile are
 pub record IsShownBack (profile : Profile) (catalog : List Shared) (limits : Limits) (bytes back : List ℕ) (n m : ℕ) : Type 0 where
   pub tops : List (Top SymbolAt ℕ)
   pub us : List (Top UserSymbol ℕ)
-  pub stream : text_grammar.Stream bytes tops
+  pub stream : (encoding_of profile (form_of bytes)).Stream bytes tops
   pub users_are : user_tops catalog system tops ≡ Some us
   pub output : back ≡ text us
   pub count : m ≡ n
@@ -79,11 +79,12 @@ pub record IsShownBack (profile : Profile) (catalog : List Shared) (limits : Lim
   pub shown_by : (next : Profile) (most : Limits) (out : List ℕ) (k : ℕ) → HasVerdictWith next catalog most to.Text bytes (Accepted k) out
       → (out ≡ back) × (k ≡ n)
 
--- so it is where a run to binary accepts a text, and a run to text accepts what it wrote: whatever the limits and the profile
--- of the second are, and the catalogue by which the binary is read
+-- so it is where a run to binary accepts a text, or binary of bytes, and a run to text accepts what it wrote: whatever the limits
+-- and the profile of the second are, and the catalogue by which the binary is read
 abbrev pub ThereAndBack : Type 0
 ThereAndBack =
     (profile next : Profile) (catalog other : List Shared) (limits wide : Limits) (asked shown : To) (bytes written back : List ℕ) (n m : ℕ)
-    → CatalogIsText catalog → AreChecked limits → resolved (form_of bytes) asked ≡ Some target.Binary
+    → CatalogIsText catalog → AreChecked limits → (form_of bytes ≡ form.Binary → AreBytes bytes)
+    → resolved (form_of bytes) asked ≡ Some target.Binary
     → HasVerdictWith profile catalog limits asked bytes (Accepted n) written → resolved (form_of written) shown ≡ Some target.Text
     → HasVerdictWith next other wide shown written (Accepted m) back → IsShownBack profile catalog limits bytes back n m

@@ -29,7 +29,7 @@ fn written(rt: &impl Abort, alloc: Global, case: Case, to: To) -> Vec<u8> {
 }
 
 /// Asserts that binary shows this, is accepted when it is only checked, and is written again as it stands.
-fn expect_back(rt: &impl Abort, alloc: Global, case: Case, shown: &[u8]) {
+fn expect_back<'a>(rt: &impl Abort, alloc: Global, case: Case<'a>, shown: &'a [u8]) {
     for (to, want) in [
         (To::Text, shown),
         (To::Other, shown),

@@ -4,4 +4,5 @@ pub mod LimitsRead
 pub mod Loading
 pub mod OneRun
 pub mod ShowWord
+pub mod Turns
 pub mod Writing

@@ -1,9 +1,9 @@
 //! The words of the command line.
-ghost use Rattle.std.specs.Prelude.{◌≡◌, ◌≢◌, ◌≤◌, false, IfOk, IfSome, OnErr, None, List, [], Some, codes, map, option_map, string_bytes};
+ghost use Rattle.std.specs.Prelude.{◌≡◌, ◌≢◌, ◌≤◌, false, true, IfOk, IfSome, OnErr, None, List, [], Some, codes, map, option_map, string_bytes};
 ghost use Rattle.clap.specs.Words.{Row, app_of, found_of, kind_of, rows_of, rule_of, fault_of, FailsBy, new_rule, subcommand_of, subcommand_rows_of, with_subcommand};
 ghost use Rattle.clap.specs.declared.builder.command.Command.TheViews.{out-Command};
 ghost use Rattle.ion_meter.specs.Limits.{AreChecked};
-ghost use Rattle.ion_tool.specs.Words.{action_app, with_limits, action_name, bare_app, catalog_in, catalog_rule, file_for, file_in, form_in, form_rule, form_word, ion_app, limit_in, limit_rule, limits_in, floats_rule, profile_in, Asks, AnswersError, IsRequestFor};
+ghost use Rattle.ion_tool.specs.Words.{action_app, with_limits, action_name, bare_app, catalog_in, catalog_rule, file_for, files_in, files_rule, form_in, has_one_form, form_rule, form_word, ion_app, limit_in, limit_rule, limits_in, floats_rule, profile_in, Asks, AnswersError, IsRequestFor};
 
 use clap::builder::ValueParser;
 use clap::error::ErrorKind;
@@ -37,8 +37,8 @@ pub struct Task {
 pub struct Job {
     pub task: Task,
     pub limits: Limits,
-    /// The name of the file that is read. Without one it is standard input.
-    pub file: Option<String>,
+    /// The words for the files that are read. Without one it is standard input.
+    pub files: Vec<String>,
 }
 
 /// What the words ask for.
@@ -54,11 +54,11 @@ pub enum Request {
 
 /// A run as `clap` has read it.
 #[derive(Clone, Copy)]
-struct Asked<'a> {
+struct Asked<'m, 'a> {
     task: Task,
     limits: Limits,
     catalog: Option<&'a str>,
-    file: Option<&'a str>,
+    files: &'m [&'a str],
 }
 
 const ABOUT: &str = "Shows, checks and converts Amazon Ion 1.0, a data format like JSON with more
@@ -70,11 +70,12 @@ which byte offset. JSON is read too; its numbers with an exponent, as 1e3, are
 floats.";
 
 /// How the program is called, which `clap` also says of wrong words.
-const USAGE: &str = "ion <show|check|convert> [OPTIONS] [FILE]
+const USAGE: &str = "ion <show|check|convert> [OPTIONS] [FILE]...
        as in: ion show data.ion";
 
-/// What is said of wrong words of which `clap` says nothing: `--to` alone takes any word there.
-const WRONG: &str = "error: '--to <FORM>' takes text or binary
+/// What is said of wrong words of which `clap` says nothing: it takes any word after `--to`, and
+/// several files without that option.
+const WRONG: &str = "error: '--to <FORM>' takes text or binary; to convert several files it is needed
 
 For more information, try '--help'.
 ";
@@ -143,12 +144,14 @@ fn floats_arg<'a>(alloc: Global) -> Arg<'a>
         .help("Accept floats, as 1.5e0, which are refused without it")
 }
 
-/// The argument FILE.
-fn file_arg<'a>(alloc: Global) -> Arg<'a>
-    ensures rule { rule_of result ≡ new_rule (codes "FILE") }
+/// The argument FILE, which may be there more than once.
+fn files_arg<'a>(alloc: Global) -> Arg<'a>
+    ensures rule { rule_of result ≡ files_rule }
     ensures own { result.global ≡ false }
 {
-    Arg::new(alloc, "FILE").help("File to read; - or none is standard input")
+    Arg::new(alloc, "FILE")
+        .action(ArgAction::Append)
+        .help("Files to read; - or none is standard input")
 }
 
 /// A command with the options for the limits. The one for values in binary is taken by each, but
@@ -188,7 +191,7 @@ fn action_command<'a>(
 {
     let command = command.about(about).after_help(example);
     let command = command.arg(floats_arg(alloc))?.arg(catalog_arg(alloc))?;
-    with_limits(alloc, command, writes_binary)?.arg(file_arg(alloc))
+    with_limits(alloc, command, writes_binary)?.arg(files_arg(alloc))
 }
 
 /// The program's name, with its texts.
@@ -376,44 +379,66 @@ fn action_of(name: &str, form: Option<&str>) -> Option<Action>
 }
 
 /// The file that this word names: `-` names none, but standard input.
-fn file_of<'a>(word: Option<&'a str>) -> Option<&'a str>
-    ensures { option_map (λ s. s.now) result ≡ file_for (option_map (λ s. s.now) word.entry) }
+pub fn file_of(word: &str) -> Option<&str>
+    ensures { option_map (λ s. s.now) result ≡ file_for word.now }
 {
-    let name = word?;
-    if name == "-" {
+    if word == "-" {
         return None;
     }
-    Some(name)
+    Some(word)
+}
+
+/// The words for files.
+fn files_of<'m, 'a>(options: &'m ArgMatches<'a>) -> &'m [&'a str]
+    ensures { map (λ s. s.now) result.now ≡ files_in (rows_of (found_of options.now)) }
+{
+    let none: &[&'a str] = &[];
+    options.get_strs("FILE").unwrap_or(none)
+}
+
+/// Whether this is done with so many files: several are converted to one form alone.
+fn has_one_form(action: Action, files: &[&str]) -> bool
+    ensures { result ≡ has_one_form action (map (λ s. s.now) files.now) }
+{
+    match (action, files) {
+        (Action::Convert(None), [_, _, ..]) => false,
+        _ => true,
+    }
 }
 
 /// The run that the matches name.
-fn asked_by<'a>(matches: &ArgMatches<'a>) -> Option<Asked<'a>>
+fn asked_by<'m, 'a>(matches: &'m ArgMatches<'a>) -> Option<Asked<'m, 'a>>
     ensures some { IfSome result (λ a. (rows : List Row)
         × (subcommand_rows_of matches.now ≡ Some (action_name a.task.action, rows))
         × (form_in rows ≡ form_word a.task.action)
         × (profile_in rows ≡ a.task.profile)
         × (limits_in rows ≡ Some a.limits) × AreChecked a.limits
         × (catalog_in rows ≡ option_map (λ s. s.now) a.catalog)
-        × (file_in rows ≡ option_map (λ s. s.now) a.file)) }
+        × (files_in rows ≡ map (λ s. s.now) a.files.now)
+        × (has_one_form a.task.action (files_in rows) ≡ true)) }
     ensures none { result ≡ None → (action : Action) (rows : List Row)
         → subcommand_rows_of matches.now ≡ Some (action_name action, rows)
         → form_in rows ≡ form_word action
+        → has_one_form action (files_in rows) ≡ true
         → limits_in rows ≡ None }
 {
     let (name, options) = matches.subcommand()?;
     let action = action_of(name, options.get_str("to"))?;
     let limits = limits_of(options)?;
+    let files = files_of(options);
+    if !has_one_form(action, files) {
+        return None;
+    }
     let task = Task {
         action,
         profile: profile_of(options),
     };
     let catalog = options.get_str("catalog");
-    let file = file_of(options.get_str("FILE"));
     Some(Asked {
         task,
         limits,
         catalog,
-        file,
+        files,
     })
 }
 
@@ -428,18 +453,30 @@ fn owned(alloc: Global, name: Option<&str>) -> Result<Option<String>, AllocError
     }
 }
 
+/// Copies of names, which need their words no more.
+fn all_owned(alloc: Global, names: &[&str]) -> Result<Vec<String>, AllocError>
+    ensures { IfOk result
+        (λ own. map string_bytes own.items ≡ map (λ s. s.now) names.now) }
+{
+    let mut own = Vec::new(alloc);
+    for name in names {
+        own.push(String::from_str(alloc, name)?)?;
+    }
+    Ok(own)
+}
+
 /// The request for a run, which needs its words no more.
-fn request_for(alloc: Global, asked: Asked<'_>) -> Result<Request, AllocError>
+fn request_for(alloc: Global, asked: Asked<'_, '_>) -> Result<Request, AllocError>
     ensures { IfOk result (IsRequestFor asked.entry.task asked.entry.limits
         (option_map (λ s. s.now) asked.entry.catalog)
-        (option_map (λ s. s.now) asked.entry.file)) }
+        (map (λ s. s.now) asked.entry.files.now)) }
 {
     let catalog = owned(alloc, asked.catalog)?;
-    let file = owned(alloc, asked.file)?;
+    let files = all_owned(alloc, asked.files)?;
     let job = Job {
         task: asked.task,
         limits: asked.limits,
-        file,
+        files,
     };
     Ok(Request::Run(catalog, job))
 }
@@ -457,7 +494,7 @@ pub fn read_words(alloc: Global, words: &[String]) -> Result<Request, AllocError
         let job = Job {
             task,
             limits: Limits::default(),
-            file: None,
+            files: Vec::new(alloc),
         };
         return Ok(Request::Run(None, job));
     }
@@ -467,7 +504,7 @@ pub fn read_words(alloc: Global, words: &[String]) -> Result<Request, AllocError
     };
     match asked_by(&matches) {
         Some(asked) => request_for(alloc, asked),
-        // `--to` names no form. No other words lead here: `clap` answers its own subcommand, `help`,
+        // `--to` names no form, or is not there for several files. No other words lead here: `clap` answers its own subcommand, `help`,
         // by an error, and so numbers that are past a limit.
         None => Ok(Request::Usage(String::from_str(alloc, WRONG)?)),
     }

@@ -1,7 +1,7 @@
 use Rattle.std.proofs.Common.{rules, ◌≡◌, Some, ap, sym, ◌∙◌, codes}
 use Rattle.clap.proofs.WalkLemmas.{first_value-rows}
 use Rattle.clap.specs.Words.{found_of, rows_of, subcommand_rows_of}
-use Rattle.ion_tool.specs.Words.{action_name, file_for, form_in}
+use Rattle.ion_tool.specs.Words.{action_name, form_in}
 use Rattle.ion_tool.proofs.OneRun.{some_is}
 use Rattle.ion_tool.proofs.words.asked_by.Goals as goal
 
@@ -15,7 +15,8 @@ returns-clause-some c =
       search rules,
       search rules,
       sym (c.get_str-catalog.ensures ∙ first_value-rows found (codes "catalog")),
-      sym (c.file_of-file.ensures ∙ ap file_for (c.get_str-2.ensures ∙ first_value-rows found (codes "FILE"))),
+      sym c.files_of-files.ensures,
+      search rules,
     )
 
 -- no action has this name and this form

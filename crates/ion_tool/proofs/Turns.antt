@@ -1,0 +1,87 @@
+-- Runs that are served one after another.
+use Rattle.std.proofs.Common.{arith, ◌≡◌, ◌⊎◌, inl, inr, ℕ, zero, suc, ◌<◌, ◌≤◌, List, [], ◌∷◌, length, map, drop, Option, Some, refl, sym, ap, subst, ◌∙◌}
+use Rattle.std.specs.Prelude.{max, slice_index}
+use Rattle.clap.specs.Words.{Text}
+use Rattle.ion_meter.specs.declared.device.Input.{Ghosts as InputOf}
+use Rattle.ion_meter.specs.declared.device.Output.{Ghosts as OutputOf}
+use Rattle.ion_meter.specs.declared.limits.Limits.{Limits}
+use Rattle.ion_symbols.specs.Table.{Shared}
+use Rattle.ion_tool.specs.Words.{file_for}
+use Rattle.ion_tool.specs.Serving.{label_of, Giving, Closing, Standing, IsFollowed, IsRunServed, AreServed}
+use Rattle.ion_tool.specs.declared.words.Task.{Task}
+
+-- whatever the runs for the words that are left come to, that is what all of them come to
+abbrev pub LeadsOn : {S F I O E : Type 0} → Giving S F → Closing S F → (F → Option (List ℕ)) → InputOf I → OutputOf O → OutputOf E → List Shared → Task → Limits
+    → List Text → List Text → Standing S I O E → Standing S I O E → ℕ → Type 0
+LeadsOn {S} {F} {I} {O} {E} gives closes remaining input output errors catalog asked limits words left start now status =
+    (end : Standing S I O E) (own : ℕ) → AreServed gives closes remaining input output errors catalog asked limits left now end own
+    → AreServed gives closes remaining input output errors catalog asked limits words start end (max status own)
+
+max_turned : (a b c : ℕ) → max a (max b c) ≡ max (max a b) c
+max_turned a b c = omega arith
+
+max_none : (a : ℕ) → max a 0 ≡ a
+max_none a = omega arith
+
+-- before the first of them
+pub leads_first : {S F I O E : Type 0} (gives : Giving S F) (closes : Closing S F) (remaining : F → Option (List ℕ)) (input : InputOf I) (output : OutputOf O) (errors : OutputOf E)
+    (catalog : List Shared) (asked : Task) (limits : Limits) (words : List Text) (start : Standing S I O E)
+    → LeadsOn gives closes remaining input output errors catalog asked limits words words start start 0
+leads_first gives closes remaining input output errors catalog asked limits words start = λ end own rest. rest
+
+-- after one more
+pub leads_next : {S F I O E : Type 0} (gives : Giving S F) (closes : Closing S F) (remaining : F → Option (List ℕ)) (input : InputOf I) (output : OutputOf O) (errors : OutputOf E)
+    (catalog : List Shared) (asked : Task) (limits : Limits) (words left more : List Text) (word : Text) (start now next : Standing S I O E) (status own : ℕ) → left ≡ word ∷ more
+    → LeadsOn gives closes remaining input output errors catalog asked limits words left start now status
+    → IsRunServed gives closes remaining input output errors (label_of (Some word)) catalog asked limits (file_for word) now next own
+    → IsFollowed input output errors now next
+    → LeadsOn gives closes remaining input output errors catalog asked limits words more start next (max status own)
+leads_next {S} {F} {I} {O} {E} gives closes remaining input output errors catalog asked limits words left more word start now next status own e onward run followed = λ end others rest.
+    subst (λ (n : ℕ). AreServed gives closes remaining input output errors catalog asked limits words start end n) (max_turned status own others)
+    (onward end (max own others)
+    (subst (λ (l : List Text). AreServed gives closes remaining input output errors catalog asked limits l now end (max own others)) (sym e)
+    (next, own, others, refl, run, inl (followed, rest))))
+
+-- after one that is the last
+pub leads_last : {S F I O E : Type 0} (gives : Giving S F) (closes : Closing S F) (remaining : F → Option (List ℕ)) (input : InputOf I) (output : OutputOf O) (errors : OutputOf E)
+    (catalog : List Shared) (asked : Task) (limits : Limits) (words left more : List Text) (word : Text) (start now next : Standing S I O E) (status own : ℕ) → left ≡ word ∷ more
+    → LeadsOn gives closes remaining input output errors catalog asked limits words left start now status
+    → IsRunServed gives closes remaining input output errors (label_of (Some word)) catalog asked limits (file_for word) now next own
+    → (¬ IsFollowed input output errors now next)
+    → AreServed gives closes remaining input output errors catalog asked limits words start next (max status own)
+leads_last {S} {F} {I} {O} {E} gives closes remaining input output errors catalog asked limits words left more word start now next status own e onward run alone =
+    subst (λ (n : ℕ). AreServed gives closes remaining input output errors catalog asked limits words start next n) (ap (max status) (max_none own))
+    (onward next (max own 0)
+    (subst (λ (l : List Text). AreServed gives closes remaining input output errors catalog asked limits l now next (max own 0)) (sym e)
+    (next, own, 0, refl, run, inr (alone, refl, refl))))
+
+-- after all of them
+pub leads_out : {S F I O E : Type 0} (gives : Giving S F) (closes : Closing S F) (remaining : F → Option (List ℕ)) (input : InputOf I) (output : OutputOf O) (errors : OutputOf E)
+    (catalog : List Shared) (asked : Task) (limits : Limits) (words left : List Text) (start now : Standing S I O E) (status : ℕ) → left ≡ []
+    → LeadsOn gives closes remaining input output errors catalog asked limits words left start now status
+    → AreServed gives closes remaining input output errors catalog asked limits words start now status
+leads_out {S} {F} {I} {O} {E} gives closes remaining input output errors catalog asked limits words left start now status e onward =
+    subst (λ (n : ℕ). AreServed gives closes remaining input output errors catalog asked limits words start now n) (max_none status)
+    (onward now 0 (subst (λ (l : List Text). AreServed gives closes remaining input output errors catalog asked limits l now now 0) (sym e) (refl, refl)))
+
+-- what is left from one of the texts on, and past them
+pub left_from : {T : Type 0} (f : T → Text) (xs : List T) (i : ℕ) → i < length xs → (x : T) → x ≡ slice_index xs i → drop i (map f xs) ≡ f x ∷ drop (i + 1) (map f xs)
+left_from f [] i lt x e = absurd (omega arith)
+left_from f (y ∷ ys) zero lt x e = ap (λ z. f z ∷ map f ys) (sym e)
+left_from f (y ∷ ys) (suc i) lt x e = left_from f ys i (omega arith) x e
+
+pub left_past : {T : Type 0} (f : T → Text) (xs : List T) (i : ℕ) → length xs ≤ i → drop i (map f xs) ≡ []
+left_past f [] zero le = refl
+left_past f [] (suc i) le = refl
+left_past f (y ∷ ys) zero le = absurd (omega arith)
+left_past f (y ∷ ys) (suc i) le = left_past f ys i (omega arith)
+
+-- the greatest of two statuses is one
+pub greatest_status : (a b : ℕ) → (a ≡ 0) ⊎ ((a ≡ 1) ⊎ (a ≡ 3)) → (b ≡ 0) ⊎ ((b ≡ 1) ⊎ (b ≡ 3)) → (max a b ≡ 0) ⊎ ((max a b ≡ 1) ⊎ (max a b ≡ 3))
+greatest_status _ _ (inl refl) other = other
+greatest_status _ _ (inr (inl refl)) (inl refl) = inr (inl refl)
+greatest_status _ _ (inr (inl refl)) (inr (inl refl)) = inr (inl refl)
+greatest_status _ _ (inr (inl refl)) (inr (inr refl)) = inr (inr refl)
+greatest_status _ _ (inr (inr refl)) (inl refl) = inr (inr refl)
+greatest_status _ _ (inr (inr refl)) (inr (inl refl)) = inr (inr refl)
+greatest_status _ _ (inr (inr refl)) (inr (inr refl)) = inr (inr refl)

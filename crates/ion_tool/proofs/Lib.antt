@@ -1,5 +1,6 @@
 pub mod Acts
 pub mod Asking
+pub mod InTurn
 pub mod LimitsRead
 pub mod Loading
 pub mod OneRun

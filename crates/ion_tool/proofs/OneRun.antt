@@ -22,7 +22,7 @@ form_is (Some form.Text) (Some form.Binary) e = absurd (cc e)
 form_is (Some form.Binary) (Some form.Text) e = absurd (cc e)
 form_is (Some form.Binary) (Some form.Binary) e = refl
 
-action_is : (a b : Action) → action_name a ≡ action_name b → form_word a ≡ form_word b → a ≡ b
+pub action_is : (a b : Action) → action_name a ≡ action_name b → form_word a ≡ form_word b → a ≡ b
 action_is Show Show e w = refl
 action_is Show Check e w = absurd (cc e)
 action_is Check Show e w = absurd (cc e)

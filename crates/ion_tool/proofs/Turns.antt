@@ -1,14 +1,15 @@
 -- Runs that are served one after another.
-use Rattle.std.proofs.Common.{arith, ◌≡◌, ◌⊎◌, inl, inr, ℕ, zero, suc, ◌<◌, ◌≤◌, ◌+◌, get_or, List, [], ◌∷◌, length, map, drop, Option, Some, refl, sym, ap, subst, ◌∙◌}
+use Rattle.std.proofs.Common.{arith, ◌≡◌, ◌⊎◌, inl, inr, ℕ, zero, suc, ◌<◌, ◌≤◌, ◌+◌, get_or, List, [], ◌∷◌, length, map, drop, Option, None, Some, Result, Ok, Err, refl, sym, ap, subst, ◌∙◌}
 use Rattle.std.proofs.lemmas.List.{drop_more}
 use Rattle.std.specs.Prelude.{max}
 use Rattle.clap.specs.Words.{Text}
+use Rattle.ion_meter.specs.Counts.{Counts}
 use Rattle.ion_meter.specs.declared.device.Input.{Ghosts as InputOf}
 use Rattle.ion_meter.specs.declared.device.Output.{Ghosts as OutputOf}
 use Rattle.ion_meter.specs.declared.limits.Limits.{Limits}
 use Rattle.ion_symbols.specs.Table.{Shared}
 use Rattle.ion_tool.specs.Words.{file_for}
-use Rattle.ion_tool.specs.Serving.{label_of, Giving, Closing, Standing, IsFollowed, IsRunServed, AreServed}
+use Rattle.ion_tool.specs.Serving.{label_of, Giving, Closing, Standing, IsFollowed, IsOpenServed, IsRunServed, AreServed}
 use Rattle.ion_tool.specs.declared.words.Task.{Task}
 
 -- whatever the runs for the words that are left come to, that is what all of them come to
@@ -24,11 +25,15 @@ max_turned a b c = omega arith
 max_none : (a : ℕ) → max a 0 ≡ a
 max_none a = omega arith
 
+max_first : (a : ℕ) → a ≡ max 0 a
+max_first a = omega arith
+
 -- before the first of them
 pub leads_first : {S F I O E : Type 0} (gives : Giving S F) (closes : Closing S F) (remaining : F → Option (List ℕ)) (input : InputOf I) (output : OutputOf O) (errors : OutputOf E)
     (catalog : List Shared) (asked : Task) (limits : Limits) (words : List Text) (start : Standing S I O E)
     → LeadsOn gives closes remaining input output errors catalog asked limits words words start start 0
-leads_first gives closes remaining input output errors catalog asked limits words start = λ end own rest. rest
+leads_first {S} {F} {I} {O} {E} gives closes remaining input output errors catalog asked limits words start = λ end own rest.
+    subst (λ (n : ℕ). AreServed gives closes remaining input output errors catalog asked limits words start end n) (max_first own) rest
 
 -- after one more
 pub leads_next : {S F I O E : Type 0} (gives : Giving S F) (closes : Closing S F) (remaining : F → Option (List ℕ)) (input : InputOf I) (output : OutputOf O) (errors : OutputOf E)
@@ -83,11 +88,34 @@ left_past f (y ∷ ys) zero le = absurd (omega arith)
 left_past f (y ∷ ys) (suc i) le = left_past f ys i (omega arith)
 
 -- the greatest of two statuses is one
+abbrev IsStatus : ℕ → Type 0
+IsStatus n = (n ≡ 0) ⊎ ((n ≡ 1) ⊎ (n ≡ 3))
+
+first_is : (a b : ℕ) → b ≤ a → IsStatus a → IsStatus (max a b)
+first_is a b le is = subst (λ (n : ℕ). IsStatus n) (let e : a ≡ max a b = omega arith in e) is
+
+second_is : (a b : ℕ) → a ≤ b → IsStatus b → IsStatus (max a b)
+second_is a b le is = subst (λ (n : ℕ). IsStatus n) (let e : b ≡ max a b = omega arith in e) is
+
 pub greatest_status : (a b : ℕ) → (a ≡ 0) ⊎ ((a ≡ 1) ⊎ (a ≡ 3)) → (b ≡ 0) ⊎ ((b ≡ 1) ⊎ (b ≡ 3)) → (max a b ≡ 0) ⊎ ((max a b ≡ 1) ⊎ (max a b ≡ 3))
-greatest_status _ _ (inl refl) other = other
-greatest_status _ _ (inr (inl refl)) (inl refl) = inr (inl refl)
-greatest_status _ _ (inr (inl refl)) (inr (inl refl)) = inr (inl refl)
-greatest_status _ _ (inr (inl refl)) (inr (inr refl)) = inr (inr refl)
-greatest_status _ _ (inr (inr refl)) (inl refl) = inr (inr refl)
-greatest_status _ _ (inr (inr refl)) (inr (inl refl)) = inr (inr refl)
-greatest_status _ _ (inr (inr refl)) (inr (inr refl)) = inr (inr refl)
+greatest_status a b (inl e) other = second_is a b (omega arith) other
+greatest_status a b (inr is) (inl e) = first_is a b (omega arith) (inr is)
+greatest_status a b (inr (inl d)) (inr (inl e)) = first_is a b (omega arith) (inr (inl d))
+greatest_status a b (inr (inl d)) (inr (inr e)) = second_is a b (omega arith) (inr (inr e))
+greatest_status a b (inr (inr d)) (inr (inl e)) = first_is a b (omega arith) (inr (inr d))
+greatest_status a b (inr (inr d)) (inr (inr e)) = first_is a b (omega arith) (inr (inr d))
+
+-- a run leaves what is held as it was
+open_holds : {S F O E : Type 0} (closes : Closing S F) (remaining : F → Option (List ℕ)) (output : OutputOf O) (errors : OutputOf E) (label : List ℕ) (catalog : List Shared) (asked : Task)
+    (limits : Limits) (name : List ℕ) (found : Result F (List ℕ)) (old new : Counts) (opened files_new : S) (out_old out_new : O) (err_old err_new : E) (status : ℕ)
+    → IsOpenServed closes remaining output errors label catalog asked limits name found old new opened files_new out_old out_new err_old err_new status → new.held ≡ old.held
+open_holds closes remaining output errors label catalog asked limits name (Err reason) old new opened files_new out_old out_new err_old err_new status served =
+    ap (λ (n : Counts). n.held) served.memory
+open_holds closes remaining output errors label catalog asked limits name (Ok file) old new opened files_new out_old out_new err_old err_new status served = served.2.kept.held
+
+pub one_holds : {S F I O E : Type 0} (gives : Giving S F) (closes : Closing S F) (remaining : F → Option (List ℕ)) (input : InputOf I) (output : OutputOf O) (errors : OutputOf E) (label : List ℕ)
+    (catalog : List Shared) (asked : Task) (limits : Limits) (name : Option Text) (old new : Standing S I O E) (status : ℕ)
+    → IsRunServed gives closes remaining input output errors label catalog asked limits name old new status → new.counts.held ≡ old.counts.held
+one_holds gives closes remaining input output errors label catalog asked limits None old new status run = run.1.kept.held
+one_holds gives closes remaining input output errors label catalog asked limits (Some name) old new status run =
+    open_holds closes remaining output errors label catalog asked limits name run.1.0 old.counts new.counts run.1.1 new.files old.output new.output old.errors new.errors status run.1.3

@@ -1,11 +1,11 @@
 -- Bytes that were written to a device, all or a prefix of them.
-use Rattle.std.proofs.Common.{arith, ◌≡◌, ◌↔◌, ◌⊎◌, inl, inr, ◌+◌, ◌++◌, ℕ, List, [], Result, Ok, Err, OnOk, MatchResult, take, drop, refl, sym, ap, subst, ◌∙◌, append_assoc, append-nil}
-use Rattle.std.specs.Prelude.{Bool, true, false}
+use Rattle.std.proofs.Common.{arith, ◌≡◌, ◌↔◌, ◌⊎◌, inl, inr, ◌+◌, ◌++◌, ℕ, List, [], ◌∷◌, length, Result, Ok, Err, OnOk, MatchResult, take, drop, refl, sym, ap, subst, ◌∙◌, append_assoc, append-nil}
+use Rattle.std.specs.Prelude.{◌==◌, Bool, true, false, codes}
 use Rattle.std.specs.Result.{is_ok}
 use Rattle.ion_meter.proofs.Written.{rest_of_prefix}
 use Rattle.ion_meter.specs.declared.device.Output.{Ghosts as OutputOf}
 use Rattle.ion_value.proofs.Outcomes.{prefix-then}
-use Rattle.ion_tool.specs.Serving.{Gets, Puts}
+use Rattle.ion_tool.specs.Serving.{reason_text, Gets, Puts}
 
 -- a call after which the count of failures is as it was has succeeded
 where_unfailed : {T F : Type 0} (r : Result T F) (old new : ℕ) (P : Type 0)
@@ -111,3 +111,8 @@ puts_cut device first second old new begun is a = record {
   all = λ t. absurd (cc t);
   cut = λ f. a.cut is;
 }
+
+-- a reason that is there stands after two characters
+pub some_reason : (reason : List ℕ) → (length reason == 0) ≡ false → reason_text reason ≡ codes ": " ++ reason
+some_reason [] e = absurd (cc e)
+some_reason (first ∷ rest) e = refl

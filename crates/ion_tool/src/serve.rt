@@ -7,7 +7,7 @@ ghost use Rattle.ion_meter.specs.declared.limits.Limits.{Limits};
 ghost use Rattle.ion_meter.specs.Limits.{AreChecked};
 ghost use Rattle.ion_transcode.specs.Calls.{HasRoom};
 ghost use Rattle.ion_tool.specs.Serving.{fault_line, label_of, Gets, IsServed, IsFileServed};
-ghost use Rattle.ion_tool.specs.Serving.{standing, AreServed, IsJobServed, IsRunServed, MayGoOn};
+ghost use Rattle.ion_tool.specs.Serving.{standing, AreServed, IsInTurn, IsJobServed, IsRunServed, MayGoOn};
 ghost use Rattle.ion_tool.specs.Serving.{IsCatalogServed, IsLoaded, IsOpenLoaded, IsUnread, IsHelped, IsUsageError};
 ghost use Rattle.ion_tool.specs.Serving.{file_input, just_opened};
 ghost use Rattle.ion_tool.specs.Words.{AsksRun, IsRun};
@@ -203,6 +203,10 @@ fn serve_each<F: FileSource, I: Input, O: Output, E: Output>(
         catalog.now job.now.task job.now.limits (map string_bytes job.now.files.items)
         (standing meter.old files.old input out err)
         (standing meter.new files.new result.1 result.2 result.3) result.0 }
+    ensures in_turn { O.observable out
+        → IsInTurn F.gives F.closes F.File.remaining I.Input O.Output E.Output
+        catalog.now job.now.task job.now.limits (map string_bytes job.now.files.items)
+        out result.2 }
     ensures status { (result.0 ≡ 0) ⊎ ((result.0 ≡ 1) ⊎ (result.0 ≡ 3)) }
 {
     let mut status = 0;

@@ -20,6 +20,6 @@ returns-in-Err-clause-served g c = (
     memory = search rules;
     files = search rules;
     output = search rules;
-    said = rw c.as_str.ensures at c.say_unopened.ensures;
+    said = rw c.as_str.ensures.value at c.say_unopened.ensures;
   },
 )

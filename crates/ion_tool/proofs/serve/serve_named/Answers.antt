@@ -18,7 +18,7 @@ returns-in-Err-clause-served g c = (
       files = search rules;
       input = search rules;
       output = search rules;
-      said = rw c.as_str.ensures at c.say_unopened.ensures;
+      said = rw c.as_str.ensures.value at c.say_unopened.ensures;
     },
   ),
 )

@@ -155,11 +155,7 @@ fn status_after(answer: Result<Summary, Fault>) -> u8
 
 /// Says on standard error, after a label where there is one, how a run failed, if it did, and gives
 /// the status of its answer.
-pub fn report<E: Output>(
-    label: Option<&str>,
-    answer: Result<Summary, Fault>,
-    err: &mut E,
-) -> u8
+pub fn report<E: Output>(label: Option<&str>, answer: Result<Summary, Fault>, err: &mut E) -> u8
     requires { E.failure_count err.old < 2 ^ 64 - 1 }
     ensures status { result ≡ status_of answer }
     ensures said { Gets E.Output

@@ -183,8 +183,8 @@ fn may_go_on<I: Input, O: Output, E: Output>(
     err.failures() != u64::MAX
 }
 
-/// Runs over the file of each word in turn, or over the input for the word `-`, with the word before
-/// the lines on it. A run that fails to write is the last.
+/// Runs over the file of each word in turn, or over the input for the word `-`, with the word
+/// before the lines on it. A run that fails to write is the last.
 fn serve_each<F: FileSource, I: Input, O: Output, E: Output>(
     meter: &mut Meter<Global>,
     catalog: &Catalog<Global>,
@@ -429,8 +429,8 @@ pub fn serve<F: FileSource, I: Input + Drop, O: Output + Drop, E: Output + Drop>
 
     // Words that name a catalogue: by what its name opens to, the runs are served with its tables,
     // over the input or over the files that are named too, or a line says why there are none, and
-    // nothing else is done. The catalogue's file is handed back before. Its meter, which nothing else moves,
-    // has counted a refusal where memory is blamed, and holds in the end what it held.
+    // nothing else is done. The catalogue's file is handed back before. Its meter, which nothing
+    // else moves, has counted a refusal where memory is blamed, and holds in the end what it held.
     ensures uncatalogued { (task : Task) (limits : Limits) (names : List (List ℕ))
         → IsRun (map string_bytes words.items) task limits None names
         → tables.new ≡ tables.old }

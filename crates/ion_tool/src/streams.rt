@@ -56,8 +56,8 @@ impl<D: Write> Write for Retried<D> {
     }
 }
 
-/// A writer to which control characters, but for ends of lines, go by their numbers, as `\x1b`, where
-/// it has lines with names: on a terminal they would be followed.
+/// A writer to which control characters, but for ends of lines, go by their numbers, as `\x1b`,
+/// where it has lines with names: on a terminal they would be followed.
 #[derive(Drop)]
 pub struct Escaped<W> {
     writer: W,

@@ -75,7 +75,8 @@ const USAGE: &str = "ion <show|check|convert> [OPTIONS] [FILE]...
 
 /// What is said of wrong words of which `clap` says nothing: it takes any word after `--to`, and
 /// several files without that option.
-const WRONG: &str = "error: '--to <FORM>' takes text or binary; to convert several files it is needed
+const WRONG: &str =
+    "error: '--to <FORM>' takes text or binary; to convert several files it is needed
 
 For more information, try '--help'.
 ";
@@ -506,8 +507,8 @@ pub fn read_words(alloc: Global, words: &[String]) -> Result<Request, AllocError
     };
     match asked_by(&matches) {
         Some(asked) => request_for(alloc, asked),
-        // `--to` names no form, or is not there for several files. No other words lead here: `clap` answers its own subcommand, `help`,
-        // by an error, and so numbers that are past a limit.
+        // `--to` names no form, or is not there for several files. No other words lead here:
+        // `clap` answers its own subcommand, `help`, by an error, and so numbers past a limit.
         None => Ok(Request::Usage(String::from_str(alloc, WRONG)?)),
     }
 }

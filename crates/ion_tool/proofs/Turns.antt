@@ -1,6 +1,7 @@
 -- Runs that are served one after another.
-use Rattle.std.proofs.Common.{arith, ◌≡◌, ◌⊎◌, inl, inr, ℕ, zero, suc, ◌<◌, ◌≤◌, List, [], ◌∷◌, length, map, drop, Option, Some, refl, sym, ap, subst, ◌∙◌}
-use Rattle.std.specs.Prelude.{max, slice_index}
+use Rattle.std.proofs.Common.{arith, ◌≡◌, ◌⊎◌, inl, inr, ℕ, zero, suc, ◌<◌, ◌≤◌, ◌+◌, get_or, List, [], ◌∷◌, length, map, drop, Option, Some, refl, sym, ap, subst, ◌∙◌}
+use Rattle.std.proofs.lemmas.List.{drop_more}
+use Rattle.std.specs.Prelude.{max}
 use Rattle.clap.specs.Words.{Text}
 use Rattle.ion_meter.specs.declared.device.Input.{Ghosts as InputOf}
 use Rattle.ion_meter.specs.declared.device.Output.{Ghosts as OutputOf}
@@ -65,10 +66,15 @@ leads_out {S} {F} {I} {O} {E} gives closes remaining input output errors catalog
     (onward now 0 (subst (λ (l : List Text). AreServed gives closes remaining input output errors catalog asked limits l now now 0) (sym e) (refl, refl)))
 
 -- what is left from one of the texts on, and past them
-pub left_from : {T : Type 0} (f : T → Text) (xs : List T) (i : ℕ) → i < length xs → (x : T) → x ≡ slice_index xs i → drop i (map f xs) ≡ f x ∷ drop (i + 1) (map f xs)
-left_from f [] i lt x e = absurd (omega arith)
-left_from f (y ∷ ys) zero lt x e = ap (λ z. f z ∷ map f ys) (sym e)
-left_from f (y ∷ ys) (suc i) lt x e = left_from f ys i (omega arith) x e
+drop_mapped : {T : Type 0} (f : T → Text) (xs : List T) (i : ℕ) → drop i (map f xs) ≡ map f (drop i xs)
+drop_mapped f [] zero = refl
+drop_mapped f [] (suc i) = refl
+drop_mapped f (y ∷ ys) zero = refl
+drop_mapped f (y ∷ ys) (suc i) = drop_mapped f ys i
+
+pub left_from : {T : Type 0} (f : T → Text) (xs : List T) (i : ℕ) (x : T) → i < length xs → x ≡ get_or xs i x → drop i (map f xs) ≡ f x ∷ drop (i + 1) (map f xs)
+left_from f xs i x lt e =
+    drop_mapped f xs i ∙ (ap (map f) (drop_more xs i x lt ∙ ap (λ y. y ∷ drop (i + 1) xs) (sym e)) ∙ ap (λ l. f x ∷ l) (sym (drop_mapped f xs (i + 1))))
 
 pub left_past : {T : Type 0} (f : T → Text) (xs : List T) (i : ℕ) → length xs ≤ i → drop i (map f xs) ≡ []
 left_past f [] zero le = refl

@@ -1,6 +1,7 @@
 -- The words after the program's name, as `clap` reads them.
 use Rattle.std.specs.Prelude.{◌≡◌, ◌≢◌, ◌⊎◌, ℕ, List, [], ◌∷◌, Option, Some, None, Bool, true, false, codes, string_bytes, if◌then◌else◌}
 use Rattle.std.specs.Prelude.{map, unwrap_or, option_map, option_and_then, bytes_eq}
+use Rattle.std.specs.Borrow.{Bor}
 use Rattle.std.specs.Option.{option_map_or}
 use Rattle.std.specs.Str.Parse.{digits_value, without_leading_plus}
 use Rattle.clap.specs.ValueTests.{accepts}
@@ -124,6 +125,10 @@ file_for word = if bytes_eq word (codes "-") then None else Some word
 -- the words for files that a subcommand is given
 abbrev pub files_in : List Row → List Text
 files_in rows = unwrap_or (all_of (codes "FILE") rows) []
+
+-- the texts of such words, if there are any
+abbrev pub all_named : Option (Bor (List (Bor Text))) → List Text
+all_named words = unwrap_or (option_map (λ s. map (λ t. t.now) s.now) words) []
 
 -- several files are converted to one form: each to its other one would be no stream
 abbrev pub has_one_form : Action → List Text → Bool

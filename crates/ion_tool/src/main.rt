@@ -93,7 +93,7 @@ fn main(rt: HostRuntime) -> io::Result<ExitCode> {
     let shared = rt.stdout().is_terminal() && rt.stderr().is_terminal();
     let messages = OwnLine::new(Retried::new(rt.stderr()), shared.then_some(&is_open));
     let mut err = ToWrite::new(Escaped::new(messages, true));
-    let words = match env::args(&rt) {
+    let words: Option<Vec<String>> = match env::args(&rt) {
         Ok(mut words) => {
             let _program = words.next();
             words.collect(alloc).ok()

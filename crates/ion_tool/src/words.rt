@@ -3,7 +3,7 @@ ghost use Rattle.std.specs.Prelude.{◌≡◌, ◌≢◌, ◌≤◌, false, true
 ghost use Rattle.clap.specs.Words.{Row, app_of, found_of, kind_of, rows_of, rule_of, fault_of, FailsBy, new_rule, subcommand_of, subcommand_rows_of, with_subcommand};
 ghost use Rattle.clap.specs.declared.builder.command.Command.TheViews.{out-Command};
 ghost use Rattle.ion_meter.specs.Limits.{AreChecked};
-ghost use Rattle.ion_tool.specs.Words.{action_app, with_limits, action_name, bare_app, catalog_in, catalog_rule, file_for, files_in, files_rule, form_in, has_one_form, form_rule, form_word, ion_app, limit_in, limit_rule, limits_in, floats_rule, profile_in, Asks, AnswersError, IsRequestFor};
+ghost use Rattle.ion_tool.specs.Words.{action_app, with_limits, action_name, all_named, bare_app, catalog_in, catalog_rule, file_for, files_in, files_rule, form_in, has_one_form, form_rule, form_word, ion_app, limit_in, limit_rule, limits_in, floats_rule, profile_in, Asks, AnswersError, IsRequestFor};
 
 use clap::builder::ValueParser;
 use clap::error::ErrorKind;
@@ -58,7 +58,7 @@ struct Asked<'m, 'a> {
     task: Task,
     limits: Limits,
     catalog: Option<&'a str>,
-    files: &'m [&'a str],
+    files: Option<&'m [&'a str]>,
 }
 
 const ABOUT: &str = "Shows, checks and converts Amazon Ion 1.0, a data format like JSON with more
@@ -388,20 +388,12 @@ pub fn file_of(word: &str) -> Option<&str>
     Some(word)
 }
 
-/// The words for files.
-fn files_of<'m, 'a>(options: &'m ArgMatches<'a>) -> &'m [&'a str]
-    ensures { map (λ s. s.now) result.now ≡ files_in (rows_of (found_of options.now)) }
-{
-    let none: &[&'a str] = &[];
-    options.get_strs("FILE").unwrap_or(none)
-}
-
 /// Whether this is done with so many files: several are converted to one form alone.
-fn has_one_form(action: Action, files: &[&str]) -> bool
-    ensures { result ≡ has_one_form action (map (λ s. s.now) files.now) }
+fn has_one_form(action: Action, files: Option<&[&str]>) -> bool
+    ensures { result ≡ has_one_form action (all_named files.entry) }
 {
     match (action, files) {
-        (Action::Convert(None), [_, _, ..]) => false,
+        (Action::Convert(None), Some([_, _, ..])) => false,
         _ => true,
     }
 }
@@ -414,7 +406,7 @@ fn asked_by<'m, 'a>(matches: &'m ArgMatches<'a>) -> Option<Asked<'m, 'a>>
         × (profile_in rows ≡ a.task.profile)
         × (limits_in rows ≡ Some a.limits) × AreChecked a.limits
         × (catalog_in rows ≡ option_map (λ s. s.now) a.catalog)
-        × (files_in rows ≡ map (λ s. s.now) a.files.now)
+        × (files_in rows ≡ all_named a.files)
         × (has_one_form a.task.action (files_in rows) ≡ true)) }
     ensures none { result ≡ None → (action : Action) (rows : List Row)
         → subcommand_rows_of matches.now ≡ Some (action_name action, rows)
@@ -425,7 +417,7 @@ fn asked_by<'m, 'a>(matches: &'m ArgMatches<'a>) -> Option<Asked<'m, 'a>>
     let (name, options) = matches.subcommand()?;
     let action = action_of(name, options.get_str("to"))?;
     let limits = limits_of(options)?;
-    let files = files_of(options);
+    let files = options.get_strs("FILE");
     if !has_one_form(action, files) {
         return None;
     }
@@ -454,7 +446,7 @@ fn owned(alloc: Global, name: Option<&str>) -> Result<Option<String>, AllocError
 }
 
 /// Copies of names, which need their words no more.
-fn all_owned(alloc: Global, names: &[&str]) -> Result<Vec<String>, AllocError>
+fn copies(alloc: Global, names: &[&str]) -> Result<Vec<String>, AllocError>
     ensures { IfOk result
         (λ own. map string_bytes own.items ≡ map (λ s. s.now) names.now) }
 {
@@ -465,11 +457,21 @@ fn all_owned(alloc: Global, names: &[&str]) -> Result<Vec<String>, AllocError>
     Ok(own)
 }
 
+/// Copies of names, if there are any, which need their words no more.
+fn all_owned(alloc: Global, names: Option<&[&str]>) -> Result<Vec<String>, AllocError>
+    ensures { IfOk result (λ own. map string_bytes own.items ≡ all_named names.entry) }
+{
+    match names {
+        Some(names) => copies(alloc, names),
+        None => Ok(Vec::new(alloc)),
+    }
+}
+
 /// The request for a run, which needs its words no more.
 fn request_for(alloc: Global, asked: Asked<'_, '_>) -> Result<Request, AllocError>
     ensures { IfOk result (IsRequestFor asked.entry.task asked.entry.limits
         (option_map (λ s. s.now) asked.entry.catalog)
-        (map (λ s. s.now) asked.entry.files.now)) }
+        (all_named asked.entry.files)) }
 {
     let catalog = owned(alloc, asked.catalog)?;
     let files = all_owned(alloc, asked.files)?;

@@ -1,5 +1,5 @@
-use Rattle.std.proofs.Common.{rules, ◌≡◌, Some, ap, sym, ◌∙◌, codes}
-use Rattle.clap.proofs.WalkLemmas.{first_value-rows}
+use Rattle.std.proofs.Common.{[], rules, unwrap_or, ◌≡◌, Some, ap, sym, ◌∙◌, codes}
+use Rattle.clap.proofs.WalkLemmas.{first_value-rows, raw_values-rows}
 use Rattle.clap.specs.Words.{found_of, rows_of, subcommand_rows_of}
 use Rattle.ion_tool.specs.Words.{action_name, form_in}
 use Rattle.ion_tool.proofs.OneRun.{some_is}
@@ -15,7 +15,7 @@ returns-clause-some c =
       search rules,
       search rules,
       sym (c.get_str-catalog.ensures ∙ first_value-rows found (codes "catalog")),
-      sym c.files_of-files.ensures,
+      ap (λ o. unwrap_or o []) (sym (c.get_strs-files.ensures ∙ raw_values-rows found (codes "FILE"))),
       search rules,
     )
 

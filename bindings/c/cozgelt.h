@@ -1,6 +1,6 @@
-/* Amazon Ion 1.0 in the caller's memory, text or binary: as canonical text, as binary, or checked. It is a transcoder: no value can
- * be read from it but out of what it writes. A float other than null.float is refused (Float, 11), unless a call is given
- * COZGELT_FLOATS.
+/* Amazon Ion 1.0 in the caller's memory, text or binary: as canonical text, as pretty text, as binary, or checked. It is a
+ * transcoder: no value can be read from it but out of what it writes. A float other than null.float is refused (Float, 11), unless
+ * a call is given COZGELT_FLOATS.
  *
  * What a call answers (but for want of memory), and every byte that it writes, is proved (crates/cozgelt_c), of callers that keep what no
  * proof sees of C:
@@ -105,6 +105,12 @@ uint32_t cozgelt_to_binary_with(uint32_t profile, const CozgeltLimits *limits, c
 
 uint32_t cozgelt_check_with(uint32_t profile, const CozgeltLimits *limits, const uint8_t *catalog, size_t catalog_len,
                             const uint8_t *stream, size_t stream_len, uint8_t *room, size_t room_len, CozgeltAnswer *answer);
+
+/* The stream, text or binary, as pretty text, with a profile: the canonical text, but each member of a container stands on a line
+ * of its own, after two blanks for each container that is open there, and after a field's colon there is a blank. */
+uint32_t cozgelt_to_pretty_with(uint32_t profile, const CozgeltLimits *limits, const uint8_t *catalog, size_t catalog_len,
+                                const uint8_t *stream, size_t stream_len, uint8_t *room, size_t room_len,
+                                CozgeltAnswer *answer);
 
 /* The name of a reason, as REFUSALS.md has it; "" of any other number. */
 static inline const char *cozgelt_reason(uint32_t number) {

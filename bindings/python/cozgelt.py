@@ -1,9 +1,17 @@
-"""Amazon Ion 1.0, text or binary: as canonical text, as binary, or checked, by the proved library of Cozgelt.
+"""Amazon Ion 1.0, text or binary: as canonical text, as pretty text, as binary, or checked, by the proved library of Cozgelt.
 
 >>> to_text(b"{a: 1.50, b: [2, x]}")
 b'{a:1.50,b:[2,x]}\\n'
 >>> to_text(to_binary(b"{a: 1.50}"))
 b'{a:1.50}\\n'
+>>> print(to_pretty(b"{a: 1.50, b: [2, x]}").decode(), end="")
+{
+  a: 1.50,
+  b: [
+    2,
+    x
+  ]
+}
 >>> check(b"1 2 3")
 3
 >>> check(b"[[1]]", depth=1)
@@ -28,7 +36,7 @@ import ctypes.util
 import os
 from typing import Any, Tuple, Union
 
-__all__ = ["to_text", "to_binary", "check", "version", "Refused", "CatalogRefused", "InputLimit", "Invalid"]
+__all__ = ["to_text", "to_pretty", "to_binary", "check", "version", "Refused", "CatalogRefused", "InputLimit", "Invalid"]
 
 _REASONS = ("", "Truncated", "BadDescriptor", "BadVar", "Overrun", "BadVersion", "BadAnnotation", "BadNumber", "BadTimestamp",
             "Range", "BadText", "Float", "BadToken", "BadLob", "DepthLimit", "ScalarLimit", "AnnotationLimit", "BadSymbol",
@@ -91,7 +99,7 @@ def _load() -> ctypes.CDLL:
     library.cozgelt_version.restype = ctypes.c_uint32
     if library.cozgelt_version() != _VERSION:
         raise ImportError(f"{path} is another version than this module")
-    for name in ("cozgelt_to_text_with", "cozgelt_to_binary_with", "cozgelt_check_with"):
+    for name in ("cozgelt_to_text_with", "cozgelt_to_pretty_with", "cozgelt_to_binary_with", "cozgelt_check_with"):
         call = getattr(library, name)
         call.argtypes = [ctypes.c_uint32, ctypes.POINTER(_Limits), ctypes.c_char_p, ctypes.c_size_t, ctypes.c_char_p,
                          ctypes.c_size_t, ctypes.c_void_p, ctypes.c_size_t, ctypes.POINTER(_Answer)]
@@ -146,6 +154,12 @@ def to_text(stream: _Bytes, *, catalog: _Bytes = b"", depth: int = 64, scalar: i
     """The stream, text or binary, as canonical text: each value at top level is a line. catalog: a stream of shared symbol
     tables, for the imports of the other. floats: whether floats other than null.float are read."""
     return _call("cozgelt_to_text_with", floats, stream, catalog, (depth, scalar, symbols, value, input), 2)[0]
+
+
+def to_pretty(stream: _Bytes, *, catalog: _Bytes = b"", depth: int = 64, scalar: int = 1 << 20, symbols: int = 1 << 20,
+              value: int = 1 << 24, input: int = 1 << 48, floats: bool = False) -> bytes:
+    """The stream, text or binary, as pretty text: each member of a container is a line of its own."""
+    return _call("cozgelt_to_pretty_with", floats, stream, catalog, (depth, scalar, symbols, value, input), 4)[0]
 
 
 def to_binary(stream: _Bytes, *, catalog: _Bytes = b"", depth: int = 64, scalar: int = 1 << 20, symbols: int = 1 << 20,

@@ -16,6 +16,7 @@ static void judge(int right, const char *what) {
 #define STREAM(text) (const uint8_t *)(text), sizeof(text) - 1
 #define TEXT "1 [2, 3] {a: 1.50}"
 #define SHOWN "1\n[2,3]\n{a:1.50}\n"
+#define PRETTY "1\n[\n  2,\n  3\n]\n{\n  a: 1.50\n}\n"
 #define IMPORT "$ion_symbol_table::{imports:[{name:\"x\",version:1,max_id:2}]} $10 $11"
 #define TABLE "$ion_shared_symbol_table::{name:\"x\",version:1,symbols:[\"p\",\"q\"]}"
 
@@ -139,6 +140,28 @@ static void wrong_calls(void) {
 /* Whether the room begins with all of a text, and is as it was behind it, as is told. */
 #define HOLDS(text) (answer.needed == sizeof(text) - 1 && !memcmp(room, text, sizeof(text) - 1) && kept_from(sizeof(text) - 1))
 
+static void calls_of_pretty_text(void) {
+    begin();
+    judge(cozgelt_to_pretty_with(COZGELT_STRICT, &limits, COZGELT_NO_CATALOG, STREAM(TEXT), room, sizeof room, &answer) ==
+                  COZGELT_ACCEPTED &&
+              answer.values == 3 && HOLDS(PRETTY),
+          "to pretty text");
+    begin();
+    judge(cozgelt_to_text(&limits, COZGELT_NO_CATALOG, STREAM(PRETTY), room, sizeof room, &answer) == COZGELT_ACCEPTED &&
+              answer.values == 3 && HOLDS(SHOWN),
+          "pretty text to text");
+    begin();
+    judge(cozgelt_to_pretty_with(COZGELT_FLOATS, &limits, STREAM(TABLE), STREAM(IMPORT " [1e0]"), room, sizeof room, &answer) ==
+                  COZGELT_ACCEPTED &&
+              answer.values == 3 && HOLDS("p\nq\n[\n  1e0\n]\n"),
+          "floats and imports to pretty text");
+    begin();
+    judge(cozgelt_to_pretty_with(COZGELT_STRICT, &limits, COZGELT_NO_CATALOG, STREAM("[1, {a:1e0"), room, sizeof room, &answer) ==
+                  COZGELT_REFUSED &&
+              !strcmp(cozgelt_reason(answer.reason), "Float") && answer.place == 7 && HOLDS("[\n  1,\n  {"),
+          "a float to pretty text by the strict profile");
+}
+
 static void calls_of_floats(void) {
     uint32_t by = COZGELT_FLOATS;
     begin();
@@ -209,6 +232,10 @@ static void numbers_of_no_profile(void) {
                       COZGELT_INVALID &&
                   no_answer() && kept_from(0),
               "to text by a number of no profile");
+        judge(cozgelt_to_pretty_with(numbers[i], &limits, COZGELT_NO_CATALOG, STREAM(TEXT), room, sizeof room, &answer) ==
+                      COZGELT_INVALID &&
+                  no_answer() && kept_from(0),
+              "to pretty text by a number of no profile");
         judge(cozgelt_to_binary_with(numbers[i], &limits, COZGELT_NO_CATALOG, STREAM(TEXT), room, sizeof room, &answer) ==
                       COZGELT_INVALID &&
                   no_answer() && kept_from(0),
@@ -244,6 +271,7 @@ static void *many(void *of) {
 int main(void) {
     right_calls();
     wrong_calls();
+    calls_of_pretty_text();
     calls_of_floats();
     strict_calls();
     numbers_of_no_profile();

@@ -1,15 +1,16 @@
-//! Amazon Ion 1.0 over slices, text or binary: as canonical text, as binary, or checked, by the proved library of
+//! Amazon Ion 1.0 over slices, text or binary: as canonical text, as pretty text, as binary, or checked, by the proved library of
 //! Cozgelt. What is accepted, what is refused, why and where, and every byte of the output are what its definitions say.
 //!
 //! It is a transcoder: no value can be read from it but out of what it writes. A float other than `null.float` is refused
 //! ([`Reason::Float`]), unless a call is given [`Profile::Floats`].
 //!
 //! ```
-//! use cozgelt::{check, to_binary, to_text, to_text_with, Error, Limits, Profile, Reason};
+//! use cozgelt::{check, to_binary, to_pretty, to_text, to_text_with, Error, Limits, Profile, Reason};
 //!
 //! let limits = Limits::default();
 //! let binary = to_binary(b"{a: 1.50}", &[], &limits)?;
 //! assert_eq!(to_text(&binary, &[], &limits)?, b"{a:1.50}\n");
+//! assert_eq!(to_pretty(&binary, &[], &limits)?, b"{\n  a: 1.50\n}\n");
 //! assert_eq!(check(b"1 2 3", &[], &limits)?, 3);
 //! let Err(Error::Refused(refusal)) = check(b"[[1]]", &[], &limits.depth(1)) else { panic!() };
 //! assert_eq!((refusal.reason, refusal.place), (Reason::DepthLimit, 1));
@@ -187,6 +188,17 @@ extern "C" {
         room_len: usize,
         answer: *mut CAnswer,
     ) -> u32;
+    fn cozgelt_to_pretty_with(
+        profile: u32,
+        limits: *const CLimits,
+        catalog: *const u8,
+        catalog_len: usize,
+        stream: *const u8,
+        stream_len: usize,
+        room: *mut u8,
+        room_len: usize,
+        answer: *mut CAnswer,
+    ) -> u32;
     fn cozgelt_to_binary_with(
         profile: u32,
         limits: *const CLimits,
@@ -305,6 +317,11 @@ pub fn to_text(stream: &[u8], catalog: &[u8], limits: &Limits) -> Result<Vec<u8>
     to_text_with(Profile::Strict, stream, catalog, limits)
 }
 
+/// The stream, text or binary, as pretty text: each member of a container is a line of its own.
+pub fn to_pretty(stream: &[u8], catalog: &[u8], limits: &Limits) -> Result<Vec<u8>, Error> {
+    to_pretty_with(Profile::Strict, stream, catalog, limits)
+}
+
 /// The stream, a text, as canonical binary. One that is binary is refused as `SameForm`.
 pub fn to_binary(stream: &[u8], catalog: &[u8], limits: &Limits) -> Result<Vec<u8>, Error> {
     to_binary_with(Profile::Strict, stream, catalog, limits)
@@ -329,6 +346,24 @@ pub fn to_text_with(
         catalog,
         limits,
         stream.len().saturating_mul(2).saturating_add(64),
+    )?
+    .0)
+}
+
+/// As [`to_pretty`], with a profile.
+pub fn to_pretty_with(
+    profile: Profile,
+    stream: &[u8],
+    catalog: &[u8],
+    limits: &Limits,
+) -> Result<Vec<u8>, Error> {
+    Ok(convert(
+        cozgelt_to_pretty_with,
+        profile,
+        stream,
+        catalog,
+        limits,
+        stream.len().saturating_mul(4).saturating_add(64),
     )?
     .0)
 }

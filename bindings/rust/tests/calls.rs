@@ -1,5 +1,6 @@
 //! One call of each kind, refusals, wrong calls, and four threads at once.
 use cozgelt::{check, check_with, to_binary, to_binary_with, to_text, to_text_with, version};
+use cozgelt::{to_pretty, to_pretty_with};
 use cozgelt::{Error, Limits, Profile, Reason};
 
 const TABLES: &[u8] = b"$ion_shared_symbol_table::{name:\"x\",version:1,symbols:[\"p\",\"q\"]}";
@@ -23,6 +24,30 @@ fn there_and_back() {
     assert_eq!(check(&binary, &[], &limits), Ok(1));
     assert_eq!(to_text(b"", &[], &limits), Ok(Vec::new()));
     assert_eq!(version(), (0, 2, 0));
+}
+
+#[test]
+fn pretty_text_has_a_line_for_each_member() {
+    let limits = Limits::default();
+    let stream = b"a::{b: [1.50, (x 'y z')], c: {}}[]\"a b\"";
+    let pretty =
+        b"a::{\n  b: [\n    1.50,\n    (\n      x\n      'y z'\n    )\n  ],\n  c: {}\n}\n[]\n\"a b\"\n";
+    assert_eq!(to_pretty(stream, &[], &limits).unwrap(), pretty);
+    let binary = to_binary(stream, &[], &limits).unwrap();
+    assert_eq!(to_pretty(&binary, &[], &limits).unwrap(), pretty);
+    assert_eq!(to_pretty(pretty, &[], &limits).unwrap(), pretty);
+    assert_eq!(
+        to_text(pretty, &[], &limits).unwrap(),
+        to_text(stream, &[], &limits).unwrap()
+    );
+    assert_eq!(
+        refused(to_pretty(b"1 [2, 3] {a: 4e0", &[], &limits)),
+        (Reason::Float, 13, b"1\n[\n  2,\n  3\n]\n{".to_vec())
+    );
+    assert_eq!(
+        to_pretty_with(Profile::Floats, b"[4e0]", &[], &limits).unwrap(),
+        b"[\n  4e0\n]\n"
+    );
 }
 
 #[test]

@@ -307,6 +307,24 @@ pub extern "C" fn cozgelt_to_text_with(
     convert(alloc, profile, limits, to, catalog, stream, room, answer)
 }
 
+/// The stream as pretty text, where it is read by the profile that a number names.
+#[unsafe(no_mangle)]
+pub extern "C" fn cozgelt_to_pretty_with(
+    alloc: Global,
+    profile: u32,
+    limits: &CozgeltLimits,
+    catalog: &[u8],
+    stream: &[u8],
+    room: &mut [u8],
+    answer: &mut CozgeltAnswer,
+) -> u32
+    ensures { AnswersAt profile limits.now to.Pretty catalog.now stream.now result
+        answer.old answer.new room.old room.new }
+{
+    let to = To::Pretty;
+    convert(alloc, profile, limits, to, catalog, stream, room, answer)
+}
+
 /// The stream, a text, as canonical binary, where it is read by the profile that a number names.
 #[unsafe(no_mangle)]
 pub extern "C" fn cozgelt_to_binary_with(

@@ -1,5 +1,5 @@
 -- What contracts see of the scalars and the declarations that are written.
-use Rattle.std.specs.Prelude.{ℕ, ◌+◌, List, [], ◌∷◌, ◌++◌, length}
+use Rattle.std.specs.Prelude.{Bool, true, false, ℕ, ◌+◌, List, [], ◌∷◌, ◌++◌, length}
 use Rattle.std.specs.List.{flat_map}
 use Rattle.ion_value.specs.declared.item.Head.{Head as CodeHead}
 use Rattle.ion_value.specs.Items.{raw_head}
@@ -31,6 +31,22 @@ head_name ids (value.whole body) = scalar_name ids body
 head_name ids (value.begin kind) = 0
 head_name ids value.end = 0
 head_name ids value.marker = 0
+
+-- a head is a null, a bool, a float or a symbol: a scalar of ten octets at most
+abbrev pub is_short : {S : Type 0} → Head S → Bool
+is_short (value.whole (value.null type)) = true
+is_short (value.whole (value.bool truth)) = true
+is_short (value.whole (value.float number)) = true
+is_short (value.whole (value.symbol name)) = true
+is_short (value.whole (value.int number)) = false
+is_short (value.whole (value.decimal number)) = false
+is_short (value.whole (value.timestamp moment)) = false
+is_short (value.whole (value.string bytes)) = false
+is_short (value.whole (value.clob bytes)) = false
+is_short (value.whole (value.blob bytes)) = false
+is_short (value.begin kind) = false
+is_short value.end = false
+is_short value.marker = false
 
 -- ---- what a body begins with
 

@@ -1,14 +1,22 @@
 //! A few octets, in a word.
-ghost use Rattle.std.specs.Prelude.{◌≡◌, ◌+◌, ◌<◌, ◌≤◌, ◌∷◌, ◌++◌, [], List, ℕ, length, take, IfSome};
+ghost use Rattle.std.specs.Prelude.{◌≡◌, ◌+◌, ◌<◌, ◌≤◌, ◌^◌, ◌∷◌, ◌++◌, [], List, ℕ, length, take, IfSome, None, false, if◌then◌else◌};
+ghost use Rattle.ion_value.specs.Decimal.{decimal_body};
 ghost use Rattle.ion_value.specs.Float.{value_of};
 ghost use Rattle.ion_value.specs.FloatOctets.{float_octets};
-ghost use Rattle.ion_value.specs.Number.{uint_octets};
+ghost use Rattle.ion_value.specs.Items.{raw_head};
+ghost use Rattle.ion_value.specs.Number.{coefficient_octets, uint_octets, var_int_octets};
+ghost use Rattle.ion_value.specs.Scalar.{type_code};
+ghost use Rattle.ion_value.specs.Value.{UserSymbol};
 ghost use Rattle.ion_binary.specs.Canonical.{headed, header, wrapped};
 ghost use Rattle.ion_binary.specs.Held.{counted_ids};
+ghost use Rattle.ion_binary.specs.ItemOctets.{head_name, head_octets, is_short, user_head};
 ghost use Rattle.ion_binary.specs.Opening.{name_octets, noted};
 
 use ion_float::octets::float_to_octets;
+use ion_value::decimal::Decimal;
 use ion_value::float::Float64;
+use ion_value::ion_type::IonType;
+use ion_value::item::Head;
 use std::marker::Model;
 
 /// At most eight octets, which are put as one block. A clause sees the list of them.
@@ -107,9 +115,9 @@ pub(crate) struct FewNumber {
     pub(crate) size: usize,
 }
 
-/// The octets of a scalar whose body is a number of 64 bits.
+// The octets of a scalar whose body is a number of 64 bits.
 #[inline(always)]
-pub(crate) fn few_number(code: u8, n: u64) -> FewNumber
+fn few_number(code: u8, n: u64) -> FewNumber
     requires code { code < 16 }
     ensures octets { result.first ++ take result.size result.body ≡ headed code (uint_octets n) }
     ensures few { length result.first ≤ 2 }
@@ -124,9 +132,9 @@ pub(crate) fn few_number(code: u8, n: u64) -> FewNumber
     }
 }
 
-/// The octets of a float.
+// The octets of a float.
 #[inline(always)]
-pub(crate) fn few_float(float: Float64) -> FewNumber
+fn few_float(float: Float64) -> FewNumber
     ensures octets { result.first ++ take result.size result.body
         ≡ headed 4 (float_octets (value_of float)) }
     ensures few { length result.first ≤ 2 }
@@ -141,9 +149,48 @@ pub(crate) fn few_float(float: Float64) -> FewNumber
     }
 }
 
-/// A scalar of one octet.
+// The octets of a decimal that is not zero, where 63 bits hold its coefficient and one octet its
+// exponent.
 #[inline(always)]
-pub(crate) fn few_octet(octet: u8) -> FewNumber
+fn few_decimal(number: Decimal) -> Option<FewNumber>
+    ensures octets { IfSome result (λ it. it.first ++ take it.size it.body
+        ≡ headed 5 (decimal_body number)) }
+    ensures few { IfSome result (λ it. length it.first ≤ 2) }
+    ensures size { IfSome result (λ it. it.size ≤ 8) }
+{
+    let magnitude = number.coefficient;
+    if magnitude == 0 || magnitude >= 1 << 63 {
+        return None;
+    }
+    let Some(exponent) = var_int_octet(number.exponent < 0, number.exponent.unsigned_abs()) else {
+        return None;
+    };
+    Some(few_coefficient(exponent, number.negative, magnitude as u64))
+}
+
+// The octets of a decimal that is not zero: the octet of its exponent, and a coefficient of 63 bits.
+#[inline(always)]
+fn few_coefficient(exponent: u8, negative: bool, coefficient: u64) -> FewNumber
+    requires some { 0 < coefficient }
+    requires most { coefficient < 2 ^ 63 }
+    ensures octets { result.first ++ take result.size result.body
+        ≡ headed 5 (exponent ∷ coefficient_octets negative coefficient) }
+    ensures few { length result.first ≤ 2 }
+    ensures size { result.size ≤ 8 }
+{
+    let zeros = (coefficient.leading_zeros() - 1) / 8;
+    let size = 8 - zeros as usize;
+    let sign = sign_bit(negative);
+    FewNumber {
+        first: Few::one(exponent).after(81 + size as u8),
+        body: (coefficient.wrapping_shl(8 * zeros) + sign).to_be_bytes(),
+        size,
+    }
+}
+
+// A scalar of one octet.
+#[inline(always)]
+fn few_octet(octet: u8) -> FewNumber
     ensures octets { result.first ++ take result.size result.body ≡ octet ∷ [] }
     ensures few { length result.first ≤ 2 }
     ensures size { result.size ≤ 8 }
@@ -152,6 +199,55 @@ pub(crate) fn few_octet(octet: u8) -> FewNumber
         first: Few::one(octet),
         body: [0; 8],
         size: 0,
+    }
+}
+
+/// The octets of a null, of a bool, of an int that 64 bits hold, of a float, of most decimals, or of a
+/// symbol of this id.
+#[inline(always)]
+pub(crate) fn few_of(head: Head<'_>, symbol: u32) -> Option<FewNumber>
+    ensures few { IfSome result (λ number. length number.first ≤ 2) }
+    ensures size { IfSome result (λ number. number.size ≤ 8) }
+    ensures long { result ≡ None → is_short (raw_head head.entry) ≡ false }
+    ensures octets { IfSome result (λ number. (ids : UserSymbol → ℕ)
+        → symbol ≡ head_name ids (user_head head.entry)
+        → number.first ++ take number.size number.body ≡ head_octets ids (user_head head.entry)) }
+{
+    match head {
+        Head::Int(int) => match u64::try_from(int.magnitude) {
+            Ok(n) => Some(few_number(if int.negative { 3 } else { 2 }, n)),
+            Err(_) => None,
+        },
+        Head::Float(float) => Some(few_float(float)),
+        Head::Decimal(decimal) => few_decimal(decimal),
+        Head::Symbol(_) => Some(few_number(7, u64::from(symbol))),
+        Head::Null(of) => Some(few_octet(16 * type_code(of) + 15)),
+        Head::Bool(truth) => Some(few_octet(if truth { 17 } else { 16 })),
+        Head::Timestamp(_) | Head::String(_) | Head::Clob(_) | Head::Blob(_) => None,
+        Head::Begin(_) | Head::End | Head::Marker => None,
+    }
+}
+
+// The type code of the null of a type.
+#[inline]
+fn type_code(of: IonType) -> u8
+    ensures code { result ≡ type_code of }
+    ensures small { result < 14 }
+{
+    match of {
+        IonType::Null => 0,
+        IonType::Bool => 1,
+        IonType::Int => 2,
+        IonType::Float => 4,
+        IonType::Decimal => 5,
+        IonType::Timestamp => 6,
+        IonType::Symbol => 7,
+        IonType::String => 8,
+        IonType::Clob => 9,
+        IonType::Blob => 10,
+        IonType::List => 11,
+        IonType::Sexp => 12,
+        IonType::Struct => 13,
     }
 }
 
@@ -200,4 +296,26 @@ fn wrapped_front(front: &Few, more: usize, note: u32) -> Option<Few>
         return Some(ids.after(224 + inside as u8));
     }
     Some(ids.after(128 + inside as u8).after(238))
+}
+
+// The octet of a VarInt of six bits and a sign.
+#[inline(always)]
+fn var_int_octet(negative: bool, magnitude: u32) -> Option<u8>
+    ensures { IfSome result (λ octet. octet ∷ [] ≡ var_int_octets negative magnitude) }
+{
+    if magnitude >= 64 {
+        return None;
+    }
+    if negative {
+        return Some(192 + magnitude as u8);
+    }
+    Some(128 + magnitude as u8)
+}
+
+// The sign of a number as the highest bit of a word.
+#[inline(always)]
+fn sign_bit(negative: bool) -> u64
+    ensures { result ≡ (if negative then 2 ^ 63 else 0) }
+{
+    if negative { 1 << 63 } else { 0 }
 }

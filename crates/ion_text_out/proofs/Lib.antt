@@ -5,6 +5,9 @@ mod Paths
 mod Quoted
 mod ShownRuns
 mod Rows
+mod PrettyRows
+mod Layouts
+mod Gaps
 mod WriterSteps
 mod Plain
 mod Taken

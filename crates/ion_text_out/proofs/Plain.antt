@@ -18,7 +18,8 @@ use Rattle.ion_value.specs.declared.plain_item.TextAt.{TextAt}
 use Rattle.ion_value.specs.declared.plain_item.PlainItem.{PlainItem}
 use Rattle.ion_text_out.proofs.Quoted.{shown_between}
 use Rattle.ion_text_out.specs.Escape.{between_quotes, byte_text, is_shown}
-use Rattle.ion_text_out.specs.Text.{Open, annotation_text, before_item, after_value, field_text, head_text, item_text, scalar_text, symbol_text}
+use Rattle.ion_text_out.specs.Layout.{Layout}
+use Rattle.ion_text_out.specs.Text.{Open, annotation_text, after_value, field_text_by, head_text, item_text, scalar_text, symbol_text}
 use Rattle.ion_meter.specs.declared.limits.Limits.{Limits}
 use Rattle.ion_text_out.specs.Writing.{after_end, closing, shown, text_adds, Shows}
 use Rattle.ion_text_out.specs.Lane.{is_bare_in, marked, plain_front, plain_scalar, symbol_in, symbols_in, text_in}
@@ -77,9 +78,9 @@ is_marked mark (b ∷ bytes) more = marked_by (is_plain (b ∷ bytes)) b mark by
 symbol_marked : (mark bytes : List ℕ) → symbol_text (v.Known bytes) ++ mark ≡ marked mark (symbol_text (v.Known bytes))
 symbol_marked mark bytes = rw (append-nil (symbol_text (v.Known bytes))) at (is_marked mark bytes [])
 
-name_is : (field : Option TextAt) → field_text (option_map user_symbol_at (option_map placed_text field)) ≡ marked (codes ":") (symbol_in field)
-name_is None = refl
-name_is (Some t) = symbol_marked (codes ":") t.text.now
+name_is : (layout : Layout) (field : Option TextAt) → field_text_by layout (option_map user_symbol_at (option_map placed_text field)) ≡ marked layout.after_name (symbol_in field)
+name_is layout None = refl
+name_is layout (Some t) = symbol_marked layout.after_name t.text.now
 
 notes_are : (annotation second : Option TextAt) → IfSome second (StandsAfter annotation)
     → flat_map annotation_text (map user_symbol_at (with_second (listed (option_map placed_text annotation)) second)) ≡ marked (codes "::") (symbols_in annotation second)
@@ -94,15 +95,15 @@ notes_are (Some t) (Some s) after =
     ∙ (sym (append_assoc first (codes "::" ++ second) (codes "::")) ∙ is_marked (codes "::") t.text.now (codes "::" ++ second)))
 
 -- what stands in front of its head
-front_is : (item : PlainItem) → IfSome item.second (StandsAfter item.annotation)
-    → field_text (user_item (placed_item item)).field ++ flat_map annotation_text (user_item (placed_item item)).annotations ≡ plain_front (symbol_in item.field) (symbols_in item.annotation item.second)
-front_is item after = rw (name_is item.field, notes_are item.annotation item.second after) refl
+front_is : (layout : Layout) (item : PlainItem) → IfSome item.second (StandsAfter item.annotation)
+    → field_text_by layout (user_item (placed_item item)).field ++ flat_map annotation_text (user_item (placed_item item)).annotations ≡ plain_front layout (symbol_in item.field) (symbols_in item.annotation item.second)
+front_is layout item after = rw (name_is layout item.field, notes_are item.annotation item.second after) refl
 
 -- its head after these texts is the item
-pub item_put : (cs : Open) (item : PlainItem) (name notes : List ℕ) → IfSome item.second (StandsAfter item.annotation) → name ≡ symbol_in item.field → notes ≡ symbols_in item.annotation item.second
-    → head_text cs (plain_front name notes) (map_head user_symbol_at (raw_head item.head)) ≡ item_text cs (user_item (placed_item item))
-item_put cs item name notes after named noted =
-    rw (named, noted) (ap (λ (l : List ℕ). head_text cs l (map_head user_symbol_at (raw_head item.head))) (sym (front_is item after)))
+pub item_put : (layout : Layout) (cs : Open) (item : PlainItem) (name notes : List ℕ) → IfSome item.second (StandsAfter item.annotation) → name ≡ symbol_in item.field → notes ≡ symbols_in item.annotation item.second
+    → head_text layout cs (plain_front layout name notes) (map_head user_symbol_at (raw_head item.head)) ≡ item_text layout cs (user_item (placed_item item))
+item_put layout cs item name notes after named noted =
+    rw (named, noted) (ap (λ (l : List ℕ). head_text layout cs l (map_head user_symbol_at (raw_head item.head))) (sym (front_is layout item after)))
 
 -- a name and annotations that were spelled one after the other are the two parts of that, cut after the name
 pub parted : (before spelled name notes buffer first second : List ℕ) (cut : ℕ) → before ≡ [] → spelled ≡ before ++ name → buffer ≡ spelled ++ notes → cut ≡ length spelled → first ≡ take cut buffer → second ≡ drop cut buffer
@@ -113,9 +114,9 @@ parted before spelled name notes buffer first second cut empty named noted at fr
 
 -- ---- heads after the texts of a name and an annotation
 
-pub scalar_put : (cs : Open) (name note : List ℕ) (head : v.Head SymbolAt) (body : v.Scalar SymbolAt) (text : List ℕ) → head ≡ v.whole body → text ≡ scalar_text (map_scalar user_symbol_at body)
-    → plain_scalar cs name note text ≡ head_text cs (plain_front name note) (map_head user_symbol_at head)
-scalar_put cs name note head body text is spelled = rw (is, spelled) refl
+pub scalar_put : (layout : Layout) (cs : Open) (name note : List ℕ) (head : v.Head SymbolAt) (body : v.Scalar SymbolAt) (text : List ℕ) → head ≡ v.whole body → text ≡ scalar_text (map_scalar user_symbol_at body)
+    → plain_scalar layout cs name note text ≡ head_text layout cs (plain_front layout name note) (map_head user_symbol_at head)
+scalar_put layout cs name note head body text is spelled = rw (is, spelled) refl
 
 -- a head that comes with a text is a scalar, of which that text is put
 pub spelled_body : (text : List ℕ) (head : v.Head SymbolAt) → IsTextOf text head → (body : v.Scalar SymbolAt) × (head ≡ v.whole body) × (text ≡ scalar_text (map_scalar user_symbol_at body))
@@ -160,15 +161,6 @@ puts_same old new put text is same = is ∙ ap (λ (l : List ℕ). record old { 
 
 -- ---- marks are short
 
-pub before-short : (cs : Open) → length (before_item cs) ≤ 1
-before-short [] = omega arith
-before-short ((kind.List, true) ∷ cs) = omega arith
-before-short ((kind.Sexp, true) ∷ cs) = omega arith
-before-short ((kind.Struct, true) ∷ cs) = omega arith
-before-short ((kind.List, false) ∷ cs) = omega arith
-before-short ((kind.Sexp, false) ∷ cs) = omega arith
-before-short ((kind.Struct, false) ∷ cs) = omega arith
-
 pub after-short : (cs : Open) → length (after_value cs) ≤ 1
 after-short [] = omega arith
 after-short (c ∷ cs) = omega arith
@@ -190,7 +182,7 @@ after_end-short (c ∷ cs) = after-short cs
 -- ---- the writer
 
 -- what was put is what the item adds after the path
-pub adds_here : (limits : Limits) (kinds : List Kind) (empty : Bool) (path : List PlacedItem) (item : PlainItem) (before after text : List ℕ)
-    → Shows kinds empty path → after ≡ before ++ text → text ≡ item_text (shown kinds empty) (user_item (placed_item item)) → after ≡ before ++ text_adds limits path (placed_item item)
-adds_here limits kinds empty path item before after text shows put is =
-    put ∙ ap (λ (l : List ℕ). before ++ l) (is ∙ ap (λ (cs : Open). item_text cs (user_item (placed_item item))) (sym shows))
+pub adds_here : (layout : Layout) (limits : Limits) (kinds : List Kind) (empty : Bool) (path : List PlacedItem) (item : PlainItem) (before after text : List ℕ)
+    → Shows kinds empty path → after ≡ before ++ text → text ≡ item_text layout (shown kinds empty) (user_item (placed_item item)) → after ≡ before ++ text_adds layout limits path (placed_item item)
+adds_here layout limits kinds empty path item before after text shows put is =
+    put ∙ ap (λ (l : List ℕ). before ++ l) (is ∙ ap (λ (cs : Open). item_text layout cs (user_item (placed_item item))) (sym shows))

@@ -7,7 +7,7 @@ use Rattle.ion_value.specs.Value as v
 use Rattle.ion_value.specs.Value.{PlacedItem, SymbolAt, map_head}
 use Rattle.ion_value.specs.Standing as standing
 use Rattle.ion_value.specs.Standing.{Continues, HasPlace, HeadInRange}
-use Rattle.ion_text_out.specs.declared.writer.TextWriter.{TextWriter}
+use Rattle.ion_text_out.specs.declared.writer.LaidOut.{LaidOut}
 use Rattle.ion_text_out.specs.Steps.{MayCome}
 use Rattle.ion_text_out.specs.Text.{Open, open_after, open_after_all, with_member}
 use Rattle.ion_text_out.specs.Writing.{shown_in, HasRoom, Shows}
@@ -56,7 +56,7 @@ range depth kinds v.end p = tt
 range depth kinds v.marker p = tt
 
 -- what may come here
-pub may_come : {A : Type 0} (w : TextWriter A) (path : List PlacedItem) (item : PlacedItem) → Shows w.kinds w.empty path → Continues w.limits path item → MayCome w item.head
+pub may_come : {L A : Type 0} (w : LaidOut L A) (path : List PlacedItem) (item : PlacedItem) → Shows w.kinds w.empty path → Continues w.limits path item → MayCome w item.head
 may_come w path item at next = record {
   range = range w.limits.depth (standing.open_after_all [] path) item.head next.fits.place;
   fits = room w.limits.depth (length w.kinds) (standing.open_after_all [] path) item.head (level w.kinds w.empty path at) next.fits.place;

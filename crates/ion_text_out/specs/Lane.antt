@@ -2,6 +2,7 @@
 use Rattle.std.specs.Prelude.{ℕ, ◌==◌, Bool, true, List, [], ◌∷◌, ◌++◌, Option, Some, None, codes}
 use Rattle.ion_value.specs.Value.{Known}
 use Rattle.ion_value.specs.declared.plain_item.TextAt.{TextAt}
+use Rattle.ion_text_out.specs.Layout.{Layout}
 use Rattle.ion_text_out.specs.Text.{Open, before_item, after_value, symbol_text}
 
 -- the text of a symbol that may be there, empty where there is none
@@ -29,14 +30,14 @@ abbrev pub marked : List ℕ → List ℕ → List ℕ
 marked mark [] = []
 marked mark (b ∷ bs) = (b ∷ bs) ++ mark
 
--- a field's name and a colon, and annotations with their last two colons, where there are such
-abbrev pub plain_front : List ℕ → List ℕ → List ℕ
-plain_front name note = marked (codes ":") name ++ marked (codes "::") note
+-- a field's name and what a layout has after it, and annotations with their last two colons, where there are such
+abbrev pub plain_front : Layout → List ℕ → List ℕ → List ℕ
+plain_front layout name note = marked layout.after_name name ++ marked (codes "::") note
 
 -- what a scalar of a text adds after a name and annotations
-abbrev pub plain_scalar : Open → List ℕ → List ℕ → List ℕ → List ℕ
-plain_scalar cs name note text = before_item cs ++ (plain_front name note ++ (text ++ after_value cs))
+abbrev pub plain_scalar : Layout → Open → List ℕ → List ℕ → List ℕ → List ℕ
+plain_scalar layout cs name note text = before_item layout cs ++ (plain_front layout name note ++ (text ++ after_value cs))
 
 -- what the beginning of a container adds, by its bracket
-abbrev pub plain_begin : Open → List ℕ → List ℕ → List ℕ → List ℕ
-plain_begin cs name note bracket = before_item cs ++ (plain_front name note ++ bracket)
+abbrev pub plain_begin : Layout → Open → List ℕ → List ℕ → List ℕ → List ℕ
+plain_begin layout cs name note bracket = before_item layout cs ++ (plain_front layout name note ++ bracket)

@@ -2,16 +2,34 @@
 use Rattle.std.specs.Prelude.{◌≡◌, ℕ, List, [], ◌∷◌, ◌++◌}
 use Rattle.ion_value.specs.Value.{UserSymbol, Top, Item, top_items}
 use Rattle.ion_value.specs.Path.{Path, path_items}
-use Rattle.ion_text_out.specs.Text.{item_text, items_text, open_after_all, path_text, text}
+use Rattle.ion_text_out.specs.Layout.{Layout, IsLayout, canonical, pretty}
+use Rattle.ion_text_out.specs.Text.{item_text, items_text_by, open_after_all, path_text_by, text_by}
 
 -- an item more adds its text
 abbrev pub ItemsAddTheirText : Type 0
-ItemsAddTheirText = (items : List (Item UserSymbol ℕ)) (item : Item UserSymbol ℕ) → items_text [] (items ++ item ∷ []) ≡ items_text [] items ++ item_text (open_after_all [] items) item
+ItemsAddTheirText =
+    (layout : Layout) (items : List (Item UserSymbol ℕ)) (item : Item UserSymbol ℕ)
+    → items_text_by layout [] (items ++ item ∷ []) ≡ items_text_by layout [] items ++ item_text layout (open_after_all [] items) item
 
--- the text of whole values is that of their items
+-- the text of whole values by a layout is that of their items
+abbrev pub TextIsThatOfItemsBy : Layout → Type 0
+TextIsThatOfItemsBy layout = (tops : List (Top UserSymbol ℕ)) → items_text_by layout [] (top_items tops) ≡ text_by layout tops
+
+-- so is that of a path whose containers are still open
+abbrev pub PathTextIsThatOfItemsBy : Layout → Type 0
+PathTextIsThatOfItemsBy layout = (path : Path UserSymbol ℕ) → items_text_by layout [] (path_items path) ≡ path_text_by layout path
+
+-- and both are by each layout
+abbrev pub EachTextIsThatOfItems : Type 0
+EachTextIsThatOfItems = (layout : Layout) → TextIsThatOfItemsBy layout × PathTextIsThatOfItemsBy layout
+
+-- canonical text
 abbrev pub TextIsThatOfItems : Type 0
-TextIsThatOfItems = (tops : List (Top UserSymbol ℕ)) → items_text [] (top_items tops) ≡ text tops
+TextIsThatOfItems = TextIsThatOfItemsBy canonical
 
--- and that of a path whose containers are still open is that of its items, too
 abbrev pub PathTextIsThatOfItems : Type 0
-PathTextIsThatOfItems = (path : Path UserSymbol ℕ) → items_text [] (path_items path) ≡ path_text path
+PathTextIsThatOfItems = PathTextIsThatOfItemsBy canonical
+
+-- both layouts put only white space and what the grammar asks for
+abbrev pub AreLayouts : Type 0
+AreLayouts = IsLayout canonical × IsLayout pretty

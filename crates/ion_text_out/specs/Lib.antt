@@ -1,4 +1,5 @@
 pub mod Escape
+pub mod Layout
 pub mod Text
 pub mod Laws
 pub mod Writing

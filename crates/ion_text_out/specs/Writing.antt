@@ -1,5 +1,5 @@
--- What the writer of text puts, and what is seen of it.
-use Rattle.std.specs.Prelude.{◌≡◌, ℕ, ◌<◌, ◌≤◌, Bool, true, false, List, [], ◌∷◌, ◌++◌, map, reverse, slice_get, codes, Option, Some, None, ⊤}
+-- What a writer of text puts by a layout, and what is seen of it.
+use Rattle.std.specs.Prelude.{◌≡◌, ℕ, ◌<◌, ◌≤◌, Bool, true, false, List, [], ◌∷◌, ◌++◌, length, map, reverse, slice_get, Option, Some, None, ⊤}
 use Rattle.std.specs.List.{flat_map}
 use Rattle.ion_meter.specs.declared.fault.Reason.{Reason}
 use Rattle.ion_meter.specs.declared.limits.Limits.{Limits}
@@ -7,15 +7,17 @@ use Rattle.ion_meter.specs.Limits.{AreChecked}
 use Rattle.ion_value.specs.declared.ion_type.Kind.{Kind}
 use Rattle.ion_value.specs.Value as v
 use Rattle.ion_value.specs.Value.{SymbolAt, UserSymbol, user_symbol, user_symbol_at, user_item, user_items, map_head, Head, PlacedItem}
-use Rattle.ion_text_out.specs.Text.{Open, annotation_text, before_item, after_value, closer, item_text, items_text, open_after_all, opener, scalar_text, symbol_text}
+use Rattle.ion_text_out.specs.declared.layout.Gap.{Gap}
+use Rattle.ion_text_out.specs.Layout.{Layout, new_line}
+use Rattle.ion_text_out.specs.Text.{Open, annotation_text, before_item, after_value, closer, item_text, items_text_by, open_after_all, opener, scalar_text, symbol_text}
 
 -- what is put for items
-abbrev pub text_puts : Limits → List PlacedItem → List ℕ
-text_puts limits path = items_text [] (user_items path)
+abbrev pub text_puts : Layout → Limits → List PlacedItem → List ℕ
+text_puts layout limits path = items_text_by layout [] (user_items path)
 
 -- what an item after others adds
-abbrev pub text_adds : Limits → List PlacedItem → PlacedItem → List ℕ
-text_adds limits path item = item_text (open_after_all [] (user_items path)) (user_item item)
+abbrev pub text_adds : Layout → Limits → List PlacedItem → PlacedItem → List ℕ
+text_adds layout limits path item = item_text layout (open_after_all [] (user_items path)) (user_item item)
 
 -- the refusal of an item after others: there is none
 abbrev pub text_refusal : Limits → List PlacedItem → PlacedItem → Option (Reason × ℕ)
@@ -38,17 +40,22 @@ innermost kinds = slice_get (reverse kinds) 0
 
 -- ---- the parts of an item's text
 
--- the bracket that the innermost container ends with, and nothing where none is open
+-- what stands before the bracket that the innermost container ends with, and nothing where none is open
+abbrev pub before_end : Layout → Open → List ℕ
+before_end layout [] = []
+before_end layout (c ∷ cs) = layout.before_closer c.1 (length cs)
+
+-- that bracket, and nothing where none is open
 abbrev pub closing : Open → List ℕ
 closing [] = []
 closing (c ∷ cs) = closer c.0
 
--- the first part of an item's text: a separator before a value where one is due, and the bracket that a container ends with
-abbrev pub first_text : {S : Type 0} → Open → Head S → List ℕ
-first_text cs (v.whole body) = before_item cs
-first_text cs (v.begin kind) = before_item cs
-first_text cs v.end = closing cs
-first_text cs v.marker = []
+-- the first part of an item's text: what stands before a value, and the bracket that a container ends with after what stands before that
+abbrev pub first_text : {S : Type 0} → Layout → Open → Head S → List ℕ
+first_text layout cs (v.whole body) = before_item layout cs
+first_text layout cs (v.begin kind) = before_item layout cs
+first_text layout cs v.end = before_end layout cs ++ closing cs
+first_text layout cs v.marker = []
 
 -- what stands after the bracket that closes
 abbrev pub after_end : Open → List ℕ
@@ -91,12 +98,28 @@ where_value true text = text
 where_value false text = []
 
 -- a field and annotations, and then a scalar or the bracket that opens a container
-abbrev pub value_text : Option SymbolAt → List SymbolAt → Head SymbolAt → List ℕ
-value_text field annotations head = marked_text (codes ":") field ++ (annotations_text annotations ++ body_text (map_head user_symbol_at head))
+abbrev pub value_text : Layout → Option SymbolAt → List SymbolAt → Head SymbolAt → List ℕ
+value_text layout field annotations head = marked_text layout.after_name field ++ (annotations_text annotations ++ body_text (map_head user_symbol_at head))
 
 -- the part of an item's text between the first and the last: nothing of an end or a marker
-abbrev pub middle_text : PlacedItem → List ℕ
-middle_text item = where_value (is_value item.head) (value_text item.field item.annotations item.head)
+abbrev pub middle_text : Layout → PlacedItem → List ℕ
+middle_text layout item = where_value (is_value item.head) (value_text layout item.field item.annotations item.head)
+
+-- ---- what stands between parts
+
+-- a byte, or nothing
+abbrev pub byte_in : Option ℕ → List ℕ
+byte_in None = []
+byte_in (Some b) = b ∷ []
+
+-- a new line with so many containers open, or nothing
+abbrev pub line_in : Option ℕ → List ℕ
+line_in None = []
+line_in (Some depth) = new_line depth
+
+-- the one, and then the other
+abbrev pub gap_text : Gap → List ℕ
+gap_text gap = byte_in gap.mark ++ line_in gap.line
 
 -- ---- the writer
 

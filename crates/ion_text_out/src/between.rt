@@ -1,8 +1,9 @@
 //! What stands between values.
 ghost use Rattle.std.specs.Prelude.{◌≡◌, Bool};
 ghost use Rattle.ion_text_out.specs.Text.{before_item, after_value, opener};
-ghost use Rattle.ion_text_out.specs.Writing.{after_end, closing, innermost, shown};
+ghost use Rattle.ion_text_out.specs.Writing.{after_end, before_end, closing, gap_text, innermost, shown};
 
+use crate::layout::{Gap, Layout};
 use ion_value::ion_type::Kind;
 
 /// The innermost of the open containers, of which the outermost stands first.
@@ -27,15 +28,31 @@ pub fn opener(kind: Kind) -> &'static [u8]
 
 /// What stands before the next value, where these containers are open and the innermost is empty
 /// or not.
-#[inline]
-pub fn before(kinds: &[Kind], empty: bool) -> &'static [u8]
-    ensures { result.now ≡ before_item (shown kinds.now empty) }
+#[inline(always)]
+pub fn before<L: Layout>(kinds: &[Kind], empty: bool) -> Gap
+    ensures { gap_text result ≡ before_item L.layout (shown kinds.now empty) }
 {
     match innermost(kinds) {
-        Some(Kind::Sexp) if !empty => b" ",
-        Some(_) if !empty => b",",
-        _ => b"",
+        Some(kind) => L::before_member(kind, empty, kinds.len()),
+        None => Gap {
+            mark: None,
+            line: None,
+        },
     }
+}
+
+/// What stands before the bracket that closes the innermost container, which is empty or not.
+#[inline(always)]
+pub fn before_end<L: Layout>(kinds: &[Kind], empty: bool) -> Gap
+    ensures { gap_text result ≡ before_end L.layout (shown kinds.now empty) }
+{
+    if kinds.is_empty() {
+        return Gap {
+            mark: None,
+            line: None,
+        };
+    }
+    L::before_closer(empty, kinds.len() - 1)
 }
 
 /// What stands after a value: at top level, the end of its line.

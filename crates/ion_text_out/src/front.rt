@@ -1,15 +1,18 @@
 //! Names and annotations of plain items, which are put where the window on the output has room.
-ghost use Rattle.std.specs.Prelude.{◌≡◌, ◌+◌, ◌≤◌, ◌++◌, ◌∷◌, ◌&&◌, [], true, length, codes, if◌then◌else◌, IfSome};
+ghost use Rattle.std.specs.Prelude.{◌≡◌, Bool, ◌+◌, ◌≤◌, ◌++◌, ◌∷◌, ◌&&◌, [], true, length, codes, if◌then◌else◌, IfSome};
 ghost use Rattle.ion_value.specs.PlainItems.{IsRightlyQuoted, StandsAfter};
 ghost use Rattle.ion_value.specs.Value.{Known};
 ghost use Rattle.ion_text_out.specs.Lane.{is_bare_in, plain_front, symbol_in, symbols_in, text_in};
-ghost use Rattle.ion_text_out.specs.Text.{symbol_text};
+ghost use Rattle.ion_text_out.specs.Text.{before_item, symbol_text};
+ghost use Rattle.ion_text_out.specs.Writing.{shown};
 
 use crate::bare::is_bare;
+use crate::layout::Layout;
 use crate::quote::stands_in_symbol;
 use arrayvec::ArrayVec;
 use ion_meter::device::Output;
 use ion_meter::sink::Sink;
+use ion_value::ion_type::Kind;
 use ion_value::plain_item::TextAt;
 use ion_value::quoting::{BARE, QUOTED};
 use std::alloc::Allocator;
@@ -35,16 +38,19 @@ pub fn all(name: bool, note: bool, alone: bool) -> bool
     name && note && alone
 }
 
-/// Whether there is room for a name and annotations, so many bytes, and two marks of a byte.
+/// Whether there is room for what stands before a value, a name and annotations, so many bytes, and
+/// a mark of a byte.
 #[inline(always)]
-pub fn has_room<O: Output, A: Allocator + Copy>(
+pub fn has_room<L: Layout, O: Output, A: Allocator + Copy>(
     sink: &Sink<O, A>,
+    kinds: &[Kind],
     name: &[u8],
     note: &[u8],
     more: usize,
 ) -> bool
-    ensures { result ≡ true
-        → length sink.now.pending + length (plain_front name.now note.now) + more + 2 ≤ 4096 }
+    ensures { result ≡ true → (empty : Bool) → length sink.now.pending
+        + length (before_item L.layout (shown kinds.now empty))
+        + length (plain_front L.layout name.now note.now) + more + 1 ≤ 4096 }
 {
     let room = sink.room();
     let texts = name.len() + note.len();
@@ -52,7 +58,7 @@ pub fn has_room<O: Output, A: Allocator + Copy>(
         return false;
     }
     let left = room - texts;
-    5 <= left && more <= left - 5
+    more <= left && L::has_room(kinds.len(), left - more)
 }
 
 /// Puts a mark of one byte, or none.
@@ -67,21 +73,37 @@ pub fn put_mark<O: Output, A: Allocator + Copy>(sink: &mut Sink<O, A>, mark: &[u
     }
 }
 
-/// Puts a name and a colon, and annotations and two colons, where there are such.
+/// Puts a name and what stands after it, and annotations and two colons, where there are such.
 #[inline(always)]
-pub fn put_front<O: Output, A: Allocator + Copy>(sink: &mut Sink<O, A>, name: &[u8], note: &[u8])
-    requires { length sink.old.pending + length (plain_front name.now note.now) ≤ 4096 }
+pub fn put_front<L: Layout, O: Output, A: Allocator + Copy>(
+    sink: &mut Sink<O, A>,
+    name: &[u8],
+    note: &[u8],
+)
+    requires { length sink.old.pending + length (plain_front L.layout name.now note.now) ≤ 4096 }
     ensures { sink.new ≡ record sink.old {
-      pending = sink.old.pending ++ plain_front name.now note.now;
+      pending = sink.old.pending ++ plain_front L.layout name.now note.now;
     } }
 {
     if !name.is_empty() {
         sink.put_within(name);
-        sink.put_byte(b':');
+        put_few(sink, L::after_name());
     }
     if !note.is_empty() {
         sink.put_within(note);
         sink.put_within(b"::");
+    }
+}
+
+// Puts a few bytes. As the length of one is told apart here, no call copies it.
+#[inline(always)]
+fn put_few<O: Output, A: Allocator + Copy>(sink: &mut Sink<O, A>, bytes: &[u8])
+    requires { length sink.old.pending + length bytes.now ≤ 4096 }
+    ensures { sink.new ≡ record sink.old { pending = sink.old.pending ++ bytes.now } }
+{
+    match bytes {
+        [byte] => sink.put_byte(*byte),
+        _ => sink.put_within(bytes),
     }
 }
 

@@ -1,15 +1,16 @@
 //! The text of an item, in parts.
-ghost use Rattle.std.specs.Prelude.{◌≡◌, Bool, None};
+ghost use Rattle.std.specs.Prelude.{◌≡◌, ◌++◌, Bool, None};
 ghost use Rattle.ion_value.specs.Items.{raw_head, raw_field, item_of, annotations_of};
 ghost use Rattle.ion_text_out.specs.Text.{item_text};
 ghost use Rattle.ion_meter.specs.Sinks.{IsPut};
 ghost use Rattle.ion_text_out.specs.Steps.{PutsUnlessFailed};
-ghost use Rattle.ion_text_out.specs.Writing.{first_text, is_value, last_text, marked_text, middle_text, annotations_text, shown, value_text};
+ghost use Rattle.ion_text_out.specs.Writing.{before_end, closing, first_text, is_value, last_text, marked_text, middle_text, annotations_text, shown, value_text};
 ghost use Rattle.ion_value.specs.Value.{user_item};
 ghost use Rattle.ion_value.specs.Standing.{HeadInRange};
 
-use crate::between::{after, after_end, before, closing};
-use crate::put::{put, put_mark};
+use crate::between::{after, after_end, before, before_end, closing};
+use crate::layout::Layout;
+use crate::put::{put, put_gap, put_mark};
 use crate::scalar::{put_body, put_symbol};
 use ion_meter::device::Output;
 use ion_meter::fault::Fault;
@@ -59,23 +60,41 @@ fn put_annotations<O: Output, A: Allocator + Copy, N: Names>(
     Ok(())
 }
 
-/// Puts what stands first of an item: a separator, or the bracket that closes.
+/// Puts the bracket that closes the innermost container after what stands before that.
 ///
 /// Where the sink had failed before, its fault is passed on.
 #[inline(always)]
-fn put_first<O: Output, A: Allocator + Copy>(
+fn put_closing<L: Layout, O: Output, A: Allocator + Copy>(
+    sink: &mut Sink<O, A>,
+    kinds: &[Kind],
+    empty: bool,
+) -> Result<(), Fault>
+    ensures { PutsUnlessFailed O.Output sink.old sink.new result
+        (before_end L.layout (shown kinds.now empty) ++ closing (shown kinds.now empty)) }
+{
+    if let Err(fault) = put_gap(sink, before_end::<L>(kinds, empty)) {
+        return Err(fault);
+    }
+    put_mark(sink, closing(kinds))
+}
+
+/// Puts what stands first of an item: what stands before a value, or the bracket that closes.
+///
+/// Where the sink had failed before, its fault is passed on.
+#[inline(always)]
+fn put_first<L: Layout, O: Output, A: Allocator + Copy>(
     sink: &mut Sink<O, A>,
     kinds: &[Kind],
     empty: bool,
     head: &Head<'_>,
 ) -> Result<(), Fault>
     ensures { PutsUnlessFailed O.Output sink.old sink.new result
-        (first_text (shown kinds.now empty) (raw_head head.now)) }
+        (first_text L.layout (shown kinds.now empty) (raw_head head.now)) }
 {
     match *head {
-        Head::End => put_mark(sink, closing(kinds)),
+        Head::End => put_closing::<L, O, A>(sink, kinds, empty),
         Head::Marker => sink.put(b""),
-        _ => put_mark(sink, before(kinds, empty)),
+        _ => put_gap(sink, before::<L>(kinds, empty)),
     }
 }
 
@@ -108,7 +127,7 @@ fn is_value(head: &Head<'_>) -> bool
 /// Puts a field's name, annotations and a scalar or the bracket that opens a container, and
 /// nothing for an end.
 #[inline(always)]
-fn put_middle<O: Output, A: Allocator + Copy, N: Names>(
+fn put_middle<L: Layout, O: Output, A: Allocator + Copy, N: Names>(
     sink: &mut Sink<O, A>,
     item: &Item<'_, N>,
     head: &Head<'_>,
@@ -116,10 +135,11 @@ fn put_middle<O: Output, A: Allocator + Copy, N: Names>(
     requires well { sink.old.fault ≡ None }
     requires head { raw_head head.now ≡ (item_of N.text item.now).head }
     requires range { HeadInRange (raw_head head.now) }
-    ensures { IsPut O.Output sink.old sink.new result (middle_text (item_of N.text item.now)) }
+    ensures { IsPut O.Output sink.old sink.new result
+        (middle_text L.layout (item_of N.text item.now)) }
 {
     if is_value(head) {
-        put_value(sink, item.field(), &item.annotations(), head)
+        put_value::<L, O, A, N>(sink, item.field(), &item.annotations(), head)
     } else {
         put(sink, b"")
     }
@@ -127,7 +147,7 @@ fn put_middle<O: Output, A: Allocator + Copy, N: Names>(
 
 /// Puts a field's name, annotations, and a scalar or the bracket that opens a container.
 #[inline(always)]
-fn put_value<O: Output, A: Allocator + Copy, N: Names>(
+fn put_value<L: Layout, O: Output, A: Allocator + Copy, N: Names>(
     sink: &mut Sink<O, A>,
     field: Option<SymAt<'_>>,
     annotations: &Annotations<'_, N>,
@@ -136,10 +156,10 @@ fn put_value<O: Output, A: Allocator + Copy, N: Names>(
     requires well { sink.old.fault ≡ None }
     requires range { HeadInRange (raw_head head.now) }
     ensures { IsPut O.Output sink.old sink.new result
-        (value_text (raw_field field.entry) (annotations_of N.text annotations.now)
+        (value_text L.layout (raw_field field.entry) (annotations_of N.text annotations.now)
         (raw_head head.now)) }
 {
-    if let Err(fault) = put_marked(sink, field, b":") {
+    if let Err(fault) = put_marked(sink, field, L::after_name()) {
         return Err(fault);
     }
     if let Err(fault) = put_annotations(sink, annotations) {
@@ -150,7 +170,7 @@ fn put_value<O: Output, A: Allocator + Copy, N: Names>(
 
 /// Puts an item with such a head, where these containers are open and the innermost is empty or not.
 #[inline(always)]
-pub fn put_item<O: Output, A: Allocator + Copy, N: Names>(
+pub fn put_item<L: Layout, O: Output, A: Allocator + Copy, N: Names>(
     sink: &mut Sink<O, A>,
     kinds: &[Kind],
     empty: bool,
@@ -160,12 +180,12 @@ pub fn put_item<O: Output, A: Allocator + Copy, N: Names>(
     requires range { HeadInRange (item_of N.text item.now).head }
     requires head { raw_head head.now ≡ (item_of N.text item.now).head }
     ensures { PutsUnlessFailed O.Output sink.old sink.new result
-        (item_text (shown kinds.now empty) (user_item (item_of N.text item.now))) }
+        (item_text L.layout (shown kinds.now empty) (user_item (item_of N.text item.now))) }
 {
-    if let Err(fault) = put_first(sink, kinds, empty, head) {
+    if let Err(fault) = put_first::<L, O, A>(sink, kinds, empty, head) {
         return Err(fault);
     }
-    if let Err(fault) = put_middle(sink, item, head) {
+    if let Err(fault) = put_middle::<L, O, A, N>(sink, item, head) {
         return Err(fault);
     }
     put_last(sink, kinds, head)

@@ -1,5 +1,5 @@
-//! The canonical text of Amazon Ion 1.0: its definition, and `TextWriter`, which writes items as
-//! they come. The laws tie the text of items to that of whole values.
+//! The text of Amazon Ion 1.0 by a layout: its definition, and writers of items as they come. That
+//! of canonical text is `TextWriter`. The laws tie the text of items to that of whole values.
 #![tactic(auto)]
 
 mod bare;
@@ -8,6 +8,7 @@ mod blob;
 mod front;
 mod item;
 pub mod laws;
+pub mod layout;
 mod put;
 mod quote;
 mod scalar;

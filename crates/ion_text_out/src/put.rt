@@ -1,8 +1,11 @@
 //! Bytes that are put in parts.
-ghost use Rattle.std.specs.Prelude.{◌≡◌, None};
+ghost use Rattle.std.specs.Prelude.{◌≡◌, ◌+◌, ◌*◌, ◌≤◌, ◌++◌, None, length, replicate};
 ghost use Rattle.ion_meter.specs.Sinks.{IsPut};
+ghost use Rattle.ion_text_out.specs.Layout.{new_line};
 ghost use Rattle.ion_text_out.specs.Steps.{PutsUnlessFailed};
+ghost use Rattle.ion_text_out.specs.Writing.{byte_in, gap_text};
 
+use crate::layout::Gap;
 use ion_meter::device::Output;
 use ion_meter::fault::Fault;
 use ion_meter::sink::Sink;
@@ -29,5 +32,101 @@ pub fn put_mark<O: Output, A: Allocator + Copy>(
         [] => sink.put(b""),
         [byte] => sink.put(&[*byte]),
         _ => sink.put(mark),
+    }
+}
+
+/// How many containers the blanks are for that are put at once.
+const LEVELS: usize = 32;
+
+/// These blanks, two for each.
+static BLANKS: [u8; 64] = [b' '; 64];
+
+/// Puts a new line with so many containers open.
+#[inline(never)]
+fn put_line<O: Output, A: Allocator + Copy>(
+    sink: &mut Sink<O, A>,
+    depth: usize,
+) -> Result<(), Fault>
+    requires well { sink.old.fault ≡ None }
+    ensures { IsPut O.Output sink.old sink.new result (new_line depth) }
+{
+    if let Err(fault) = put(sink, b"\n") {
+        return Err(fault);
+    }
+    put_blanks(sink, depth)
+}
+
+// Puts two blanks for each of so many containers.
+fn put_blanks<O: Output, A: Allocator + Copy>(
+    sink: &mut Sink<O, A>,
+    depth: usize,
+) -> Result<(), Fault>
+    requires well { sink.old.fault ≡ None }
+    ensures { IsPut O.Output sink.old sink.new result (replicate (2 * depth) 32) }
+{
+    let mut left = depth;
+    'levels: while left > LEVELS {
+        if let Err(fault) = put(sink, &BLANKS) {
+            return Err(fault);
+        }
+        left -= LEVELS;
+    }
+    put(sink, &BLANKS[..2 * left])
+}
+
+// Puts a byte, or nothing. Where the sink had failed before, its fault is passed on.
+#[inline(always)]
+fn put_byte_in<O: Output, A: Allocator + Copy>(
+    sink: &mut Sink<O, A>,
+    mark: Option<u8>,
+) -> Result<(), Fault>
+    ensures { PutsUnlessFailed O.Output sink.old sink.new result (byte_in mark) }
+{
+    match mark {
+        Some(byte) => sink.put(&[byte]),
+        None => sink.put(b""),
+    }
+}
+
+/// Puts what stands between two parts. Where the sink had failed before, its fault is passed on.
+#[inline(always)]
+pub fn put_gap<O: Output, A: Allocator + Copy>(sink: &mut Sink<O, A>, gap: Gap) -> Result<(), Fault>
+    ensures { PutsUnlessFailed O.Output sink.old sink.new result (gap_text gap) }
+{
+    if let Err(fault) = put_byte_in(sink, gap.mark) {
+        return Err(fault);
+    }
+    match gap.line {
+        Some(depth) => put_line(sink, depth),
+        None => Ok(()),
+    }
+}
+
+// Puts a new line, for which the window has room.
+#[inline(never)]
+fn put_line_within<O: Output, A: Allocator + Copy>(sink: &mut Sink<O, A>, depth: usize)
+    requires { length sink.old.pending + length (new_line depth) ≤ 4096 }
+    ensures { sink.new ≡ record sink.old { pending = sink.old.pending ++ new_line depth } }
+{
+    sink.put_byte(b'\n');
+    let mut left = depth;
+    'levels: while left > LEVELS {
+        sink.put_within(&BLANKS);
+        left -= LEVELS;
+    }
+    sink.put_within(&BLANKS[..2 * left]);
+}
+
+/// Puts what stands between two parts, for which the window has room.
+#[inline(always)]
+pub fn put_gap_within<O: Output, A: Allocator + Copy>(sink: &mut Sink<O, A>, gap: Gap)
+    requires { length sink.old.pending + length (gap_text gap) ≤ 4096 }
+    ensures { sink.new ≡ record sink.old { pending = sink.old.pending ++ gap_text gap } }
+{
+    if let Some(byte) = gap.mark {
+        sink.put_byte(byte);
+    }
+    if let Some(depth) = gap.line {
+        put_line_within(sink, depth);
     }
 }

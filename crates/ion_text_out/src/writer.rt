@@ -1,4 +1,4 @@
-//! The writer of text.
+//! Writers of text, by its layout.
 ghost use Rattle.std.specs.Prelude.{◌≡◌, ◌+◌, ◌*◌, ◌≤◌, ◌<◌, ◌-◌, ◌++◌, ◌∷◌, ℕ, [], length, drop, true, false, if◌then◌else◌, None, Err, OnOk, OnErr, IfErr, IfSome};
 ghost use Rattle.ion_meter.specs.declared.fault.Reason.{Reason};
 ghost use Rattle.ion_meter.specs.declared.fault.Fault.TheVariants.{Refused};
@@ -23,9 +23,11 @@ ghost use Rattle.ion_text_out.specs.Steps.{CanStep, HasPutNothing, HasRoomFor, H
 ghost use Rattle.ion_text_out.specs.Written.{text_grows, text-within};
 
 use crate::bare::is_bare;
-use crate::between::{after, after_end, before, closing, opener};
+use crate::between::{after, after_end, before, before_end, closing, opener};
 use crate::front::{all, has_room, put_front, put_mark, spell, spell_notes, text_in};
 use crate::item::put_item;
+use crate::layout::{Canonical, Layout, Pretty};
+use crate::put::put_gap_within;
 use crate::quote::{stands_in_string, stands_in_symbol};
 use crate::scalar::{bool_text, null};
 use arrayvec::ArrayVec;
@@ -48,32 +50,41 @@ use ion_value::timestamp::{Timestamp, timestamp_to_text};
 use ion_value::writer::ValueWriter;
 use itoa::Buffer;
 use std::alloc::Allocator;
+use std::marker::PhantomData;
 
-/// Writes values as canonical text, each value at top level on a line of its own.
+/// Writes values as text of this layout, each value at top level on lines of its own.
 ///
 /// A value is written one item at a time: a container that is open has its opening bracket and
 /// the members so far. It holds 16 counted bytes for each open container and refuses nothing.
 #[derive(Drop)]
-pub struct TextWriter<A: Allocator + Copy> {
+pub struct LaidOut<L: Layout, A: Allocator + Copy> {
     limits: Limits,
     kinds: Stack<Kind, A>,
     empty: bool,
     failed: Option<Fault>,
+    layout: PhantomData<L>,
 }
 
-impl<A: Allocator + Copy> TextWriter<A> {
+/// Writes values as canonical text, each value at top level on a line of its own.
+pub type TextWriter<A> = LaidOut<Canonical, A>;
+
+/// Writes values as pretty text, each member of a container on a line of its own.
+pub type PrettyWriter<A> = LaidOut<Pretty, A>;
+
+impl<L: Layout, A: Allocator + Copy> LaidOut<L, A> {
     /// A writer that has put nothing. It takes no memory.
-    pub fn new(meter: &Meter<A>, limits: Limits) -> TextWriter<A>
+    pub fn new(meter: &Meter<A>, limits: Limits) -> LaidOut<L, A>
         requires checked { AreChecked limits }
         ensures limits { limits_of result ≡ limits }
         ensures nothing { HasPutNothing result }
         ensures ready { IsSound result }
     {
-        TextWriter {
+        LaidOut {
             limits,
             kinds: Stack::new(meter),
             empty: true,
             failed: None,
+            layout: PhantomData,
         }
     }
 
@@ -82,11 +93,12 @@ impl<A: Allocator + Copy> TextWriter<A> {
         requires { held_by self ≤ meter.old.held }
         ensures { Shrinks meter.old meter.new (held_by self) }
     {
-        let TextWriter {
+        let LaidOut {
             limits: _,
             kinds,
             empty: _,
             failed: _,
+            layout: _,
         } = self;
         kinds.release(meter);
     }
@@ -105,7 +117,7 @@ impl<A: Allocator + Copy> TextWriter<A> {
             ≡ open_after (opened_in self.old)
             (map_head user_symbol_at (item_of N.text item.now).head)) }
         ensures puts { PutsText O.Output sink.old sink.new result
-            (text_of self.old (item_of N.text item.now)) }
+            (text_of L.layout self.old (item_of N.text item.now)) }
         ensures refuses { sink.old.fault ≡ None
             → (r : Reason) (p : ℕ) → result ≡ Err (Refused r p) → ⊥ }
         ensures memory { MemoryCauses (fault_of result) meter.old meter.new }
@@ -114,7 +126,13 @@ impl<A: Allocator + Copy> TextWriter<A> {
         ensures stepped { Stepped self.old self.new meter.old meter.new }
     {
         let head = item.head();
-        if let Err(fault) = put_item(sink, self.kinds.as_slice(), self.empty, item, &head) {
+        if let Err(fault) = put_item::<L, O, A, N>(
+            sink,
+            self.kinds.as_slice(),
+            self.empty,
+            item,
+            &head,
+        ) {
             return Err(fault);
         }
         self.settle(meter, &head)
@@ -153,7 +171,7 @@ impl<A: Allocator + Copy> TextWriter<A> {
 // The calls of `take_plain`, by what the item is: each puts all of the item and moves after it, or
 // answers false and changes nothing. They are calls of their own that take few words: the canonical
 // texts of the item's name and annotations, which are empty where there is none, as no symbol's is.
-impl<A: Allocator + Copy> TextWriter<A> {
+impl<L: Layout, A: Allocator + Copy> LaidOut<L, A> {
     // A scalar of this text between two marks of a byte or none.
     #[inline(always)]
     fn take_marked<O: Output>(
@@ -167,14 +185,14 @@ impl<A: Allocator + Copy> TextWriter<A> {
     ) -> bool
         requires first { length first.now ≤ 1 }
         requires last { length last.now ≤ 1 }
-        ensures { TakesScalar self.old self.new sink.old sink.new result
+        ensures { TakesScalar L.layout self.old self.new sink.old sink.new result
             name.now note.now (first.now ++ (text.now ++ last.now)) }
     {
-        if !has_room(sink, name, note, text.len() + 2) {
+        if !has_room::<L, O, A>(sink, self.kinds.as_slice(), name, note, text.len() + 2) {
             return false;
         }
-        put_mark(sink, before(self.kinds.as_slice(), self.empty));
-        put_front(sink, name, note);
+        put_gap_within(sink, before::<L>(self.kinds.as_slice(), self.empty));
+        put_front::<L, O, A>(sink, name, note);
         put_mark(sink, first);
         sink.put_within(text);
         put_mark(sink, last);
@@ -192,7 +210,7 @@ impl<A: Allocator + Copy> TextWriter<A> {
         note: &[u8],
         text: &[u8],
     ) -> bool
-        ensures { TakesScalar self.old self.new sink.old sink.new result
+        ensures { TakesScalar L.layout self.old self.new sink.old sink.new result
             name.now note.now text.now }
     {
         self.take_marked(sink, name, note, b"", text, b"")
@@ -207,7 +225,7 @@ impl<A: Allocator + Copy> TextWriter<A> {
         note: &[u8],
         symbol: Sym<'_>,
     ) -> bool
-        ensures { TakesScalar self.old self.new sink.old sink.new result
+        ensures { TakesScalar L.layout self.old self.new sink.old sink.new result
             name.now note.now (symbol_text (user_symbol (symbol_of symbol.entry))) }
     {
         match symbol {
@@ -225,7 +243,7 @@ impl<A: Allocator + Copy> TextWriter<A> {
         note: &[u8],
         text: &[u8],
     ) -> bool
-        ensures { TakesScalar self.old self.new sink.old sink.new result
+        ensures { TakesScalar L.layout self.old self.new sink.old sink.new result
             name.now note.now (symbol_text (Known text.now)) }
     {
         if is_bare(text) {
@@ -247,7 +265,7 @@ impl<A: Allocator + Copy> TextWriter<A> {
         text: &[u8],
     ) -> bool
         requires { all_are (is_shown 39 256) text.now ≡ true }
-        ensures { TakesScalar self.old self.new sink.old sink.new result
+        ensures { TakesScalar L.layout self.old self.new sink.old sink.new result
             name.now note.now (between_quotes 39 256 text.now) }
     {
         self.take_marked(sink, name, note, b"'", text, b"'")
@@ -262,7 +280,7 @@ impl<A: Allocator + Copy> TextWriter<A> {
         note: &[u8],
         text: &[u8],
     ) -> bool
-        ensures { TakesScalar self.old self.new sink.old sink.new result
+        ensures { TakesScalar L.layout self.old self.new sink.old sink.new result
             name.now note.now (between_quotes 34 256 text.now) }
     {
         if !stands_in_string(text) {
@@ -280,7 +298,7 @@ impl<A: Allocator + Copy> TextWriter<A> {
         note: &[u8],
         int: Int,
     ) -> bool
-        ensures { TakesScalar self.old self.new sink.old sink.new result
+        ensures { TakesScalar L.layout self.old self.new sink.old sink.new result
             name.now note.now (int_text int) }
     {
         if int.magnitude > u64::MAX as u128 {
@@ -299,7 +317,7 @@ impl<A: Allocator + Copy> TextWriter<A> {
         negative: bool,
         magnitude: u64,
     ) -> bool
-        ensures { TakesScalar self.old self.new sink.old sink.new result name.now note.now
+        ensures { TakesScalar L.layout self.old self.new sink.old sink.new result name.now note.now
             (int_text (record { negative = negative; magnitude = magnitude })) }
     {
         let mut buffer = Buffer::new();
@@ -316,7 +334,7 @@ impl<A: Allocator + Copy> TextWriter<A> {
         note: &[u8],
         float: Float64,
     ) -> bool
-        ensures { TakesScalar self.old self.new sink.old sink.new result
+        ensures { TakesScalar L.layout self.old self.new sink.old sink.new result
             name.now note.now (float_text (value_of float)) }
     {
         let text = float_to_text(float);
@@ -334,7 +352,7 @@ impl<A: Allocator + Copy> TextWriter<A> {
         decimal: Decimal,
     ) -> bool
         requires { IsDecimal decimal }
-        ensures { TakesScalar self.old self.new sink.old sink.new result
+        ensures { TakesScalar L.layout self.old self.new sink.old sink.new result
             name.now note.now (decimal_text decimal) }
     {
         let text = decimal_to_text(decimal);
@@ -352,7 +370,7 @@ impl<A: Allocator + Copy> TextWriter<A> {
         moment: Timestamp,
     ) -> bool
         requires { IsTimestamp moment }
-        ensures { TakesScalar self.old self.new sink.old sink.new result
+        ensures { TakesScalar L.layout self.old self.new sink.old sink.new result
             name.now note.now (timestamp_text moment) }
     {
         self.take_timestamp_text(sink, name, note, moment)
@@ -368,7 +386,7 @@ impl<A: Allocator + Copy> TextWriter<A> {
         moment: Timestamp,
     ) -> bool
         requires { IsTimestamp moment }
-        ensures { TakesScalar self.old self.new sink.old sink.new result
+        ensures { TakesScalar L.layout self.old self.new sink.old sink.new result
             name.now note.now (timestamp_text moment) }
     {
         let text = timestamp_to_text(moment);
@@ -388,18 +406,18 @@ impl<A: Allocator + Copy> TextWriter<A> {
         requires can_step { CanStep self.old meter.old }
         requires deep { length self.old.kinds < self.old.limits.depth }
         ensures { TakesHead self.old self.new meter.old meter.new sink.old sink.new result
-            (plain_begin (opened_in self.old) name.now note.now (opener kind))
+            (plain_begin L.layout (opened_in self.old) name.now note.now (opener kind))
             ((kind, true) ∷ with_member (opened_in self.old)) }
     {
-        if !has_room(sink, name, note, 1) {
+        if !has_room::<L, O, A>(sink, self.kinds.as_slice(), name, note, 1) {
             return false;
         }
-        let mark = before(self.kinds.as_slice(), self.empty);
+        let gap = before::<L>(self.kinds.as_slice(), self.empty);
         if !self.kinds.push_within(meter, kind) {
             return false;
         }
-        put_mark(sink, mark);
-        put_front(sink, name, note);
+        put_gap_within(sink, gap);
+        put_front::<L, O, A>(sink, name, note);
         put_mark(sink, opener(kind));
         self.empty = true;
         true
@@ -410,11 +428,13 @@ impl<A: Allocator + Copy> TextWriter<A> {
     fn take_end<O: Output>(&mut self, meter: &mut Meter<A>, sink: &mut Sink<O, A>) -> bool
         requires can_step { CanStep self.old meter.old }
         ensures { TakesHead self.old self.new meter.old meter.new sink.old sink.new result
-            (end_text (opened_in self.old)) (drop 1 (opened_in self.old)) }
+            (end_text L.layout (opened_in self.old)) (drop 1 (opened_in self.old)) }
     {
-        if sink.room() < 2 {
+        let gap = before_end::<L>(self.kinds.as_slice(), self.empty);
+        if !gap.fits(2, sink.room()) {
             return false;
         }
+        put_gap_within(sink, gap);
         put_mark(sink, closing(self.kinds.as_slice()));
         put_mark(sink, after_end(self.kinds.as_slice()));
         self.kinds.pop(meter);
@@ -437,7 +457,7 @@ impl<A: Allocator + Copy> TextWriter<A> {
         requires comes { MayCome self.old (raw_head head) }
         requires spelled { IfSome spelled (λ t. IsWrittenAs t.quoting t.text.now (raw_head head)) }
         ensures { TakesHead self.old self.new meter.old meter.new sink.old sink.new result
-            (head_text (opened_in self.old) (plain_front name.now note.now)
+            (head_text L.layout (opened_in self.old) (plain_front L.layout name.now note.now)
             (map_head user_symbol_at (raw_head head.entry)))
             (open_after (opened_in self.old) (map_head user_symbol_at (raw_head head.entry))) }
     {
@@ -479,7 +499,7 @@ impl<A: Allocator + Copy> TextWriter<A> {
         requires quoted { SaysRightly item }
         requires spelled { IsSpelled item }
         ensures { TakesHead self.old self.new meter.old meter.new sink.old sink.new result
-            (item_text (opened_in self.old) (user_item (placed_item item.entry)))
+            (item_text L.layout (opened_in self.old) (user_item (placed_item item.entry)))
             (open_after (opened_in self.old) (user_item (placed_item item.entry)).head) }
     {
         let mut front = ArrayVec::new();
@@ -503,10 +523,10 @@ fn minus(negative: bool) -> &'static [u8]
     if negative { b"-" } else { b"" }
 }
 
-impl<O: Output, A: Allocator + Copy> ValueWriter<O, A> for TextWriter<A> {
-    ghost puts = { text_puts };
+impl<L: Layout, O: Output, A: Allocator + Copy> ValueWriter<O, A> for LaidOut<L, A> {
+    ghost puts = { text_puts L.layout };
 
-    ghost adds = { text_adds };
+    ghost adds = { text_adds L.layout };
 
     ghost refusal = { text_refusal };
 
@@ -569,7 +589,7 @@ impl<O: Output, A: Allocator + Copy> ValueWriter<O, A> for TextWriter<A> {
         self.take_head(meter, sink, name.0, note.0, item.head, item.spelled)
     }
 
-    ghost grows = { text_grows };
+    ghost grows = { text_grows L.layout };
 
     ghost silent = { λ limits path item why e. absurd (Prim.cc e) };
 

@@ -16,7 +16,8 @@ use ion_meter::limits::Limits;
 use ion_meter::meter::Meter;
 use ion_meter::sink::Sink;
 use ion_meter::stream::ToWrite;
-use ion_text_out::writer::TextWriter;
+use ion_text_out::layout::{Canonical, Layout, Pretty};
+use ion_text_out::writer::LaidOut;
 use ion_value::decimal::decimal_from_text;
 use ion_value::int::int_from_text;
 use ion_value::ion_type::{IonType, Kind};
@@ -206,8 +207,9 @@ fn put_all<W: ValueWriter<O, Global>, O: Output>(
     Ok(())
 }
 
-/// Puts items to a device with this outcome, gives all memory back, and hands the device out.
-fn put_to<D: Write + Drop>(
+/// Puts items by a layout to a device with this outcome, gives all memory back, and hands the device
+/// out.
+fn put_to<L: Layout, D: Write + Drop>(
     rt: &impl Abort,
     alloc: Global,
     device: D,
@@ -218,7 +220,7 @@ fn put_to<D: Write + Drop>(
     let Ok(mut sink) = Sink::new(&mut meter, ToWrite::new(device)) else {
         panic!(rt; "no window")
     };
-    let mut writer = TextWriter::new(&meter, LIMITS);
+    let mut writer = LaidOut::<L, Global>::new(&meter, LIMITS);
     let mut outcome = put_all(rt, alloc, &mut meter, &mut sink, &mut writer, steps);
     if outcome.is_ok() {
         outcome = sink.flush();
@@ -230,9 +232,15 @@ fn put_to<D: Write + Drop>(
     device
 }
 
-/// Puts items, and compares what was written.
+/// Puts items as canonical text, and compares what was written.
 fn expect_text(rt: &impl Abort, alloc: Global, steps: &[Step<'_>], want: &[u8]) {
-    let out = put_to(rt, alloc, Vec::new(alloc), steps, Ok(()));
+    let out = put_to::<Canonical, Vec<u8>>(rt, alloc, Vec::new(alloc), steps, Ok(()));
+    assert_eq!(rt; out.as_slice(), want);
+}
+
+/// Puts items as pretty text, and compares what was written.
+fn expect_pretty(rt: &impl Abort, alloc: Global, steps: &[Step<'_>], want: &[u8]) {
+    let out = put_to::<Pretty, Vec<u8>>(rt, alloc, Vec::new(alloc), steps, Ok(()));
     assert_eq!(rt; out.as_slice(), want);
 }
 
@@ -258,5 +266,12 @@ fn puts_rows(rt: HostRuntime) {
         for (steps, text) in rows {
             expect_text(&rt, rt.alloc(), steps, text);
         }
+    }
+}
+
+#[test]
+fn puts_pretty_rows(rt: HostRuntime) {
+    for (steps, text) in containers::PRETTY {
+        expect_pretty(&rt, rt.alloc(), steps, text);
     }
 }

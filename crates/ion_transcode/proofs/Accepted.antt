@@ -17,8 +17,9 @@ use Rattle.ion_binary.specs.Refusals.{NoneIsRefusedWithin}
 use Rattle.ion_binary.specs.Writing.{after_all, at_begin}
 use Rattle.ion_binary.specs.WritingLaws.{ItemsPutTheForm}
 use Rattle.ion_text_in.specs.Laws as text_laws
-use Rattle.ion_text_out.specs.Laws.{TextIsThatOfItems}
-use Rattle.ion_text_out.specs.Text.{items_text}
+use Rattle.ion_text_out.specs.Laws.{EachTextIsThatOfItems}
+use Rattle.ion_text_out.specs.Layout.{canonical, pretty}
+use Rattle.ion_text_out.specs.Text.{items_text_by}
 use Rattle.ion_transcode.specs.declared.to.Form.{Form}
 use Rattle.ion_transcode.specs.declared.to.Form.TheVariants as form
 use Rattle.ion_transcode.specs.declared.to.Target.{Target}
@@ -65,11 +66,12 @@ output-free puts refusal path (item ∷ items) free =
 some-same : (us vs : List (Top UserSymbol ℕ)) → Some us ≡ Some vs → us ≡ vs
 some-same us vs e = cc e
 
-module _ (streams : StreamsAreRead) (users_read : UsersAreRead) (taken_in : WhatIsResolvedIsAccepted) (within : NoneIsRefusedWithin) (texts : TextIsThatOfItems) (put : ItemsPutTheForm) where
+module _ (streams : StreamsAreRead) (users_read : UsersAreRead) (taken_in : WhatIsResolvedIsAccepted) (within : NoneIsRefusedWithin) (texts : EachTextIsThatOfItems) (put : ItemsPutTheForm) where
   -- the items of whole values have their output, also item by item
   whole-output : (t : Target) (limits : Limits) (mine : List PlacedItem) (us : List (Top UserSymbol ℕ)) → user_items mine ≡ top_items us
       → (by_item t limits).open_output mine ≡ (outputs_of t limits).whole_output us
-  whole-output target.Text limits mine us e = ap (λ (is : List (Item UserSymbol ℕ)). items_text [] is) e ∙ texts us
+  whole-output target.Text limits mine us e = ap (λ (is : List (Item UserSymbol ℕ)). items_text_by canonical [] is) e ∙ (texts canonical).0 us
+  whole-output target.Pretty limits mine us e = ap (λ (is : List (Item UserSymbol ℕ)). items_text_by pretty [] is) e ∙ (texts pretty).0 us
   whole-output target.Binary limits mine us e = ap (λ (is : List (Item UserSymbol ℕ)). (after_all limits.symbols at_begin is).octets) e ∙ put limits.symbols us
   whole-output target.Nothing limits mine us e = refl
 
@@ -77,6 +79,7 @@ module _ (streams : StreamsAreRead) (users_read : UsersAreRead) (taken_in : What
   none-refused : (t : Target) (limits : Limits) (mine : List PlacedItem) (us : List (Top UserSymbol ℕ)) → user_items mine ≡ top_items us → AreTaken t limits us
       → Free (by_item t limits).refusal [] mine
   none-refused target.Text limits mine us e taken before rest item is = refl
+  none-refused target.Pretty limits mine us e taken before rest item is = refl
   none-refused target.Binary limits mine us e taken before rest item is = (within limits mine us e).1 taken before rest item is
   none-refused target.Nothing limits mine us e taken before rest item is = refl
 

@@ -1,19 +1,21 @@
--- What may stand after a value in canonical text, and that no two colons come there.
-use Rattle.std.proofs.Common.{◌≡◌, ℕ, suc, Bool, true, false, not, ◌&&◌, ◌==◌, if◌then◌else◌, List, [], ◌∷◌, codes, Option, None, Some, Result, Ok, Err, refl, ap, sym, ◌∙◌, subst, arith}
-use Rattle.std.proofs.lemmas.Bool.{false≢true}
+-- White space, what may stand after a value in text by a layout, and that no two colons come there.
+use Rattle.std.proofs.Common.{◌≡◌, ℕ, suc, Bool, true, false, not, ◌&&◌, ◌||◌, ◌==◌, if◌then◌else◌, List, [], ◌∷◌, ◌++◌, codes, Option, None, Some, Result, Ok, Err, refl, ap, sym, ◌∙◌, subst, arith}
+use Rattle.std.proofs.lemmas.Bool.{false≢true, and_parts, eqb-true}
+use Rattle.std.proofs.lemmas.Bool.Decides.{nat_tests}
 use lib.Ieee.{Float, nan, inf, fin}
 use Rattle.ion_meter.specs.declared.fault.Reason.{Reason}
 use Rattle.ion_meter.specs.declared.fault.Reason.TheVariants as reason
 use Rattle.ion_meter.specs.Sources.{Cursor, skip}
 use Rattle.ion_value.specs.declared.ion_type.IonType.{IonType}
 use Rattle.ion_value.specs.declared.ion_type.IonType.TheVariants as type
+use Rattle.ion_value.specs.Digits.{all_are}
 use Rattle.ion_value.specs.FloatText.{float_of_text}
 use Rattle.ion_value.specs.Scalar.{scalar_of_run}
-use Rattle.ion_value.specs.Name.{Keyword, a_null, a_bool, a_nan, keyword, is_id, id_of}
+use Rattle.ion_value.specs.Name.{Keyword, a_null, a_bool, a_nan, is_identifier_byte, is_one_of, keyword, is_id, id_of}
 use Rattle.ion_value.specs.Parts.{part, ◌>>=◌}
 use Rattle.ion_value.specs.Value as value
 use Rattle.ion_value.specs.Value.{Scalar, SymbolAt}
-use Rattle.ion_text_in.specs.Blanks.{no_blank, is_white, blank_at, blanks, blanks_at}
+use Rattle.ion_text_in.specs.Blanks.{white, no_blank, is_white, begins_comment, blank_at, blanks, blanks_at}
 use Rattle.ion_text_in.specs.Beginnings.{BeginsNot, EndsIdentifier, EndsNumber, NumbersEnd, IdentifiersEnd, WhatBegins, TokenBegins}
 use Rattle.ion_text_in.specs.Grammar.{NoColons}
 use Rattle.ion_text_in.specs.Lob.{lob_at}
@@ -21,6 +23,33 @@ use Rattle.ion_text_in.specs.Meaning.{at, EndsNull, EndsFloat}
 use Rattle.ion_text_in.specs.Quoted.{symbol_quote, short_quote, long_quote, text_at}
 use Rattle.ion_text_in.specs.Token as tokens
 use Rattle.ion_text_in.specs.Token.{First, a_run, a_word, a_quoted, a_short, a_long, a_lob, an_operator, an_infinity, a_begin, an_end, a_comma, a_colon, two_colons, no_token, first_at, Token, plain, float, name, text, operator, found_float, begin, end, comma, colon, colons, bytes_of, in_run, in_operator, word_of, word_token, run_token, scalar_token, null_token, by_keyword, token_of, token_at, next_token}
+use Rattle.ion_text_out.specs.Layout.{AreMarked, AreWhite}
+
+-- ---- white space
+
+pub white-first : (b : ℕ) (gap : List ℕ) → AreWhite (b ∷ gap) → is_white b ≡ true
+white-first b gap w = (and_parts (is_white b) (all_are is_white gap) w).0
+
+pub white-others : (b : ℕ) (gap : List ℕ) → AreWhite (b ∷ gap) → AreWhite gap
+white-others b gap w = (and_parts (is_white b) (all_are is_white gap) w).1
+
+-- it is no byte that is not white
+pub white-not : (b c : ℕ) → is_white b ≡ true → is_white c ≡ false → (b == c) ≡ false
+white-not b c w dark = by (b == c) refl
+  where
+    by : (same : Bool) → (b == c) ≡ same → same ≡ false
+    by false e = refl
+    by true e = absurd (false≢true (sym dark ∙ subst (λ x. is_white x ≡ true) (eqb-true b c e) w))
+
+-- a mark, and the white space after it
+pub record Marked (mark : ℕ) (bytes : List ℕ) : Type 0 where
+  pub gap : List ℕ
+  pub is : bytes ≡ mark ∷ gap
+  pub is_gap : AreWhite gap
+
+pub marked : (mark : ℕ) (bytes : List ℕ) → AreMarked mark bytes → Marked mark bytes
+marked mark [] are = absurd are
+marked mark (b ∷ bytes) are = record { gap = bytes; is = ap (λ c. c ∷ bytes) are.0; is_gap = are.1 }
 
 -- ---- what stands after a value
 
@@ -33,37 +62,51 @@ abbrev pub starts : List ℕ → Bool
 starts [] = true
 starts (b ∷ bytes) = is_start b
 
--- what separates a value from the next one, or ends its container, or the line
+-- a comma, a bracket that ends the container, or white space before what begins no other blank
 pub data After : List ℕ → Type 0 where
   at_comma : {bytes : List ℕ} → After (44 ∷ bytes)
   at_list_end : {bytes : List ℕ} → After (93 ∷ bytes)
   at_sexp_end : {bytes : List ℕ} → After (41 ∷ bytes)
   at_struct_end : {bytes : List ℕ} → After (125 ∷ bytes)
-  at_space : {bytes : List ℕ} → starts bytes ≡ true → After (32 ∷ bytes)
-  at_line : {bytes : List ℕ} → starts bytes ≡ true → After (10 ∷ bytes)
+  at_white : (b : ℕ) (gap bytes : List ℕ) → AreWhite (b ∷ gap) → starts bytes ≡ true → After (b ∷ (gap ++ bytes))
 
 -- and after a symbol a colon too
 pub data AfterSymbol : List ℕ → Type 0 where
   of_value : {bytes : List ℕ} → After bytes → AfterSymbol bytes
   at_colon : {bytes : List ℕ} → AfterSymbol (58 ∷ bytes)
 
+-- white space or nothing, before what may stand there itself
+pub after-gap : (gap : List ℕ) → AreWhite gap → (bytes : List ℕ) → starts bytes ≡ true → (gap ≡ [] → After bytes)
+    → After (gap ++ bytes)
+after-gap [] w bytes s after = after refl
+after-gap (b ∷ gap) w bytes s after = After.at_white b gap bytes w s
+
 -- ---- it ends each token
+
+white-ends : (p w c : Bool) → w ≡ true → not (p || w || c) ≡ false
+white-ends true w c e = refl
+white-ends false true c e = refl
+white-ends false false c e = absurd (false≢true e)
+
+white-run : (b : ℕ) (bytes : List ℕ) → is_white b ≡ true → in_run (b ∷ bytes) ≡ false
+white-run b bytes w = white-ends (is_one_of (codes "{}[](),\"'") b) (is_white b) (begins_comment (b ∷ bytes)) w
+
+white-word : (b : ℕ) → is_white b ≡ true → is_identifier_byte b ≡ false
+white-word b w = grind (arith, nat_tests)
 
 pub ends-number : NumbersEnd → (bytes : List ℕ) → After bytes → EndsNumber bytes
 ends-number law _ After.at_comma = (law _).0 refl
 ends-number law _ After.at_list_end = (law _).0 refl
 ends-number law _ After.at_sexp_end = (law _).0 refl
 ends-number law _ After.at_struct_end = (law _).0 refl
-ends-number law _ (After.at_space s) = (law _).0 refl
-ends-number law _ (After.at_line s) = (law _).0 refl
+ends-number law _ (After.at_white b gap bytes w s) = (law _).0 (white-run b (gap ++ bytes) (white-first b gap w))
 
 pub ends-identifier : IdentifiersEnd → (bytes : List ℕ) → AfterSymbol bytes → EndsIdentifier bytes
 ends-identifier law _ (AfterSymbol.of_value After.at_comma) = (law _).0 refl
 ends-identifier law _ (AfterSymbol.of_value After.at_list_end) = (law _).0 refl
 ends-identifier law _ (AfterSymbol.of_value After.at_sexp_end) = (law _).0 refl
 ends-identifier law _ (AfterSymbol.of_value After.at_struct_end) = (law _).0 refl
-ends-identifier law _ (AfterSymbol.of_value (After.at_space s)) = (law _).0 refl
-ends-identifier law _ (AfterSymbol.of_value (After.at_line s)) = (law _).0 refl
+ends-identifier law _ (AfterSymbol.of_value (After.at_white b gap bytes w s)) = (law _).0 (white-word b (white-first b gap w))
 ends-identifier law _ AfterSymbol.at_colon = (law _).0 refl
 
 other-first : (b c : ℕ) (bytes : List ℕ) → (b == c) ≡ false → BeginsNot (c ∷ []) (b ∷ bytes)
@@ -77,8 +120,8 @@ no-quote _ (AfterSymbol.of_value (After.at_comma {bytes})) = other-first 44 39 b
 no-quote _ (AfterSymbol.of_value (After.at_list_end {bytes})) = other-first 93 39 bytes refl
 no-quote _ (AfterSymbol.of_value (After.at_sexp_end {bytes})) = other-first 41 39 bytes refl
 no-quote _ (AfterSymbol.of_value (After.at_struct_end {bytes})) = other-first 125 39 bytes refl
-no-quote _ (AfterSymbol.of_value (After.at_space {bytes} s)) = other-first 32 39 bytes refl
-no-quote _ (AfterSymbol.of_value (After.at_line {bytes} s)) = other-first 10 39 bytes refl
+no-quote _ (AfterSymbol.of_value (After.at_white b gap bytes w s)) =
+    other-first b 39 (gap ++ bytes) (white-not b 39 (white-first b gap w) refl)
 no-quote _ (AfterSymbol.at_colon {bytes}) = other-first 58 39 bytes refl
 
 no-point : (bytes : List ℕ) → After bytes → BeginsNot (codes ".") bytes
@@ -86,8 +129,7 @@ no-point _ (After.at_comma {bytes}) = other-first 44 46 bytes refl
 no-point _ (After.at_list_end {bytes}) = other-first 93 46 bytes refl
 no-point _ (After.at_sexp_end {bytes}) = other-first 41 46 bytes refl
 no-point _ (After.at_struct_end {bytes}) = other-first 125 46 bytes refl
-no-point _ (After.at_space {bytes} s) = other-first 32 46 bytes refl
-no-point _ (After.at_line {bytes} s) = other-first 10 46 bytes refl
+no-point _ (After.at_white b gap bytes w s) = other-first b 46 (gap ++ bytes) (white-not b 46 (white-first b gap w) refl)
 
 pub ends-null : IdentifiersEnd → (t : IonType) (bytes : List ℕ) → After bytes → EndsNull t bytes
 ends-null law type.Null bytes b = (ends-identifier law bytes (AfterSymbol.of_value b), no-point bytes b)
@@ -123,14 +165,24 @@ unfolding blanks_at
 no-blanks p [] e = refl
 no-blanks p (b ∷ bytes) e = rw (blanks_at, no-blank b bytes e) refl
 
--- one space or line's end before it
-pub one-space : (p : ℕ) (bytes : List ℕ) → starts bytes ≡ true → blanks (at p (32 ∷ bytes)) ≡ Ok (at (suc p) bytes)
-unfolding blanks_at
-one-space p bytes e = no-blanks (suc p) bytes e
+white-blank : (b : ℕ) (bytes : List ℕ) → is_white b ≡ true → blank_at b bytes ≡ white
+white-blank b bytes w = rw w refl
 
-pub one-line : (p : ℕ) (bytes : List ℕ) → starts bytes ≡ true → blanks (at p (10 ∷ bytes)) ≡ Ok (at (suc p) bytes)
+one-white : (b p : ℕ) (bytes : List ℕ) → is_white b ≡ true → blanks (at p (b ∷ bytes)) ≡ blanks (at (suc p) bytes)
 unfolding blanks_at
-one-line p bytes e = no-blanks (suc p) bytes e
+one-white b p bytes w = rw (blanks_at, white-blank b bytes w) refl
+
+-- bytes that are all that is left after blanks
+pub record Blank (c : Cursor) (bytes : List ℕ) : Type 0 where
+  pub place : ℕ
+  pub blank : blanks c ≡ Ok (at place bytes)
+
+pub gap-blank : (gap : List ℕ) → AreWhite gap → (p : ℕ) (bytes : List ℕ) → starts bytes ≡ true
+    → Blank (at p (gap ++ bytes)) bytes
+gap-blank [] w p bytes s = record { place = p; blank = no-blanks p bytes s }
+gap-blank (b ∷ gap) w p bytes s =
+    let more = gap-blank gap (white-others b gap w) (suc p) bytes s in
+    record { place = more.place; blank = one-white b p (gap ++ bytes) (white-first b gap w) ∙ more.blank }
 
 -- ---- no two colons come
 
@@ -238,7 +290,6 @@ no-colons law sexp p _ (After.at_sexp_end {bytes}) =
     no-colons-at law sexp (at p (41 ∷ bytes)) p (41 ∷ bytes) (no-blanks p (41 ∷ bytes) refl) refl
 no-colons law sexp p _ (After.at_struct_end {bytes}) =
     no-colons-at law sexp (at p (125 ∷ bytes)) p (125 ∷ bytes) (no-blanks p (125 ∷ bytes) refl) refl
-no-colons law sexp p _ (After.at_space {bytes} s) =
-    no-colons-at law sexp (at p (32 ∷ bytes)) (suc p) bytes (one-space p bytes s) s
-no-colons law sexp p _ (After.at_line {bytes} s) =
-    no-colons-at law sexp (at p (10 ∷ bytes)) (suc p) bytes (one-line p bytes s) s
+no-colons law sexp p _ (After.at_white b gap bytes w s) =
+    let blank = gap-blank (b ∷ gap) w p bytes s in
+    no-colons-at law sexp (at p (b ∷ (gap ++ bytes))) blank.place bytes blank.blank s

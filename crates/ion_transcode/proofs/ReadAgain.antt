@@ -12,18 +12,22 @@ use Rattle.ion_binary.specs.Laws as binary_laws
 use Rattle.ion_binary.specs.Spelling.{TheFormIsRead, WhatIsWithinIsShort}
 use Rattle.ion_text_in.specs.Grammar as text_grammar
 use Rattle.ion_text_in.specs.Laws as text_laws
-use Rattle.ion_text_out.specs.Text.{text}
+use Rattle.ion_text_out.specs.Laws.{AreLayouts}
+use Rattle.ion_text_out.specs.Layout.{Layout, IsLayout, canonical}
+use Rattle.ion_text_out.specs.Text.{text, text_by}
 use Rattle.ion_transcode.specs.declared.to.Form.{Form}
 use Rattle.ion_transcode.specs.declared.to.Form.TheVariants as form
+use Rattle.ion_transcode.specs.declared.to.Target.{Target}
 use Rattle.ion_transcode.specs.declared.to.Target.TheVariants as target
 use Rattle.ion_transcode.specs.declared.to.To.{To}
 use Rattle.ion_transcode.specs.declared.to.To.TheVariants as to
 use Rattle.ion_transcode.specs.Acceptance.{WhatIsReadIsAccepted, WhatIsAcceptedIsRead}
 use Rattle.ion_transcode.specs.Forms.{encoding_of, form_of}
-use Rattle.ion_transcode.specs.Outputs.{resolved}
+use Rattle.ion_transcode.specs.Laws.{OneSpelling}
+use Rattle.ion_transcode.specs.Outputs.{outputs_of, resolved}
 use Rattle.ion_transcode.specs.Verdict.{HasVerdictWith}
-use Rattle.ion_transcode.specs.RoundTrip.{ValuesOfStreams, TextIsRead, RoundTrip, ShowOnce, ThereAndBack}
-use Rattle.ion_transcode.proofs.TextWithoutPlaces.{same-text}
+use Rattle.ion_transcode.specs.RoundTrip.{ValuesOfStreams, EachTextIsRead, TextIsRead, LayoutsAreAlike, RoundTrip, IsTextBy, LayoutsAreShownAlike, ShowOnce, ThereAndBack}
+use Rattle.ion_transcode.proofs.TextWithoutPlaces.{same-text-by}
 
 -- ---- values of streams
 
@@ -39,7 +43,7 @@ round-trip values is_text is_binary profile f catalog other limit bytes tops us 
     let are : AreUsers us = values profile f catalog bytes tops us small texts stream users in
     (is_text other us are, λ short. is_binary other limit us are.0 short)
 
--- ---- what is shown of a stream whose user values are known
+-- ---- what is read of them again
 
 length-unplaced : (us : List (Top UserSymbol ℕ)) → length (map unplaced_top us) ≡ length us
 length-unplaced [] = refl
@@ -51,41 +55,89 @@ same-length us vs e = sym (length-unplaced us) ∙ (ap length e ∙ length-unpla
 pub some-same : (us vs : List (Top UserSymbol ℕ)) → ◌≡◌ {A = Option (List (Top UserSymbol ℕ))} (Some us) (Some vs) → us ≡ vs
 some-same us vs e = cc e
 
+pub layouts-are-alike : EachTextIsRead → text_laws.OneStream → LayoutsAreAlike
+layouts-are-alike each one layout other is catalog us again tops users stream are =
+    let r = each layout is catalog us users in
+    let spelled : r.raw ≡ tops = one (text_by layout us) r.raw tops r.stream stream in
+    let found : r.users ≡ again = some-same r.users again (sym r.users_are ∙ (ap (user_tops catalog system) spelled ∙ are)) in
+    let same : map unplaced_top again ≡ map unplaced_top us = ap (map unplaced_top) (sym found) ∙ r.same in
+    (same-text-by other again us same, same-length again us same)
+
+-- ---- what is shown of a stream whose user values are known
+
 -- the same bytes are one stream at most
 abbrev IsOne : Profile → Form → List ℕ → Type 0
 IsOne profile f bytes = (a b : List (Top SymbolAt ℕ)) → (encoding_of profile f).Stream bytes a → (encoding_of profile f).Stream bytes b → a ≡ b
 
+pub text-output : {layout : Layout} {t : Target} → IsTextBy layout t → (limits : Limits) (us : List (Top UserSymbol ℕ))
+    → (outputs_of t limits).whole_output us ≡ text_by layout us
+text-output IsTextBy.canonical_text limits us = refl
+text-output IsTextBy.pretty_text limits us = refl
+
 -- where these are the same as others but for their places, the text of the others is shown
-shows-text : WhatIsAcceptedIsRead → (profile : Profile) (f : Form) (catalog : List Shared) (limits : Limits) (asked : To) (bytes out : List ℕ) (n : ℕ)
-    (raw : List (Top SymbolAt ℕ)) (users us : List (Top UserSymbol ℕ)) → IsOne profile f bytes → form_of bytes ≡ f
-    → (encoding_of profile f).Stream bytes raw → user_tops catalog system raw ≡ Some users → map unplaced_top users ≡ map unplaced_top us
-    → resolved (form_of bytes) asked ≡ Some target.Text → HasVerdictWith profile catalog limits asked bytes (Accepted n) out
-    → (out ≡ text us) × (n ≡ length us)
-shows-text is_read profile f catalog limits asked bytes out n raw users us one is stream are same to_is verdict =
-    let a = is_read profile catalog limits asked bytes target.Text n out to_is verdict in
+shows-text : WhatIsAcceptedIsRead → {layout : Layout} {t : Target} → IsTextBy layout t → (profile : Profile) (f : Form) (catalog : List Shared)
+    (limits : Limits) (asked : To) (bytes out : List ℕ) (n : ℕ) (raw : List (Top SymbolAt ℕ)) (users us : List (Top UserSymbol ℕ))
+    → IsOne profile f bytes → form_of bytes ≡ f → (encoding_of profile f).Stream bytes raw → user_tops catalog system raw ≡ Some users
+    → map unplaced_top users ≡ map unplaced_top us → resolved (form_of bytes) asked ≡ Some t
+    → HasVerdictWith profile catalog limits asked bytes (Accepted n) out → (out ≡ text_by layout us) × (n ≡ length us)
+shows-text is_read {layout} {t} by profile f catalog limits asked bytes out n raw users us one is stream are same to_is verdict =
+    let a = is_read profile catalog limits asked bytes t n out to_is verdict in
     let spelled : (encoding_of profile f).Stream bytes a.tops = subst (λ (g : Form). (encoding_of profile g).Stream bytes a.tops) is a.stream in
     let tops : a.tops ≡ raw = one a.tops raw spelled stream in
     let found : a.us ≡ users = some-same a.us users (sym a.users_are ∙ (ap (user_tops catalog system) tops ∙ are)) in
     let all : map unplaced_top a.us ≡ map unplaced_top us = ap (map unplaced_top) found ∙ same in
-    (a.output ∙ same-text a.us us all, a.count ∙ same-length a.us us all)
+    (a.output ∙ (text-output by limits a.us ∙ same-text-by layout a.us us all), a.count ∙ same-length a.us us all)
 
 -- ---- runs
 
-pub show-once : WhatIsAcceptedIsRead → ValuesOfStreams → TextIsRead → text_laws.OneStream → ShowOnce
-show-once is_read values is_text one profile next catalog other limits wide asked bytes shown again n m small texts to_is first second =
-    let a = is_read profile catalog limits asked bytes target.Text n shown to_is first in
-    let r = is_text other a.us (values profile (form_of bytes) catalog bytes a.tops a.us small texts a.stream a.users_are) in
-    let moved = subst (λ (xs : List ℕ). HasVerdictWith next other wide to.Text xs (Accepted m) again) a.output second in
-    let t : List ℕ = text a.us in
-    let to_text : resolved (form_of t) to.Text ≡ Some target.Text = ap (λ (g : Form). resolved g to.Text) r.form in
-    let b = shows-text is_read next form.Text other wide to.Text t again m r.raw r.users a.us (one t) r.form r.stream r.users_are r.same
-    to_text moved in
-    (b.0 ∙ sym a.output, b.1 ∙ sym a.count)
+pub text-laid : {layout : Layout} {t : Target} → AreLayouts → IsTextBy layout t → IsLayout layout
+text-laid are IsTextBy.canonical_text = are.0
+text-laid are IsTextBy.pretty_text = are.1
+
+pub layouts-are-shown-alike : WhatIsAcceptedIsRead → ValuesOfStreams → EachTextIsRead → AreLayouts → OneSpelling → text_laws.OneStream
+    → LayoutsAreShownAlike
+layouts-are-shown-alike is_read values each laid one one_text profile next catalog known limits wide asked back bytes shown again n m first second
+    layout other by by_other small texts to_is verdict to_text verdict_again =
+    let f : Form = form_of bytes in
+    let a = is_read profile catalog limits asked bytes first n shown to_is verdict in
+    let r = each layout (text-laid laid by) known a.us (values profile f catalog bytes a.tops a.us small texts a.stream a.users_are) in
+    let t : List ℕ = text_by layout a.us in
+    let output : shown ≡ t = a.output ∙ text-output by limits a.us in
+    let moved = subst (λ (xs : List ℕ). HasVerdictWith next known wide back xs (Accepted m) again) output verdict_again in
+    let moved_to = subst (λ (xs : List ℕ). resolved (form_of xs) back ≡ Some second) output to_text in
+    let b = shows-text is_read by_other next form.Text known wide back t again m r.raw r.users a.us (one_text t) r.form r.stream r.users_are
+    r.same moved_to moved in
+    let direct = λ (u : Target) (asks : To) (most : Limits) (out : List ℕ) (k : ℕ) (is : IsTextBy other u) (to : resolved f asks ≡ Some u)
+    (v : HasVerdictWith profile catalog most asks bytes (Accepted k) out).
+    shows-text is_read is profile f catalog most asks bytes out k a.tops a.us a.us ((one profile f).stream bytes) refl a.stream a.users_are
+    refl to v in
+    record {
+      tops = a.tops;
+      us = a.us;
+      stream = a.stream;
+      users_are = a.users_are;
+      output = output;
+      output_again = b.0;
+      count = b.1 ∙ sym a.count;
+      directly = λ u asks most out k is to v.
+          ((direct u asks most out k is to v).0 ∙ sym b.0, (direct u asks most out k is to v).1 ∙ sym a.count);
+    }
+
+to-text : (f : Form) → resolved f to.Text ≡ Some target.Text
+to-text form.Binary = refl
+to-text form.Text = refl
+
+pub show-once : LayoutsAreShownAlike → ShowOnce
+show-once alike profile next catalog other limits wide asked bytes shown again n m small texts to_is first second =
+    let r = alike profile next catalog other limits wide asked to.Text bytes shown again n m target.Text target.Text canonical canonical
+    IsTextBy.canonical_text IsTextBy.canonical_text small texts to_is first (to-text (form_of shown)) second in
+    (r.output_again ∙ sym r.output, r.count)
 
 -- binary is written of text alone
 pub of-text : (f : Form) (asked : To) → resolved f asked ≡ Some target.Binary → f ≡ form.Text
 of-text form.Text asked e = refl
 of-text form.Binary to.Text e = absurd (cc e)
+of-text form.Binary to.Pretty e = absurd (cc e)
 of-text form.Binary to.Binary e = absurd (cc e)
 of-text form.Binary to.Nothing e = absurd (cc e)
 of-text form.Binary to.Other e = absurd (cc e)
@@ -104,12 +156,12 @@ there-and-back is_read accepted values raw is_binary short one one_text profile 
     let of_form : form_of octets ≡ form.Binary = ap form_of r.stream.begins.1 in
     let moved = subst (λ (xs : List ℕ). HasVerdictWith next other wide back_as xs (Accepted m) back) w.output second in
     let moved_to = subst (λ (xs : List ℕ). resolved (form_of xs) back_as ≡ Some target.Text) w.output to_text in
-    let b = shows-text is_read next form.Binary other wide back_as octets back m r.raw r.users us (one octets) of_form r.stream r.users_are
+    let b = shows-text is_read IsTextBy.canonical_text next form.Binary other wide back_as octets back m r.raw r.users us (one octets) of_form r.stream r.users_are
     r.same moved_to moved in
     let as_text : resolved (form_of bytes) to.Text ≡ Some target.Text = ap (λ (g : Form). resolved g to.Text) f_is in
     let shown = accepted profile catalog limits to.Text bytes target.Text w.tops us as_text w.read w.resolved_are w.users_are tt in
     let same = λ (any : Profile) (most : Limits) (out : List ℕ) (k : ℕ) (v : HasVerdictWith any catalog most to.Text bytes (Accepted k) out).
-    shows-text is_read any form.Text catalog most to.Text bytes out k w.tops us us (one_text bytes) f_is stream w.users_are refl as_text v in
+    shows-text is_read IsTextBy.canonical_text any form.Text catalog most to.Text bytes out k w.tops us us (one_text bytes) f_is stream w.users_are refl as_text v in
     record {
       tops = w.tops;
       us = us;

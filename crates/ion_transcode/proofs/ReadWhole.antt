@@ -93,6 +93,7 @@ module _ (binary_sound : BinaryIsSound) (text_sound : TextIsSound) (law : WhatIs
   -- binary is written of text alone
   no-binary : (to : To) → resolved form.Binary to ≡ Some target.Binary → ⊥
   no-binary to.Text e = absurd (cc e)
+  no-binary to.Pretty e = absurd (cc e)
   no-binary to.Binary e = absurd (cc e)
   no-binary to.Nothing e = absurd (cc e)
   no-binary to.Other e = absurd (cc e)
@@ -101,6 +102,7 @@ module _ (binary_sound : BinaryIsSound) (text_sound : TextIsSound) (law : WhatIs
       → HasVerdictFrom (encoding_of profile f) (outputs_of t limits) catalog limits bytes (Accepted n) out
       → (tops : List (Top SymbolAt ℕ)) (us : List (Top UserSymbol ℕ)) → (encoding_of profile f).Stream bytes tops → user_tops catalog system tops ≡ Some us → AreTaken t limits us
   taken-as f to target.Text bytes n out to_is v tops us stream users_are = tt
+  taken-as f to target.Pretty bytes n out to_is v tops us stream users_are = tt
   taken-as form.Binary to target.Binary bytes n out to_is v tops us stream users_are = absurd (no-binary to to_is)
   taken-as form.Text to target.Binary bytes n out to_is v tops us stream users_are =
       within text_sound along trees profile catalog limits bytes users_read none one (Accepted n) out n refl v tops us stream users_are

@@ -1,5 +1,5 @@
--- The canonical text of values is a stream of text of which they are the user values, and limits under which they fit allow it.
-use Rattle.std.proofs.Common.{◌≡◌, ℕ, suc, ◌≤◌, Bool, true, false, nat_eq, if◌then◌else◌, List, [], ◌∷◌, ◌++◌, map, codes, Option, None, Some, option_map, Ok, refl, ap, ap₂, sym, ◌∙◌, subst, append_assoc, append-nil, arith}
+-- The text of values by a layout is a stream of text of which they are the user values, and limits under which they fit allow it.
+use Rattle.std.proofs.Common.{◌≡◌, ℕ, suc, ◌≤◌, Bool, true, false, nat_eq, if◌then◌else◌, List, [], ◌∷◌, ◌++◌, map, codes, Option, None, Some, option_map, refl, ap, ap₂, sym, ◌∙◌, subst, append_assoc, append-nil, arith}
 use Rattle.std.specs.Bool.{⊤}
 use Rattle.std.specs.List.{AllByRecursion}
 use Rattle.std.proofs.lemmas.Bool.Decides.{nat_tests}
@@ -19,20 +19,19 @@ use Rattle.ion_symbols.specs.Table.{Shared, Table, system, text_at, word_of}
 use Rattle.ion_symbols.specs.Tree.{declares_table, user_at, user_tops}
 use Rattle.ion_symbols.specs.Users.{is_declaration}
 use Rattle.ion_symbols.specs.UserValues.{is_declaring, AreUsers}
-use Rattle.ion_text_in.specs.Blanks.{blanks}
 use Rattle.ion_text_in.specs.Grammar.{Tops, Stream, start_of}
 use Rattle.ion_text_in.specs.Laws.{StreamsWithinAreRead}
 use Rattle.ion_text_in.specs.Meaning.{at}
 use Rattle.ion_text_in.specs.Positions.{first_place}
 use Rattle.ion_text_in.specs.Within.{TopsWithin}
-use Rattle.ion_text_out.specs.Text.{value_text, text}
+use Rattle.ion_text_out.specs.Layout.{Layout, IsLayout, AreWhite, canonical}
+use Rattle.ion_text_out.specs.Text.{value_text_by, text_by}
 use Rattle.ion_transcode.specs.declared.to.Form.TheVariants as form
 use Rattle.ion_transcode.specs.Forms.{form_of, form_by}
 use Rattle.ion_transcode.specs.Depth.{IsNoDeeper}
-use Rattle.ion_transcode.specs.RoundTrip.{TextIsRead}
-use Rattle.ion_transcode.specs.ShownAgain.{FitsText, TextIsReadWithin}
-use Rattle.ion_transcode.proofs.AfterValues.{is_start, starts, After, no-blanks, one-line, one-space}
-use Rattle.ion_transcode.proofs.TokensInText.{Gap, no_gap, a_line}
+use Rattle.ion_transcode.specs.RoundTrip.{EachTextIsRead, TextIsRead}
+use Rattle.ion_transcode.specs.ShownAgain.{FitsText, EachTextIsReadWithin, TextIsReadWithin}
+use Rattle.ion_transcode.proofs.AfterValues.{is_start, starts, After, gap-blank}
 use Rattle.ion_transcode.proofs.SymbolTokens.{TextLaws}
 use Rattle.ion_transcode.proofs.Utf8Bytes.{all-left, all-right}
 use Rattle.ion_transcode.proofs.ValuesAreSpelled.{annotations_text, seen, seen_members, unplaced, unplaced_members, value-read, top-starts, same_member, id-map}
@@ -89,7 +88,7 @@ record Sofar (catalog : List Shared) (start : Cursor) (done : List (Top UserSymb
   raw : List (Top SymbolAt ℕ)
   users : List (Top UserSymbol ℕ)
   gap : List ℕ
-  is_gap : Gap gap
+  is_gap : AreWhite gap
   place : ℕ
   spells : Tops start raw (at place (gap ++ rest))
   leads : (more : List (Top SymbolAt ℕ))
@@ -103,13 +102,17 @@ record Sofar (catalog : List Shared) (start : Cursor) (done : List (Top UserSymb
 line-join : (a b rest : List ℕ) → (a ++ (b ++ codes "\n")) ++ rest ≡ a ++ (b ++ (10 ∷ rest))
 line-join a b rest = append_assoc a (b ++ codes "\n") rest ∙ ap (λ (xs : List ℕ). a ++ xs) (append_assoc b (codes "\n") rest)
 
-tops-start : TextLaws → (tops : List (Top UserSymbol ℕ)) → AreUsers tops → starts (text tops) ≡ true
-tops-start laws [] users = refl
-tops-start laws (version place ∷ ts) users = absurd users.0.0
-tops-start laws (tree first annotations place x ∷ ts) users =
-    let line : After (10 ∷ text ts) = After.at_line (tops-start laws ts (users.0.1, users.1.1)) in
-    subst (λ (xs : List ℕ). starts xs ≡ true) (sym (line-join (annotations_text annotations) (value_text x) (text ts)))
-    (top-starts laws annotations x users.0.0.1.0 users.0.0.0 users.1.0 (10 ∷ text ts) line)
+line-after : (rest : List ℕ) → starts rest ≡ true → After (10 ∷ rest)
+line-after rest s = After.at_white 10 [] rest refl s
+
+tops-start : TextLaws → (layout : Layout) (tops : List (Top UserSymbol ℕ)) → AreUsers tops → starts (text_by layout tops) ≡ true
+tops-start laws layout [] users = refl
+tops-start laws layout (version place ∷ ts) users = absurd users.0.0
+tops-start laws layout (tree first annotations place x ∷ ts) users =
+    let more : List ℕ = text_by layout ts in
+    let line = line-after more (tops-start laws layout ts (users.0.1, users.1.1)) in
+    subst (λ (xs : List ℕ). starts xs ≡ true) (sym (line-join (annotations_text annotations) (value_text_by layout x) more))
+    (top-starts laws layout annotations x users.0.0.1.0 users.0.0.0 users.1.0 (10 ∷ more) line)
 
 joined : (us vs : List (Top UserSymbol ℕ)) (o : Option (List (Top UserSymbol ℕ)))
     → option_map (λ x. us ++ x) (option_map (λ x. vs ++ x) o) ≡ option_map (λ x. (us ++ vs) ++ x) o
@@ -154,15 +157,15 @@ mutual
       let field = option_map_id (option_map (user_at t) f) in
       same_member tt (members-then t before) field (id-map (map (user_at t) annotations)) (value-then t x)
 
-one-more : TextLaws → (catalog : List Shared) (start : Cursor) (done : List (Top UserSymbol ℕ)) (first place : ℕ)
-    (annotations : List UserSymbol) (x : Value UserSymbol ℕ) (rest : List ℕ)
+one-more : TextLaws → (layout : Layout) → IsLayout layout → (catalog : List Shared) (start : Cursor)
+    (done : List (Top UserSymbol ℕ)) (first place : ℕ) (annotations : List UserSymbol) (x : Value UserSymbol ℕ) (rest : List ℕ)
     → AreUsers (tree first annotations place x ∷ []) → starts rest ≡ true
-    → Sofar catalog start done (annotations_text annotations ++ (value_text x ++ (10 ∷ rest)))
+    → Sofar catalog start done (annotations_text annotations ++ (value_text_by layout x ++ (10 ∷ rest)))
     → Sofar catalog start (done ++ tree first annotations place x ∷ []) rest
-one-more laws catalog start done first place annotations x rest users begins s =
-    let line : After (10 ∷ rest) = After.at_line begins in
+one-more laws layout laid catalog start done first place annotations x rest users begins s =
+    let line = line-after rest begins in
     let is = users.0.0 in
-    let v = value-read laws None None annotations x s.gap s.is_gap s.place (10 ∷ rest) is.1.0 is.0 users.1.0 line in
+    let v = value-read laws layout laid None None annotations x s.gap s.is_gap s.place (10 ∷ rest) is.1.0 is.0 users.1.0 line in
     let p : ℕ = first_place v.own v.place in
     let top : Top SymbolAt ℕ = tree p v.own v.place v.raw in
     let user : Top UserSymbol ℕ = as_user system p v.own v.place v.raw in
@@ -175,7 +178,7 @@ one-more laws catalog start done first place annotations x rest users begins s =
       raw = s.raw ++ top ∷ [];
       users = s.users ++ user ∷ [];
       gap = 10 ∷ [];
-      is_gap = a_line;
+      is_gap = refl;
       place = v.after;
       spells = Tops.with_value s.spells v.spells;
       leads = λ more. ap (user_tops catalog system) (append_assoc s.raw (top ∷ []) more)
@@ -197,21 +200,23 @@ one-more laws catalog start done first place annotations x rest users begins s =
           (others, v.within limits 0 wide last.0.0 last.0.1 (all-right (IsNoDeeper limits.depth) done own deep).0);
     }
 
-all-tops : TextLaws → (catalog : List Shared) (start : Cursor) (done tops : List (Top UserSymbol ℕ)) → AreUsers tops
-    → Sofar catalog start done (text tops) → Sofar catalog start (done ++ tops) []
-all-tops laws catalog start done [] users s =
+all-tops : TextLaws → (layout : Layout) → IsLayout layout → (catalog : List Shared) (start : Cursor)
+    (done tops : List (Top UserSymbol ℕ)) → AreUsers tops → Sofar catalog start done (text_by layout tops)
+    → Sofar catalog start (done ++ tops) []
+all-tops laws layout laid catalog start done [] users s =
     subst (λ (l : List (Top UserSymbol ℕ)). Sofar catalog start l []) (sym (append-nil done)) s
-all-tops laws catalog start done (version place ∷ ts) users s = absurd users.0.0
-all-tops laws catalog start done (tree first annotations place x ∷ ts) users s =
+all-tops laws layout laid catalog start done (version place ∷ ts) users s = absurd users.0.0
+all-tops laws layout laid catalog start done (tree first annotations place x ∷ ts) users s =
     let top : Top UserSymbol ℕ = tree first annotations place x in
+    let rest : List ℕ = text_by layout ts in
     let more : AreUsers ts = (users.0.1, users.1.1) in
-    let begins = tops-start laws ts more in
-    let line = line-join (annotations_text annotations) (value_text x) (text ts) in
+    let begins = tops-start laws layout ts more in
+    let line = line-join (annotations_text annotations) (value_text_by layout x) rest in
     let moved = subst (λ (xs : List ℕ). Sofar catalog start done xs) line s in
     let is : AreUsers (top ∷ []) = ((users.0.0, tt), (users.1.0, tt)) in
-    let one = one-more laws catalog start done first place annotations x (text ts) is begins moved in
+    let one = one-more laws layout laid catalog start done first place annotations x rest is begins moved in
     subst (λ (l : List (Top UserSymbol ℕ)). Sofar catalog start l []) (append_assoc done (top ∷ []) ts)
-    (all-tops laws catalog start (done ++ top ∷ []) ts more one)
+    (all-tops laws layout laid catalog start (done ++ top ∷ []) ts more one)
 
 -- ---- the form
 
@@ -222,22 +227,12 @@ form-start : (bytes : List ℕ) → starts bytes ≡ true → form_of bytes ≡ 
 form-start [] s = refl
 form-start (b ∷ more) s = ap form_by (no-binary b s)
 
-record EndsThere (c : Cursor) : Type 0 where
-  end : Cursor
-  blank : blanks c ≡ Ok end
-  nothing_left : end.rest ≡ []
-
-ends-there : (gap : List ℕ) → Gap gap → (p : ℕ) → EndsThere (at p (gap ++ []))
-ends-there _ Gap.no_gap p = record { end = at p []; blank = no-blanks p [] refl; nothing_left = refl }
-ends-there _ Gap.a_space p = record { end = at (suc p) []; blank = one-space p [] refl; nothing_left = refl }
-ends-there _ Gap.a_line p = record { end = at (suc p) []; blank = one-line p [] refl; nothing_left = refl }
-
 nothing-yet : (catalog : List Shared) (bytes : List ℕ) → Sofar catalog (start_of bytes) [] bytes
 nothing-yet catalog bytes = record {
   raw = [];
   users = [];
   gap = [];
-  is_gap = no_gap;
+  is_gap = refl;
   place = 0;
   spells = Tops.nothing;
   leads = λ more. sym (option_map_id (user_tops catalog system more));
@@ -246,32 +241,34 @@ nothing-yet catalog bytes = record {
   within = λ limits wide fits deep. tt;
 }
 
--- the canonical text of values, all of whose symbols are resolved, and that is within limits under which the values fit
-record TextSpells (catalog : List Shared) (tops : List (Top UserSymbol ℕ)) : Type 0 where
+-- the text of values by a layout, all of whose symbols are resolved, and that is within limits under which the values fit
+record TextSpells (layout : Layout) (catalog : List Shared) (tops : List (Top UserSymbol ℕ)) : Type 0 where
   raw : List (Top SymbolAt ℕ)
   users : List (Top UserSymbol ℕ)
-  form : form_of (text tops) ≡ form.Text
-  stream : Stream (text tops) raw
+  form : form_of (text_by layout tops) ≡ form.Text
+  stream : Stream (text_by layout tops) raw
   users_are : user_tops catalog system raw ≡ Some users
   same : map unplaced_top users ≡ map unplaced_top tops
   resolved : (limit : ℕ) → AreResolved catalog limit system raw
   within : (limits : Rules) → 64 ≤ limits.scalar → AllByRecursion (FitsText limits) tops
       → AllByRecursion (IsNoDeeper limits.depth) tops → TopsWithin limits stream.spells
 
-text-spells : TextLaws → (catalog : List Shared) (tops : List (Top UserSymbol ℕ)) → AreUsers tops → TextSpells catalog tops
-text-spells laws catalog tops users =
-    let r = all-tops laws catalog (start_of (text tops)) [] tops users (nothing-yet catalog (text tops)) in
-    let e = ends-there r.gap r.is_gap r.place in
+text-spells : TextLaws → (layout : Layout) → IsLayout layout → (catalog : List Shared) (tops : List (Top UserSymbol ℕ))
+    → AreUsers tops → TextSpells layout catalog tops
+text-spells laws layout laid catalog tops users =
+    let bytes : List ℕ = text_by layout tops in
+    let r = all-tops laws layout laid catalog (start_of bytes) [] tops users (nothing-yet catalog bytes) in
+    let e = gap-blank r.gap r.is_gap r.place [] refl in
     record {
       raw = r.raw;
       users = r.users ++ [];
-      form = form-start (text tops) (tops-start laws tops users);
+      form = form-start bytes (tops-start laws layout tops users);
       stream = record {
         last = at r.place (r.gap ++ []);
         spells = r.spells;
-        end = e.end;
+        end = at e.place [];
         blank = e.blank;
-        nothing_left = e.nothing_left;
+        nothing_left = refl;
       };
       users_are = ap (user_tops catalog system) (sym (append-nil r.raw)) ∙ r.leads [];
       same = ap (map unplaced_top) (append-nil r.users) ∙ r.same;
@@ -280,20 +277,29 @@ text-spells laws catalog tops users =
       within = r.within;
     }
 
-pub text-is-read : TextLaws → TextIsRead
-text-is-read laws catalog tops users =
-    let r = text-spells laws catalog tops users in
+pub each-text-is-read : TextLaws → EachTextIsRead
+each-text-is-read laws layout laid catalog tops users =
+    let r = text-spells laws layout laid catalog tops users in
     record { raw = r.raw; users = r.users; form = r.form; stream = r.stream; users_are = r.users_are; same = r.same }
 
-pub text-is-read-within : TextLaws → StreamsWithinAreRead → TextIsReadWithin
-text-is-read-within laws within_are_read profile catalog limits tops wide users deep fits =
-    let r = text-spells laws catalog tops users in
+pub each-text-is-read-within : TextLaws → StreamsWithinAreRead → EachTextIsReadWithin
+each-text-is-read-within laws within_are_read layout laid profile catalog limits tops wide users deep fits =
+    let r = text-spells laws layout laid catalog tops users in
+    let all : Rules = rules limits profile in
     record {
       raw = r.raw;
       users = r.users;
       form = r.form;
-      read = within_are_read (rules limits profile) (text tops) r.raw r.stream (r.within (rules limits profile) wide fits deep);
+      read = within_are_read all (text_by layout tops) r.raw r.stream (r.within all wide fits deep);
       resolved = r.resolved limits.symbols;
       users_are = r.users_are;
       same = r.same;
     }
+
+-- ---- canonical text
+
+pub text-is-read : EachTextIsRead → IsLayout canonical → TextIsRead
+text-is-read law laid = law canonical laid
+
+pub text-is-read-within : EachTextIsReadWithin → IsLayout canonical → TextIsReadWithin
+text-is-read-within law laid = law canonical laid

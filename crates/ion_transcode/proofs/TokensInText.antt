@@ -1,4 +1,4 @@
--- Tokens where canonical text has them: symbols and scalars after a space, a line's end or nothing, and punctuation.
+-- Tokens where text by a layout has them: symbols and scalars after white space, and punctuation.
 use Rattle.std.proofs.Common.{◌≡◌, ℕ, suc, ◌+◌, ◌≤◌, Bool, true, false, ◌==◌, if◌then◌else◌, List, [], ◌∷◌, ◌++◌, length, codes, None, Result, Ok, Err, refl, ap, sym, ◌∙◌, subst, arith}
 use Rattle.std.proofs.lemmas.Bool.{false≢true, eqb-true}
 use Rattle.std.proofs.lemmas.Bool.Decides.{nat_tests}
@@ -15,15 +15,10 @@ use Rattle.ion_text_in.specs.Grammar.{Tok}
 use Rattle.ion_text_in.specs.Lob.{lob_at}
 use Rattle.ion_text_in.specs.Meaning.{at, counts}
 use Rattle.ion_text_in.specs.Token.{First, a_lob, a_begin, first_at, Token, plain, name, begin, end, comma, colon, colons, token_of, token_at, next_token}
+use Rattle.ion_text_out.specs.Layout.{AreWhite}
 use Rattle.ion_text_out.specs.Text.{symbol_text, opener, closer}
-use Rattle.ion_transcode.proofs.AfterValues.{got, same-token, starts, AfterSymbol, no-blanks, one-space, one-line}
+use Rattle.ion_transcode.proofs.AfterValues.{white-first, white-not, got, same-token, starts, AfterSymbol, no-blanks, gap-blank}
 use Rattle.ion_transcode.proofs.SymbolTokens.{IsToken, token-begins, SymbolIs}
-
--- what stands between two tokens: nothing, a space or a line's end
-pub data Gap : List ℕ → Type 0 where
-  no_gap : Gap []
-  a_space : Gap (32 ∷ [])
-  a_line : Gap (10 ∷ [])
 
 -- a token of so many bytes at a place, and what is after it
 pub record Stands (sexp : Bool) (c : Cursor) (t : Token) (long : ℕ) (rest : List ℕ) : Type 0 where
@@ -43,19 +38,10 @@ pub counts-there : {sexp : Bool} {c : Cursor} {t : Token} {long : ℕ} {rest : L
     → ((p : ℕ) → counts t p (p + long) ≤ most) → counts t w.first w.after ≤ most
 counts-there {t = t} w most few = subst (λ (q : ℕ). counts t w.first q ≤ most) (sym w.after_is) (few w.first)
 
-record Blank (c : Cursor) (bytes : List ℕ) : Type 0 where
-  place : ℕ
-  blank : blanks c ≡ Ok (at place bytes)
-
-gap-blank : (gap : List ℕ) → Gap gap → (p : ℕ) (bytes : List ℕ) → starts bytes ≡ true → Blank (at p (gap ++ bytes)) bytes
-gap-blank _ Gap.no_gap p bytes s = record { place = p; blank = no-blanks p bytes s }
-gap-blank _ Gap.a_space p bytes s = record { place = suc p; blank = one-space p bytes s }
-gap-blank _ Gap.a_line p bytes s = record { place = suc p; blank = one-line p bytes s }
-
 -- ---- values and symbols
 
 pub stands : (After : List ℕ → Type 0) (bytes : List ℕ) (t : Token) → IsToken After bytes t → (sexp : Bool) (gap : List ℕ)
-    → Gap gap → (p : ℕ) (rest : List ℕ) → After rest → Stands sexp (at p (gap ++ (bytes ++ rest))) t (length bytes) rest
+    → AreWhite gap → (p : ℕ) (rest : List ℕ) → After rest → Stands sexp (at p (gap ++ (bytes ++ rest))) t (length bytes) rest
 stands After bytes t is sexp gap g p rest after =
     let b = gap-blank gap g p (bytes ++ rest) (token-begins After bytes t is rest after) in
     stands-after sexp _ t b.place (length bytes) (bytes ++ rest) rest b.blank (is.read sexp b.place rest after)
@@ -84,18 +70,25 @@ pub colons-stand : (sexp : Bool) (p : ℕ) (rest : List ℕ) → Stands sexp (at
 colons-stand sexp p rest =
     stands-after sexp _ colons p 2 (58 ∷ 58 ∷ rest) rest (at-colon p (58 ∷ rest)) (colons-token sexp p rest)
 
-single-colon : (rest : List ℕ) → starts rest ≡ true → first_is (λ c. c == 58) rest ≡ false
-single-colon [] s = refl
-single-colon (b ∷ bytes) s = grind (arith, nat_tests)
+no-colon : (rest : List ℕ) → starts rest ≡ true → first_is (λ c. c == 58) rest ≡ false
+no-colon [] s = refl
+no-colon (b ∷ bytes) s = grind (arith, nat_tests)
+
+single-colon : (gap : List ℕ) → AreWhite gap → (rest : List ℕ) → starts rest ≡ true
+    → first_is (λ c. c == 58) (gap ++ rest) ≡ false
+single-colon [] w rest s = no-colon rest s
+single-colon (b ∷ gap) w rest s = white-not b 58 (white-first b gap w) refl
 
 colon-token : (p : ℕ) (rest : List ℕ) → first_is (λ c. c == 58) rest ≡ false
     → token_at None false (at p (58 ∷ rest)) ≡ got colon (at (p + 1) rest)
 unfolding first_at token_of
 colon-token p rest e = rw (first_at, e) refl
 
-pub colon-stands : (p : ℕ) (rest : List ℕ) → starts rest ≡ true → Stands false (at p (58 ∷ rest)) colon 1 rest
-colon-stands p rest s =
-    stands-after false _ colon p 1 (58 ∷ rest) rest (at-colon p rest) (colon-token p rest (single-colon rest s))
+pub colon-stands : (gap : List ℕ) → AreWhite gap → (p : ℕ) (rest : List ℕ) → starts rest ≡ true
+    → Stands false (at p (58 ∷ (gap ++ rest))) colon 1 (gap ++ rest)
+colon-stands gap w p rest s =
+    let more : List ℕ = gap ++ rest in
+    stands-after false _ colon p 1 (58 ∷ more) more (at-colon p more) (colon-token p more (single-colon gap w rest s))
 
 end-token : (j : Kind) (sexp : Bool) (p : ℕ) (rest : List ℕ)
     → token_at None sexp (at p (closer j ++ rest)) ≡ got (end j) (at (p + 1) rest)
@@ -107,15 +100,16 @@ end-token kind.Sexp false p rest = refl
 end-token kind.Struct true p rest = refl
 end-token kind.Struct false p rest = refl
 
-closer-starts : (j : Kind) (rest : List ℕ) → starts (closer j ++ rest) ≡ true
+pub closer-starts : (j : Kind) (rest : List ℕ) → starts (closer j ++ rest) ≡ true
 closer-starts kind.List rest = refl
 closer-starts kind.Sexp rest = refl
 closer-starts kind.Struct rest = refl
 
-pub end-stands : (j : Kind) (sexp : Bool) (p : ℕ) (rest : List ℕ) → Stands sexp (at p (closer j ++ rest)) (end j) 1 rest
-end-stands j sexp p rest =
-    let blank = no-blanks p (closer j ++ rest) (closer-starts j rest) in
-    stands-after sexp _ (end j) p 1 (closer j ++ rest) rest blank (end-token j sexp p rest)
+pub end-stands : (j : Kind) (sexp : Bool) (gap : List ℕ) → AreWhite gap → (p : ℕ) (rest : List ℕ)
+    → Stands sexp (at p (gap ++ (closer j ++ rest))) (end j) 1 rest
+end-stands j sexp gap g p rest =
+    let b = gap-blank gap g p (closer j ++ rest) (closer-starts j rest) in
+    stands-after sexp _ (end j) b.place 1 (closer j ++ rest) rest b.blank (end-token j sexp b.place rest)
 
 -- after the brace of a struct no other brace stands
 abbrev pub Opens : Kind → List ℕ → Type 0
@@ -147,7 +141,7 @@ opener-starts kind.List rest = refl
 opener-starts kind.Sexp rest = refl
 opener-starts kind.Struct rest = refl
 
-pub begin-stands : (j : Kind) (sexp : Bool) (gap : List ℕ) → Gap gap → (p : ℕ) (rest : List ℕ) → Opens j rest
+pub begin-stands : (j : Kind) (sexp : Bool) (gap : List ℕ) → AreWhite gap → (p : ℕ) (rest : List ℕ) → Opens j rest
     → Stands sexp (at p (gap ++ (opener j ++ rest))) (begin j) 1 rest
 begin-stands j sexp gap g p rest o =
     let b = gap-blank gap g p (opener j ++ rest) (opener-starts j rest) in

@@ -311,10 +311,32 @@ its_symbol_refused : told [] usual to.Text (39 ∷ 255 ∷ 39 ∷ 10 ∷ []) ≡
 unfolding told
 its_symbol_refused = refl
 
+-- ---- pretty text
+
+members_pretty : told [] usual to.Pretty (codes "a::{name:[1,(b c)],d:{}}[]")
+    ≡ (codes "a::{\n  name: [\n    1,\n    (\n      b\n      c\n    )\n  ],\n  d: {}\n}\n[]\n", Accepted 2)
+unfolding told
+members_pretty = refl
+
+members_pretty_from_binary : told [] usual to.Pretty (marked "D6 84 B4 21 01 21 02") ≡ (codes "{\n  name: [\n    1,\n    2\n  ]\n}\n", Accepted 1)
+unfolding told
+members_pretty_from_binary = refl
+
+pretty_text_shown : told [] usual to.Text (codes "{\n  name: [\n    1,\n    2\n  ]\n}\n") ≡ (codes "{name:[1,2]}\n", Accepted 1)
+unfolding told
+pretty_text_shown = refl
+
+a_text_cut_pretty : told [] usual to.Pretty (codes "[1,{a:") ≡ (codes "[\n  1,\n  {", Rejected Truncated 6)
+unfolding told
+a_text_cut_pretty = refl
+
 -- ---- the bound on memory
 
 bound_of_text_from_binary : bound usual form.Binary to.Text ≡ 5253120
 bound_of_text_from_binary = refl
+
+bound_of_pretty_text : bound usual form.Text to.Pretty ≡ 5253120
+bound_of_pretty_text = refl
 
 bound_of_binary_from_text : bound usual form.Text to.Other ≡ 23078912
 bound_of_binary_from_text = refl

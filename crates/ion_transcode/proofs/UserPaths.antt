@@ -15,8 +15,9 @@ use Rattle.ion_symbols.specs.Tree.{user_at, user_tops}
 use Rattle.ion_symbols.specs.Laws.{UsersAreRead, OpenUsersAreRead, table_after, map_nest, open_declaration}
 use Rattle.ion_binary.specs.Canonical.{binary}
 use Rattle.ion_binary.specs.Refusals.{refused_after}
-use Rattle.ion_text_out.specs.Laws.{PathTextIsThatOfItems}
-use Rattle.ion_text_out.specs.Text.{items_text}
+use Rattle.ion_text_out.specs.Laws.{EachTextIsThatOfItems}
+use Rattle.ion_text_out.specs.Layout.{canonical, pretty}
+use Rattle.ion_text_out.specs.Text.{items_text_by}
 use Rattle.ion_transcode.specs.declared.to.Form.{Form}
 use Rattle.ion_transcode.specs.declared.to.Target.{Target}
 use Rattle.ion_transcode.specs.declared.to.Target.TheVariants as target
@@ -80,15 +81,17 @@ module _ (users_read : UsersAreRead) (open_users_read : OpenUsersAreRead) where
 -- ---- what is refused
 
 -- what is written of user items, and refused after them, is that of their path
-output-is : PathTextIsThatOfItems → (to : Target) (limits : Limits) (path : Path UserSymbol ℕ) (mine : List PlacedItem) → user_items mine ≡ path_items path
+output-is : EachTextIsThatOfItems → (to : Target) (limits : Limits) (path : Path UserSymbol ℕ) (mine : List PlacedItem) → user_items mine ≡ path_items path
     → (outputs_of to limits).open_output mine ≡ path_output to limits path
-output-is texts target.Text limits path mine e = ap (items_text []) e ∙ texts path
+output-is texts target.Text limits path mine e = ap (items_text_by canonical []) e ∙ (texts canonical).1 path
+output-is texts target.Pretty limits path mine e = ap (items_text_by pretty []) e ∙ (texts pretty).1 path
 output-is texts target.Binary limits path mine e = ap (λ (p : Path UserSymbol ℕ). binary limits.symbols (whole_tops p)) (path-is path mine e)
 output-is texts target.Nothing limits path mine e = refl
 
 refusal-is : (to : Target) (limits : Limits) (path : Path UserSymbol ℕ) (mine : List PlacedItem) (own : PlacedItem) → user_items mine ≡ path_items path
     → path_refusal to limits path own ≡ (outputs_of to limits).refusal mine own
 refusal-is target.Text limits path mine own e = refl
+refusal-is target.Pretty limits path mine own e = refl
 refusal-is target.Binary limits path mine own e = ap (λ (p : Path UserSymbol ℕ). refused_after limits p own) (sym (path-is path mine e))
 refusal-is target.Nothing limits path mine own e = refl
 
@@ -105,7 +108,7 @@ next_fault-same : (e : Encoding) (catalog : List Shared) (limits : Limits) (s : 
 next_fault-same e catalog limits s u a b same =
     step_fault-same _ _ (λ item. step_fault-same a b same (user_step catalog limits.symbols u item)) (e.step limits s)
 
-module _ (read : FaultlessPathsAreRead) (texts : PathTextIsThatOfItems) (profile : Profile) (form : Form) (to : Target) (catalog : List Shared) (limits : Limits) (bytes : List ℕ) where
+module _ (read : FaultlessPathsAreRead) (texts : EachTextIsThatOfItems) (profile : Profile) (form : Form) (to : Target) (catalog : List Shared) (limits : Limits) (bytes : List ℕ) where
   abbrev e : Encoding
   e = encoding_of profile form
 
@@ -138,7 +141,7 @@ module _ (read : FaultlessPathsAreRead) (texts : PathTextIsThatOfItems) (profile
   refused-as _ _ (whole tops us mine s u stream faultless ends told) = tt
   refused-as _ _ (refused path mine s u reason place at faultless fault) = refused-after path mine s u reason place at faultless fault
 
-pub refused_output_is_that_of_a_path : FaultlessPathsAreRead → PathTextIsThatOfItems → RefusedOutputIsThatOfAPath
+pub refused_output_is_that_of_a_path : FaultlessPathsAreRead → EachTextIsThatOfItems → RefusedOutputIsThatOfAPath
 refused_output_is_that_of_a_path read texts profile catalog limits to bytes target reason place out is has =
     refused-as read texts profile (form_of bytes) target catalog limits bytes (Rejected reason place) out
     (subst (λ r. HasVerdictAs profile r (form_of bytes) catalog limits bytes (Rejected reason place) out) is has)

@@ -42,6 +42,7 @@ PassesNoLimit form.Text limits bytes =
 -- user values of which the writer of a target refuses nothing: that of binary has limits of its own
 abbrev pub AreTaken : Target → Limits → List (Top UserSymbol ℕ) → Type 0
 AreTaken target.Text limits us = ⊤
+AreTaken target.Pretty limits us = ⊤
 AreTaken target.Binary limits us = AreWithin limits [] us
 AreTaken target.Nothing limits us = ⊤
 

@@ -1,6 +1,6 @@
 -- The round trip: what is written of the user values of a stream, as text or as binary, is a stream of these values. Laws that
 -- contracts cite.
-use Rattle.std.specs.Prelude.{◌≡◌, ℕ, List, [], map, Some}
+use Rattle.std.specs.Prelude.{◌≡◌, ℕ, List, [], length, map, Some}
 use Rattle.ion_meter.specs.Limits.{AreChecked}
 use Rattle.ion_meter.specs.declared.limits.Limits.{Limits}
 use Rattle.ion_meter.specs.declared.profile.Profile.{Profile}
@@ -12,9 +12,11 @@ use Rattle.ion_symbols.specs.Tree.{user_tops}
 use Rattle.ion_symbols.specs.UserValues.{AreUsers, CatalogIsText}
 use Rattle.ion_binary.specs.Spelling.{AreShort, IsRead}
 use Rattle.ion_text_in.specs.Grammar as text_grammar
-use Rattle.ion_text_out.specs.Text.{text}
+use Rattle.ion_text_out.specs.Layout.{Layout, IsLayout, canonical, pretty}
+use Rattle.ion_text_out.specs.Text.{text, text_by}
 use Rattle.ion_transcode.specs.declared.to.Form.{Form}
 use Rattle.ion_transcode.specs.declared.to.Form.TheVariants as form
+use Rattle.ion_transcode.specs.declared.to.Target.{Target}
 use Rattle.ion_transcode.specs.declared.to.Target.TheVariants as target
 use Rattle.ion_transcode.specs.declared.to.To.{To}
 use Rattle.ion_transcode.specs.declared.to.To.TheVariants as to
@@ -24,17 +26,26 @@ use Rattle.ion_transcode.specs.Verdict.{HasVerdictWith}
 
 -- ---- values
 
--- the canonical text of values is a stream of text, and under a catalogue the user values of that stream are these values again,
--- in all but their places
-pub record IsTextRead (catalog : List Shared) (tops : List (Top UserSymbol ℕ)) : Type 0 where
+-- the text of values by a layout is a stream of text, and under a catalogue the user values of that stream are these values
+-- again, in all but their places
+pub record IsTextReadBy (layout : Layout) (catalog : List Shared) (tops : List (Top UserSymbol ℕ)) : Type 0 where
   pub raw : List (Top SymbolAt ℕ)
   pub users : List (Top UserSymbol ℕ)
-  pub form : form_of (text tops) ≡ form.Text
-  pub stream : text_grammar.Stream (text tops) raw
+  pub form : form_of (text_by layout tops) ≡ form.Text
+  pub stream : text_grammar.Stream (text_by layout tops) raw
   pub users_are : user_tops catalog system raw ≡ Some users
   pub same : map unplaced_top users ≡ map unplaced_top tops
 
--- so it is of all values that a user can have, whatever the catalogue is
+-- so it is of all values that a user can have, whatever white space the layout has, and whatever the catalogue is
+abbrev pub EachTextIsRead : Type 0
+EachTextIsRead =
+    (layout : Layout) → IsLayout layout → (catalog : List Shared) (tops : List (Top UserSymbol ℕ)) → AreUsers tops
+    → IsTextReadBy layout catalog tops
+
+-- canonical text
+abbrev pub IsTextRead : List Shared → List (Top UserSymbol ℕ) → Type 0
+IsTextRead catalog tops = IsTextReadBy canonical catalog tops
+
 abbrev pub TextIsRead : Type 0
 TextIsRead = (catalog : List Shared) (tops : List (Top UserSymbol ℕ)) → AreUsers tops → IsTextRead catalog tops
 
@@ -54,7 +65,46 @@ RoundTrip =
     (us : List (Top UserSymbol ℕ)) → AreBytes bytes → CatalogIsText catalog → (encoding_of profile form).Stream bytes tops
     → user_tops catalog system tops ≡ Some us → IsTextRead other us × (AreShort limit [] us → IsRead other limit us)
 
+-- where the text of values by a layout is read, the text of what is read, by any layout, is that of these values by it, and
+-- there are as many: so pretty text has the canonical text of its values, and canonical text has the pretty text of them
+abbrev pub LayoutsAreAlike : Type 0
+LayoutsAreAlike =
+    (layout other : Layout) → IsLayout layout → (catalog : List Shared) (us again : List (Top UserSymbol ℕ)) (tops : List (Top SymbolAt ℕ))
+    → AreUsers us → text_grammar.Stream (text_by layout us) tops → user_tops catalog system tops ≡ Some again
+    → (text_by other again ≡ text_by other us) × (length again ≡ length us)
+
 -- ---- runs
+
+-- which targets are text, and by which layout
+pub data IsTextBy : Layout → Target → Type 0 where
+  canonical_text : IsTextBy canonical target.Text
+  pretty_text : IsTextBy pretty target.Pretty
+
+-- of what a run to text by a layout wrote of a stream, and of what a run to text by another wrote over that: both are the text of
+-- the stream's user values, each by its own layout, and both count as many values; and each run over the stream itself that writes
+-- text by the other layout, and is accepted, writes the same as the second
+pub record AreShownAlike (profile : Profile) (catalog : List Shared) (layout other : Layout) (bytes shown again : List ℕ) (n m : ℕ)
+    : Type 0 where
+  pub tops : List (Top SymbolAt ℕ)
+  pub us : List (Top UserSymbol ℕ)
+  pub stream : (encoding_of profile (form_of bytes)).Stream bytes tops
+  pub users_are : user_tops catalog system tops ≡ Some us
+  pub output : shown ≡ text_by layout us
+  pub output_again : again ≡ text_by other us
+  pub count : m ≡ n
+  pub directly : (target : Target) (asked : To) (most : Limits) (out : List ℕ) (k : ℕ) → IsTextBy other target
+      → resolved (form_of bytes) asked ≡ Some target → HasVerdictWith profile catalog most asked bytes (Accepted k) out
+      → (out ≡ again) × (k ≡ n)
+
+-- so it is where both are accepted: whatever their catalogues, their limits and their profiles are
+abbrev pub LayoutsAreShownAlike : Type 0
+LayoutsAreShownAlike =
+    (profile next : Profile) (catalog known : List Shared) (limits wide : Limits) (asked back : To) (bytes shown again : List ℕ) (n m : ℕ)
+    (first second : Target) (layout other : Layout) → IsTextBy layout first → IsTextBy other second → AreBytes bytes
+    → CatalogIsText catalog → resolved (form_of bytes) asked ≡ Some first
+    → HasVerdictWith profile catalog limits asked bytes (Accepted n) shown → resolved (form_of shown) back ≡ Some second
+    → HasVerdictWith next known wide back shown (Accepted m) again
+    → AreShownAlike profile catalog layout other bytes shown again n m
 
 -- a run to text over what a run to text wrote writes the same bytes, and counts as many values, where both are accepted: whatever
 -- their catalogues, their limits and their profiles are

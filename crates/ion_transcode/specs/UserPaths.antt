@@ -12,7 +12,8 @@ use Rattle.ion_symbols.specs.Tree.{user_at, user_tops}
 use Rattle.ion_symbols.specs.Laws.{table_after, map_nest, open_declaration}
 use Rattle.ion_binary.specs.Canonical.{binary}
 use Rattle.ion_binary.specs.Refusals.{refused_after}
-use Rattle.ion_text_out.specs.Text.{path_text}
+use Rattle.ion_text_out.specs.Layout.{pretty}
+use Rattle.ion_text_out.specs.Text.{path_text, path_text_by}
 use Rattle.ion_transcode.specs.declared.to.Form.{Form}
 use Rattle.ion_transcode.specs.declared.to.To.{To}
 use Rattle.ion_transcode.specs.declared.to.Target.{Target}
@@ -53,12 +54,14 @@ FaultlessPathsAreRead =
 -- what is written of a path of user values
 abbrev pub path_output : Target → Limits → Path UserSymbol ℕ → List ℕ
 path_output target.Text limits path = path_text path
+path_output target.Pretty limits path = path_text_by pretty path
 path_output target.Binary limits path = binary limits.symbols (whole_tops path)
 path_output target.Nothing limits path = []
 
 -- the reason and the place for which the target's writer refuses an item after a path of user values, if it does
 abbrev pub path_refusal : Target → Limits → Path UserSymbol ℕ → PlacedItem → Option (Reason × ℕ)
 path_refusal target.Text limits path item = None
+path_refusal target.Pretty limits path item = None
 path_refusal target.Binary limits path item = refused_after limits path item
 path_refusal target.Nothing limits path item = None
 

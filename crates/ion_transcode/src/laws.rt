@@ -7,8 +7,8 @@ ghost use Rattle.ion_transcode.specs.Catalogues.{CatalogVerdictsAreRead, Catalog
 ghost use Rattle.ion_transcode.specs.Depth.{WhatIsReadIsNoDeeper};
 ghost use Rattle.ion_transcode.specs.Forms.{binary_encoding, text_encoding};
 ghost use Rattle.ion_transcode.specs.Laws.{BinaryIsComplete, BinaryIsSound, OneSpelling, OneVerdict, SpellsOnce, StreamsAreRead, TextIsComplete, TextIsSound, WhatStrictAcceptsIsAccepted};
-ghost use Rattle.ion_transcode.specs.RoundTrip.{RoundTrip, ShowOnce, TextIsRead, ThereAndBack, ValuesOfStreams};
-ghost use Rattle.ion_transcode.specs.ShownAgain.{TextIsReadWithin, WhatIsShownIsAccepted};
+ghost use Rattle.ion_transcode.specs.RoundTrip.{EachTextIsRead, LayoutsAreAlike, LayoutsAreShownAlike, RoundTrip, ShowOnce, TextIsRead, ThereAndBack, ValuesOfStreams};
+ghost use Rattle.ion_transcode.specs.ShownAgain.{EachShownTextIsAccepted, EachTextIsReadWithin, TextIsReadWithin, WhatIsShownIsAccepted};
 ghost use Rattle.ion_transcode.specs.UserPaths.{FaultlessPathsAreRead, RefusedOutputIsThatOfAPath};
 ghost use Rattle.ion_transcode.specs.WrittenAgain.{WrittenBinaryIsAccepted};
 
@@ -19,7 +19,7 @@ use ion_symbols::laws::{
     what_is_declared, what_is_resolved_is_accepted, why_refused,
 };
 use ion_text_in::laws as text;
-use ion_text_out::laws::{path_text_is_that_of_items, text_is_that_of_items};
+use ion_text_out::laws::{are_layouts, each_text_is_that_of_items};
 
 /// The binary encoding is sound: its reading is that of its steps, and each step follows its
 /// grammar.
@@ -90,7 +90,7 @@ pub fn one_verdict()
     ensures { OneVerdict }
 {
     users_are_read();
-    text_is_that_of_items();
+    each_text_is_that_of_items();
 }
 
 /// Each stream has the verdict that the reading of its items one by one has.
@@ -101,7 +101,7 @@ pub fn streams_are_read()
     text_is_sound();
     users_are_read();
     open_users_are_read();
-    text_is_that_of_items();
+    each_text_is_that_of_items();
     binary::items_put_the_form();
     binary::open_items_put_what_is_whole();
     binary::items_are_refused_as_in_trees();
@@ -123,7 +123,7 @@ pub fn refused_output_is_that_of_a_path()
     ensures { RefusedOutputIsThatOfAPath }
 {
     faultless_paths_are_read();
-    path_text_is_that_of_items();
+    each_text_is_that_of_items();
 }
 
 /// What reading item by item says of a stream is its verdict as a catalogue.
@@ -180,10 +180,11 @@ pub fn one_catalog()
     one_spelling();
 }
 
-/// The canonical text of values that a user of a stream can have is a stream of text, and the user
-/// values of that stream are these values again, whatever the catalogue.
-pub fn text_is_read()
-    ensures { TextIsRead }
+/// The text by any layout of values that a user of a stream can have is a stream of text, and the user
+/// values of that stream are these values again, whatever the catalogue. A layout has only white space
+/// between tokens, and the commas and colons that the grammar asks for.
+pub fn each_layout_is_read()
+    ensures { EachTextIsRead }
 {
     text::what_ends_a_number();
     text::what_ends_a_symbol();
@@ -200,6 +201,23 @@ pub fn text_is_read()
     text::id_is_read();
     text::clob_text_is_read();
     text::base64_is_read();
+}
+
+/// So it is of canonical text.
+pub fn text_is_read()
+    ensures { TextIsRead }
+{
+    each_layout_is_read();
+    are_layouts();
+}
+
+/// What is shown by any layout of the text by another is what is shown of the values themselves: where
+/// text by a layout is read, the text of what is read is that of the values.
+pub fn layouts_are_alike()
+    ensures { LayoutsAreAlike }
+{
+    each_layout_is_read();
+    text::one_stream();
 }
 
 /// The user values of each stream of bytes are values that a user can have: numbers in their ranges,
@@ -223,15 +241,26 @@ pub fn round_trip()
     binary::the_form_is_read();
 }
 
+/// What is shown by a layout of the text by another is what is shown by it of the stream that the text
+/// was written of: a run to text over the output of a run to text writes the text of the same values by
+/// its own layout, and counts as many, where both are accepted.
+pub fn layouts_are_shown_alike()
+    ensures { LayoutsAreShownAlike }
+{
+    what_is_accepted_is_read();
+    values_of_streams();
+    each_layout_is_read();
+    are_layouts();
+    one_spelling();
+    text::one_stream();
+}
+
 /// To show what was shown changes nothing: a run to text over the output of a run to text writes that
 /// output again, and counts as many values, where both are accepted.
 pub fn show_once()
     ensures { ShowOnce }
 {
-    what_is_accepted_is_read();
-    values_of_streams();
-    text_is_read();
-    text::one_stream();
+    layouts_are_shown_alike();
 }
 
 /// To convert a text and show the binary is to show the text: a run to text over the binary that was
@@ -260,7 +289,7 @@ pub fn what_is_read_is_accepted()
     users_are_read();
     what_is_resolved_is_accepted();
     binary::none_is_refused_within();
-    text_is_that_of_items();
+    each_text_is_that_of_items();
     binary::items_put_the_form();
 }
 
@@ -317,11 +346,12 @@ pub fn what_is_read_is_no_deeper()
     ensures { WhatIsReadIsNoDeeper }
 {}
 
-/// The canonical text of values is read to its end under limits that the values fit, where the limit
-/// on scalars is 64 or more, and its symbols are all resolved: of all values that a user of a stream
-/// can have. No number and no timestamp has more than 64 bytes.
-pub fn text_is_read_within()
-    ensures { TextIsReadWithin }
+/// The text of values by any layout is read to its end under limits that the values fit, where the
+/// limit on scalars is 64 or more, and its symbols are all resolved: of all values that a user of a
+/// stream can have. No number and no timestamp has more than 64 bytes, and white space counts for no
+/// limit.
+pub fn each_layout_is_read_within()
+    ensures { EachTextIsReadWithin }
 {
     text::what_ends_a_number();
     text::what_ends_a_symbol();
@@ -341,18 +371,34 @@ pub fn text_is_read_within()
     text::what_is_within_limits_is_read();
 }
 
-/// What a run to text wrote is accepted, where its values fit the limits, and a run to text over it
-/// writes the same bytes. Where depth is no lower and the limit on scalars is 64 or more, only texts,
-/// lobs and annotations may be too long.
-pub fn what_is_shown_is_accepted()
-    ensures { WhatIsShownIsAccepted }
+/// So it is of canonical text.
+pub fn text_is_read_within()
+    ensures { TextIsReadWithin }
+{
+    each_layout_is_read_within();
+    are_layouts();
+}
+
+/// What a run to text by any layout wrote is accepted, where its values fit the limits, and a run to text
+/// over it writes the text of its values by its own layout. Where depth is no lower and the limit on
+/// scalars is 64 or more, only texts, lobs and annotations may be too long.
+pub fn each_shown_text_is_accepted()
+    ensures { EachShownTextIsAccepted }
 {
     what_is_accepted_is_read();
     one_spelling();
     values_of_streams();
     what_is_read_is_no_deeper();
-    text_is_read_within();
+    each_layout_is_read_within();
+    are_layouts();
     what_is_read_is_accepted();
+}
+
+/// So is canonical text, and a run to canonical text over it writes the same bytes.
+pub fn what_is_shown_is_accepted()
+    ensures { WhatIsShownIsAccepted }
+{
+    each_shown_text_is_accepted();
 }
 
 /// Where a run to binary accepts a text, a run over what it wrote accepts that too, under the same

@@ -2,13 +2,14 @@
 
 use ion_transcode::laws::{
     binary_is_complete, binary_is_sound, binary_is_spelled_once, catalog_verdicts_are_read,
-    catalogs_are_loaded, catalogs_are_text, faultless_paths_are_read, good_streams_are_accepted,
-    one_catalog, one_catalog_verdict, one_spelling, one_verdict, refused_output_is_that_of_a_path,
-    round_trip, show_once, streams_are_read, tables_are_catalogs, text_is_complete, text_is_read,
-    text_is_read_within, text_is_sound, text_is_spelled_once, there_and_back,
-    trees_in_order_are_accepted, values_of_streams, what_is_accepted_is_read,
-    what_is_read_is_accepted, what_is_read_is_no_deeper, what_is_shown_is_accepted,
-    written_binary_is_accepted,
+    catalogs_are_loaded, catalogs_are_text, each_layout_is_read, each_layout_is_read_within,
+    each_shown_text_is_accepted, faultless_paths_are_read, good_streams_are_accepted,
+    layouts_are_alike, layouts_are_shown_alike, one_catalog, one_catalog_verdict, one_spelling,
+    one_verdict, refused_output_is_that_of_a_path, round_trip, show_once, streams_are_read,
+    tables_are_catalogs, text_is_complete, text_is_read, text_is_read_within, text_is_sound,
+    text_is_spelled_once, there_and_back, trees_in_order_are_accepted, values_of_streams,
+    what_is_accepted_is_read, what_is_read_is_accepted, what_is_read_is_no_deeper,
+    what_is_shown_is_accepted, written_binary_is_accepted,
 };
 
 #[test]
@@ -30,9 +31,12 @@ fn states_laws() {
     one_catalog_verdict();
     one_catalog();
     catalogs_are_text();
+    each_layout_is_read();
     text_is_read();
+    layouts_are_alike();
     values_of_streams();
     round_trip();
+    layouts_are_shown_alike();
     show_once();
     there_and_back();
     what_is_read_is_accepted();
@@ -40,7 +44,9 @@ fn states_laws() {
     trees_in_order_are_accepted();
     what_is_accepted_is_read();
     what_is_read_is_no_deeper();
+    each_layout_is_read_within();
     text_is_read_within();
+    each_shown_text_is_accepted();
     what_is_shown_is_accepted();
     written_binary_is_accepted();
 }

@@ -54,8 +54,36 @@ fn expect_again(rt: &impl Abort, alloc: Global, case: Case, values: u64) {
     expect_there(rt, alloc, case, values, case.input);
 }
 
-/// Asserts that a stream goes there and back, if it is accepted: what is shown of it is shown again, and what
-/// is written as binary of that, and of the stream itself if it is a text, shows the same.
+/// Asserts that a stream's pretty text shows what the stream shows, that it is its own pretty text, and that
+/// it is that of what is shown too.
+fn expect_pretty(rt: &impl Abort, alloc: Global, case: Case, values: u64, shown: &[u8]) {
+    let pretty = written(rt, alloc, case, To::Pretty);
+    let want = text(values);
+    for (input, to, output) in [
+        (pretty.as_slice(), To::Text, shown),
+        (pretty.as_slice(), To::Pretty, pretty.as_slice()),
+        (shown, To::Pretty, pretty.as_slice()),
+    ] {
+        let again = Case {
+            input,
+            want,
+            ..case
+        };
+        let back = written(rt, alloc, again, to);
+        same_at(
+            rt,
+            "pretty",
+            case.row,
+            0,
+            (to, back.as_slice()),
+            (to, output),
+        );
+    }
+}
+
+/// Asserts that a stream goes there and back, if it is accepted: what is shown of it is shown again, and so is
+/// its pretty text; and what is written as binary of that, and of the stream itself if it is a text, shows the
+/// same.
 pub fn expect_round_trip(rt: &impl Abort, alloc: Global, case: Case) {
     if let Ok(Summary { form, values }) = case.want {
         // What is written may be longer than what was read.
@@ -71,6 +99,7 @@ pub fn expect_round_trip(rt: &impl Abort, alloc: Global, case: Case) {
             ..case
         };
         expect_again(rt, alloc, again, values);
+        expect_pretty(rt, alloc, case, values, shown.as_slice());
         if form == Form::Text {
             expect_there(rt, alloc, case, values, shown.as_slice());
         }

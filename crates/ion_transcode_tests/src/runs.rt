@@ -296,11 +296,12 @@ fn faults(rt: HostRuntime) {
 
 #[test]
 fn bounds(rt: HostRuntime) -> Result<(), Fail> {
-    for to in [To::Text, To::Binary, To::Nothing, To::Other] {
+    for to in [To::Text, To::Pretty, To::Binary, To::Nothing, To::Other] {
         same(&rt, bound(LIMITS, Form::Binary, to), 5_253_120);
     }
     for (to, want) in [
         (To::Text, 5_253_120),
+        (To::Pretty, 5_253_120),
         (To::Nothing, 5_253_120),
         (To::Binary, 23_078_912),
         (To::Other, 23_078_912),

@@ -144,7 +144,7 @@ fn answer(rt: &impl Abort, alloc: Global, beside: Beside<'_>, input: Giving<'_>,
     answer_with(rt, alloc, profile, catalogue, stream, to)
 }
 
-/// What is wanted of a whole input.
+/// What is wanted of a whole input, where it is not written as pretty text.
 fn wanted<'a>(
     beside: Beside<'_>,
     vector: Vector<'a>,
@@ -160,7 +160,7 @@ fn wanted<'a>(
             return (Err(Fault::Refused(Reason::SameForm, 0)), b"");
         }
         (To::Text, _) | (To::Other, Form::Binary) => vector.shown,
-        (To::Binary | To::Other, Form::Text) => vector.converted,
+        _ => vector.converted,
     };
     match vector.verdict {
         Ok(values) => (Ok(Summary { form, values }), written),
@@ -185,9 +185,28 @@ fn expect_pieces(
     }
 }
 
+/// Asserts that an input has its verdict where it is written as pretty text, and that this shows the same if
+/// it is accepted.
+fn expect_pretty(rt: &impl Abort, alloc: Global, beside: Beside<'_>, vector: Vector<'_>) {
+    let input = Giving::all(vector.input, vector.input.len());
+    let (outcome, pretty) = answer(rt, alloc, beside, input, To::Pretty);
+    let (want, shown) = wanted(beside, vector, To::Text);
+    same_at(rt, vector.sentence, vector.row, 0, outcome, want);
+    if outcome.is_err() {
+        return;
+    }
+    if let Beside::Stream(_) = beside {
+        return;
+    }
+    let again = Giving::all(pretty.as_slice(), pretty.len());
+    let (_outcome, output) = answer(rt, alloc, beside, again, To::Text);
+    same_at(rt, vector.sentence, vector.row, 0, output.as_slice(), shown);
+}
+
 /// Asserts what comes of a whole input, a byte a read, and in one piece or two.
 fn expect_whole(rt: &impl Abort, alloc: Global, beside: Beside<'_>, vector: Vector<'_>) {
     let input = vector.input;
+    expect_pretty(rt, alloc, beside, vector);
     expect_pieces(rt, alloc, beside, vector, 0, Giving::all(input, 1));
     for at in 0..=input.len() {
         expect_pieces(rt, alloc, beside, vector, at, Giving::cut(input, at));

@@ -1,19 +1,20 @@
 //! Plain scalars, which are put where there is room for them, the octets before a body as one block.
-ghost use Rattle.std.specs.Prelude.{◌≡◌, ◌^◌, ◌<◌, ◌≤◌, ◌∷◌, [], ◌++◌, false, if◌then◌else◌, length, take};
-ghost use Rattle.ion_value.specs.Float.{value_of};
-ghost use Rattle.ion_value.specs.FloatOctets.{float_octets};
-ghost use Rattle.ion_value.specs.Number.{coefficient_octets, uint_octets};
+ghost use Rattle.std.specs.Prelude.{◌≡◌, ℕ, ◌≤◌, ◌++◌, false, length, take};
+ghost use Rattle.ion_value.specs.Items.{raw_head};
+ghost use Rattle.ion_value.specs.Standing.{HeadInRange};
+ghost use Rattle.ion_value.specs.Value.{UserSymbol};
 ghost use Rattle.ion_binary.specs.Canonical.{headed};
+ghost use Rattle.ion_binary.specs.ItemOctets.{head_name, head_octets, user_head};
 ghost use Rattle.ion_binary.specs.Opening.{AddsOctets, CanAdd, both_octets, noted, noted_by};
 
 use super::OpenValue;
-use crate::few::{Few, few_float, few_header, few_number, noted_front};
+use crate::few::{FewNumber, few_header, noted_front};
 use crate::header::header;
 use crate::noted::noted_scalar;
-use crate::scalar::Octets;
+use crate::scalar::{Octets, spell};
 use ion_meter::limits::Limits;
 use ion_meter::meter::Meter;
-use ion_value::float::Float64;
+use ion_value::item::Head;
 use ion_value::var::var_uint_write;
 use std::alloc::Allocator;
 
@@ -66,103 +67,26 @@ impl<A: Allocator + Copy> OpenValue<A> {
         self.extend_if_room(meter, *limits, &octets)
     }
 
-    /// Adds a scalar of one octet, as `put_octets` does.
+    /// Adds a scalar of any kind, where a symbol has this id.
     #[inline(never)]
-    pub fn put_octet(
+    pub fn put_spelled(
         &mut self,
         meter: &mut Meter<A>,
         limits: &Limits,
         name: u32,
         note: u32,
-        octet: u8,
-    ) -> bool
-        requires { CanAdd limits.now self.old meter.old }
-        ensures { AddsOctets limits.now (noted name note (octet ∷ []))
-            self.old self.new meter.old meter.new result }
-    {
-        let front = Few::one(octet);
-        self.put_few(meter, limits, name, note, &front, [0; 8], 0)
-    }
-
-    /// Adds a scalar whose body is a number of 64 bits.
-    #[inline(always)]
-    pub fn put_number(
-        &mut self,
-        meter: &mut Meter<A>,
-        limits: &Limits,
-        name: u32,
-        note: u32,
-        code: u8,
-        n: u64,
+        head: Head<'_>,
+        symbol: u32,
     ) -> bool
         requires can_add { CanAdd limits.now self.old meter.old }
-        requires code { code < 16 }
-        ensures { AddsOctets limits.now (noted name note (headed code (uint_octets n)))
+        requires range { HeadInRange (raw_head head) }
+        ensures { (ids : UserSymbol → ℕ) → symbol ≡ head_name ids (user_head head.entry)
+            → AddsOctets limits.now (noted name note (head_octets ids (user_head head.entry)))
             self.old self.new meter.old meter.new result }
     {
-        let number = few_number(code, n);
-        self.put_few(
-            meter,
-            limits,
-            name,
-            note,
-            &number.first,
-            number.body,
-            number.size,
-        )
-    }
-
-    /// Adds a float.
-    #[inline(always)]
-    pub fn put_float(
-        &mut self,
-        meter: &mut Meter<A>,
-        limits: &Limits,
-        name: u32,
-        note: u32,
-        float: Float64,
-    ) -> bool
-        requires { CanAdd limits.now self.old meter.old }
-        ensures { AddsOctets limits.now (noted name note (headed 4 (float_octets (value_of float))))
-            self.old self.new meter.old meter.new result }
-    {
-        let number = few_float(float);
-        self.put_few(
-            meter,
-            limits,
-            name,
-            note,
-            &number.first,
-            number.body,
-            number.size,
-        )
-    }
-
-    /// Adds a decimal that is not zero: the octet of its exponent, and a coefficient of 63 bits.
-    #[inline(never)]
-    pub fn put_decimal(
-        &mut self,
-        meter: &mut Meter<A>,
-        limits: &Limits,
-        name: u32,
-        note: u32,
-        exponent: u8,
-        negative: bool,
-        coefficient: u64,
-    ) -> bool
-        requires can_add { CanAdd limits.now self.old meter.old }
-        requires some { 0 < coefficient }
-        requires most { coefficient < 2 ^ 63 }
-        ensures { AddsOctets limits.now
-            (noted name note (headed 5 (exponent ∷ coefficient_octets negative coefficient)))
-            self.old self.new meter.old meter.new result }
-    {
-        let zeros = (coefficient.leading_zeros() - 1) / 8;
-        let size = 8 - zeros as usize;
-        let sign = sign_bit(negative);
-        let front = Few::one(exponent).after(81 + size as u8);
-        let body = (coefficient.wrapping_shl(8 * zeros) + sign).to_be_bytes();
-        self.put_few(meter, limits, name, note, &front, body, size)
+        let spelled = spell(head, symbol);
+        let octets = spelled.octets();
+        self.put_octets(meter, limits, name, note, &octets)
     }
 
     /// Adds a string.
@@ -215,32 +139,36 @@ impl<A: Allocator + Copy> OpenValue<A> {
         self.put_octets(meter, limits, name, note, &octets)
     }
 
-    // Adds a scalar of these octets and the first of a body, so many.
+    /// Adds a scalar of few octets.
     #[inline(always)]
-    fn put_few(
+    pub fn put_few(
         &mut self,
         meter: &mut Meter<A>,
         limits: &Limits,
         name: u32,
         note: u32,
-        front: &Few,
-        body: [u8; 8],
-        size: usize,
+        number: &FewNumber,
     ) -> bool
         requires can_add { CanAdd limits.now self.old meter.old }
-        requires few { length front.now ≤ 2 }
-        requires size { size ≤ 8 }
-        ensures { AddsOctets limits.now (noted name note (front.now ++ take size body))
+        requires few { length number.now.first ≤ 2 }
+        requires size { number.now.size ≤ 8 }
+        ensures { AddsOctets limits.now
+            (noted name note (number.now.first ++ take number.now.size number.now.body))
             self.old self.new meter.old meter.new result }
     {
-        let Some(whole) = noted_front(front, size, name, note) else {
-            return self.put_after_long(meter, limits, name, note, front, body, size);
+        let Some(front) = noted_front(&number.first, number.size, name, note) else {
+            return self.put_after_long(meter, limits, name, note, number);
         };
         if !self.has_room(*limits, 16, 0) {
             return false;
         }
-        self.octets
-            .extend_blocks_if_room(meter, whole.block(), whole.len(), body, size)
+        self.octets.extend_blocks_if_room(
+            meter,
+            front.block(),
+            front.len(),
+            number.body,
+            number.size,
+        )
     }
 
     // Adds such a scalar after long ids.
@@ -252,29 +180,20 @@ impl<A: Allocator + Copy> OpenValue<A> {
         limits: &Limits,
         name: u32,
         note: u32,
-        front: &Few,
-        body: [u8; 8],
-        size: usize,
+        number: &FewNumber,
     ) -> bool
         requires can_add { CanAdd limits.now self.old meter.old }
-        requires few { length front.now ≤ 2 }
-        requires size { size ≤ 8 }
-        ensures { AddsOctets limits.now (noted name note (front.now ++ take size body))
+        requires few { length number.now.first ≤ 2 }
+        requires size { number.now.size ≤ 8 }
+        ensures { AddsOctets limits.now
+            (noted name note (number.now.first ++ take number.now.size number.now.body))
             self.old self.new meter.old meter.new result }
     {
-        let first = front.block();
+        let first = number.first.block();
         let octets = Octets {
-            front: &first[..front.len()],
-            rest: &body[..size],
+            front: &first[..number.first.len()],
+            rest: &number.body[..number.size],
         };
         self.put_octets(meter, limits, name, note, &octets)
     }
-}
-
-// The sign of a number as the highest bit of a word.
-#[inline(always)]
-fn sign_bit(negative: bool) -> u64
-    ensures { result ≡ (if negative then 2 ^ 63 else 0) }
-{
-    if negative { 1 << 63 } else { 0 }
 }

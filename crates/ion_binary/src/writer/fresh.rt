@@ -1,20 +1,19 @@
 //! Plain scalars with a text that is new, added at once to a value that is open.
-ghost use Rattle.std.specs.Prelude.{◌≡◌, ◌≤◌, ◌++◌, ℕ, None, length, option_map, take, IfSome};
+ghost use Rattle.std.specs.Prelude.{◌≡◌, option_map, IfSome};
 ghost use Rattle.ion_value.specs.PlainItems.{placed_text};
-ghost use Rattle.ion_value.specs.Value.{UserSymbol, user_symbol_at};
+ghost use Rattle.ion_value.specs.Value.{user_symbol_at};
 ghost use Rattle.ion_value.specs.Writable.{field_symbols};
 ghost use Rattle.ion_binary.specs.Canonical.{field_octets, id_in};
 ghost use Rattle.ion_binary.specs.Fresh.{AreFresh, CanPutFresh, MayBeFresh};
-ghost use Rattle.ion_binary.specs.ItemOctets.{head_name, head_octets, user_head};
 ghost use Rattle.ion_binary.specs.Opening.{MayCome, both_octets, name_octets};
 ghost use Rattle.ion_binary.specs.Plain.{AddsPlain, HaveIds, TakesPlain, as_item};
 ghost use Rattle.ion_binary.specs.Writer.{CanTake};
 
 use super::BinWriter;
 use super::single::{SingleItem, is_scalar};
-use crate::few::{FewNumber, few_float, few_number, few_octet, noted_front};
+use crate::few::{few_of, noted_front};
 use crate::noted::{id_octets, noted_scalar};
-use crate::scalar::{Octets, spell, type_code};
+use crate::scalar::{Octets, spell};
 use ion_meter::buf::Added;
 use ion_meter::device::Output;
 use ion_meter::meter::Meter;
@@ -196,27 +195,5 @@ impl<A: Allocator + Copy> BinWriter<A> {
             name: self.symbols.next_id(),
             symbol,
         })
-    }
-}
-
-// The octets of an int that 64 bits hold, of a float, of a symbol of this id, of a null, or of a bool.
-#[inline(always)]
-pub(super) fn few_of(head: Head<'_>, symbol: u32) -> Option<FewNumber>
-    ensures few { IfSome result (λ number. length number.first ≤ 2) }
-    ensures size { IfSome result (λ number. number.size ≤ 8) }
-    ensures octets { IfSome result (λ number. (ids : UserSymbol → ℕ)
-        → symbol ≡ head_name ids (user_head head.entry)
-        → number.first ++ take number.size number.body ≡ head_octets ids (user_head head.entry)) }
-{
-    match head {
-        Head::Int(int) => match u64::try_from(int.magnitude) {
-            Ok(n) => Some(few_number(if int.negative { 3 } else { 2 }, n)),
-            Err(_) => None,
-        },
-        Head::Float(float) => Some(few_float(float)),
-        Head::Symbol(_) => Some(few_number(7, u64::from(symbol))),
-        Head::Null(of) => Some(few_octet(16 * type_code(of) + 15)),
-        Head::Bool(truth) => Some(few_octet(if truth { 17 } else { 16 })),
-        _ => None,
     }
 }

@@ -10,10 +10,9 @@ ghost use Rattle.ion_binary.specs.Writer.{IsSound};
 ghost use Rattle.ion_binary.specs.Writing.{head_symbols};
 
 use super::BinWriter;
-use super::fresh::few_of;
 use super::single::SingleItem;
 use crate::declaration::FIRST_ID;
-use crate::few::few_header;
+use crate::few::{few_header, few_of};
 use crate::scalar::{Octets, spell};
 use ion_meter::device::Output;
 use ion_meter::sink::Sink;

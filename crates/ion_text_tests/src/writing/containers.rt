@@ -89,3 +89,30 @@ pub const OPEN: &[Row] = &[
         b"{a:(",
     ),
 ];
+
+/// Containers and their members, each member on a line of its own.
+pub const PRETTY: &[Row] = &[
+    (
+        &[ONE, LIST, END, SEXP, END, STRUCT, END, A],
+        b"1\n[]\n()\n{}\na\n",
+    ),
+    (
+        &[
+            STRUCT,
+            (Some(b"name"), &[], Part::Text(b"probe 7")),
+            (Some(b"sizes"), &[], Part::Begin(Kind::List)),
+            ONE,
+            (None, ANNOTATIONS, Part::Int(b"2")),
+            END,
+            (Some(b"none"), UNKNOWN, Part::Begin(Kind::List)),
+            END,
+            (Some(b"sum"), &[], Part::Begin(Kind::Sexp)),
+            (None, &[], Part::Symbol(b"+")),
+            ONE,
+            END,
+            END,
+        ],
+        b"{\n  name: \"probe 7\",\n  sizes: [\n    1,\n    a::'b c'::2\n  ],\n  none: $0::[],\n  sum: (\n    '+'\n    1\n  )\n}\n",
+    ),
+    (&[SEXP, LIST, STRUCT, END, SEXP], b"(\n  [\n    {},\n    ("),
+];

@@ -2,6 +2,7 @@
 
 use super::{Part, expect_text, put_to};
 use ion_meter::fault::Fault;
+use ion_text_out::layout::Canonical;
 use std::io;
 use std::io::Write;
 use std::test::Fail;
@@ -70,7 +71,13 @@ fn answers_what_a_device_fails_by(rt: HostRuntime) -> Result<(), Fail> {
             taken: Vec::new(rt.alloc()),
             room,
         };
-        let device = put_to(&rt, rt.alloc(), device, &steps, Err(Fault::WriteFault));
+        let device = put_to::<Canonical, Short>(
+            &rt,
+            rt.alloc(),
+            device,
+            &steps,
+            Err(Fault::WriteFault),
+        );
         assert_eq!(rt; device.taken.len(), room);
         assert!(rt; whole.as_slice().starts_with(device.taken.as_slice()));
     }

@@ -12,7 +12,7 @@ returns-in-Err g c =
       cause = rw c.in-Err.is at c.put_first.ensures.cause;
       passed = c.put_first.ensures.passed;
       puts = λ well.
-          item_first (shown c.args.kinds.now c.args.empty) (item_of g.N.Names.text c.args.item.now) (raw_head c.args.head.now) c.requires.head c.in-Err.is (c.put_first.ensures.puts well);
+          item_first g.L.Layout.layout (shown c.args.kinds.now c.args.empty) (item_of g.N.Names.text c.args.item.now) (raw_head c.args.head.now) c.requires.head c.in-Err.is (c.put_first.ensures.puts well);
     }
 
 pub returns-in-Err-put_middle : goal.returns-in-Err-put_middle
@@ -23,7 +23,7 @@ returns-in-Err-put_middle g c =
       cause = rw c.in-Err-put_middle.is at c.put_middle.ensures.cause;
       passed = λ f failed. cc (sym sound ∙ failed);
       puts = λ well.
-          item_middle (shown c.args.kinds.now c.args.empty) (item_of g.N.Names.text c.args.item.now) (raw_head c.args.head.now) c.requires.head c.in_default.is (c.put_first.ensures.puts well)
+          item_middle g.L.Layout.layout (shown c.args.kinds.now c.args.empty) (item_of g.N.Names.text c.args.item.now) (raw_head c.args.head.now) c.requires.head c.in_default.is (c.put_first.ensures.puts well)
           c.in-Err-put_middle.is c.put_middle.ensures;
     }
 
@@ -35,7 +35,7 @@ returns g c =
       cause = (c.put_last.ensures c.args.empty).cause;
       passed = λ f failed. cc (sym sound ∙ failed);
       puts = λ well.
-          item_last (shown c.args.kinds.now c.args.empty) (item_of g.N.Names.text c.args.item.now) (raw_head c.args.head.now) c.requires.head c.in_default.is (c.put_first.ensures.puts well)
+          item_last g.L.Layout.layout (shown c.args.kinds.now c.args.empty) (item_of g.N.Names.text c.args.item.now) (raw_head c.args.head.now) c.requires.head c.in_default.is (c.put_first.ensures.puts well)
           c.in_default-put_middle.is c.put_middle.ensures (c.put_last.ensures c.args.empty);
     }
 

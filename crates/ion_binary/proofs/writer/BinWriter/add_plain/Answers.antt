@@ -1,30 +1,8 @@
-use Rattle.std.proofs.Common.{Option, subst, sym, arith}
-use Rattle.std.proofs.lemmas.Grind.{common_steps}
+use Rattle.std.proofs.Common.{Option, subst, sym}
 use Rattle.ion_value.specs.declared.plain_item.TextAt.{TextAt}
 use Rattle.ion_binary.specs.Plain.{TakesPlain, as_item, as_pair, with_note}
 use Rattle.ion_binary.proofs.PlainAdded.{adds-taken}
 use Rattle.ion_binary.proofs.writer.BinWriter.add_plain.Goals as goal
-
-pub add_octet-requires-in-Bool-clause-known : goal.add_octet-requires-in-Bool-clause-known
-add_octet-requires-in-Bool-clause-known g c = grind (arith, common_steps) steps 400000
-
-pub add_octet-requires-clause-whole : goal.add_octet-requires-clause-whole
-add_octet-requires-clause-whole g c = grind (arith, common_steps) steps 400000
-
-pub add_octet-requires-clause-known : goal.add_octet-requires-clause-known
-add_octet-requires-clause-known g c = grind (arith, common_steps) steps 400000
-
-pub add_octet-requires-in-Bool-clause-whole : goal.add_octet-requires-in-Bool-clause-whole
-add_octet-requires-in-Bool-clause-whole g c = grind (arith, common_steps) steps 400000
-
-pub add_symbol-requires-clause-can_take : goal.add_symbol-requires-clause-can_take
-add_symbol-requires-clause-can_take g c = grind (arith, common_steps) steps 400000
-
-pub add_octet-requires-clause-can_take : goal.add_octet-requires-clause-can_take
-add_octet-requires-clause-can_take g c = grind (arith, common_steps) steps 400000
-
-pub add_decimal-requires-clause-can_take : goal.add_decimal-requires-clause-can_take
-add_decimal-requires-clause-can_take g c = grind (arith, common_steps) steps 400000
 
 pub returns-in-Some : goal.returns-in-Some
 returns-in-Some g c =

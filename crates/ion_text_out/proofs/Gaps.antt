@@ -1,0 +1,115 @@
+-- What stands between parts: which it is, how long, and how its blanks are put.
+use Rattle.std.proofs.Common.{◌≡◌, ℕ, suc, ◌+◌, ◌-◌, ◌*◌, ◌<◌, ◌≤◌, Bool, true, false, List, [], ◌∷◌, ◌++◌, length, take, Option, Some, None, refl, sym, subst, ap, ◌∙◌, arith, append_assoc}
+use Rattle.std.specs.Prelude.{replicate, reverse, slice_get, codes}
+use Rattle.std.proofs.lemmas.List.{length-append, length-map, length-replicate, length-reverse, replicate-append-replicate, take-replicate}
+use Rattle.ion_meter.specs.Windows.{Outgoing}
+use Rattle.ion_value.specs.declared.ion_type.Kind.{Kind}
+use Rattle.ion_value.specs.declared.ion_type.Kind.TheVariants as kind
+use Rattle.ion_text_out.specs.declared.layout.Gap.{Gap}
+use Rattle.ion_text_out.specs.Layout.{Layout, new_line}
+use Rattle.ion_text_out.specs.Lane.{marked, plain_front}
+use Rattle.ion_text_out.specs.Text.{before_item}
+use Rattle.ion_text_out.specs.Writing.{before_end, byte_in, gap_text, innermost, line_in, shown, shown_in}
+
+-- ---- before a member, and before a bracket that closes
+
+item_in : (layout : Layout) (kinds : List Kind) (empty : Bool) (kind : Kind) → slice_get kinds 0 ≡ Some kind
+    → before_item layout (shown_in kinds empty) ≡ layout.before_member kind empty (length kinds)
+item_in layout [] empty kind is = absurd (cc is)
+item_in layout (k ∷ kinds) empty kind is =
+    ap (λ n. layout.before_member k empty (suc n)) (length-map kinds (λ x. (x, false))) ∙ ap (λ x. layout.before_member x empty (suc (length kinds))) (cc is)
+
+-- before a member of the innermost container
+pub before_some : (layout : Layout) (kinds : List Kind) (empty : Bool) (kind : Kind) → innermost kinds ≡ Some kind
+    → layout.before_member kind empty (length kinds) ≡ before_item layout (shown kinds empty)
+before_some layout kinds empty kind is =
+    sym (item_in layout (reverse kinds) empty kind is ∙ ap (λ n. layout.before_member kind empty n) (length-reverse kinds))
+
+item_none : (layout : Layout) (kinds : List Kind) (empty : Bool) → slice_get kinds 0 ≡ None → before_item layout (shown_in kinds empty) ≡ []
+item_none layout [] empty is = refl
+item_none layout (k ∷ kinds) empty is = absurd (cc is)
+
+-- where none is open
+pub before_none : (layout : Layout) (kinds : List Kind) (empty : Bool) → innermost kinds ≡ None → [] ≡ before_item layout (shown kinds empty)
+before_none layout kinds empty is = sym (item_none layout (reverse kinds) empty is)
+
+end_in : (layout : Layout) (kinds : List Kind) (empty : Bool) → 0 < length kinds → before_end layout (shown_in kinds empty) ≡ layout.before_closer empty (length kinds - 1)
+end_in layout [] empty some = absurd (omega (arith, some))
+end_in layout (k ∷ kinds) empty some = ap (λ n. layout.before_closer empty n) (length-map kinds (λ x. (x, false)) ∙ omega arith)
+
+-- before the bracket of the innermost
+pub end_some : (layout : Layout) (kinds : List Kind) (empty : Bool) → 0 < length kinds → layout.before_closer empty (length kinds - 1) ≡ before_end layout (shown kinds empty)
+end_some layout kinds empty some =
+    let same = length-reverse kinds in
+    sym (end_in layout (reverse kinds) empty (omega (arith, same, some)) ∙ ap (λ n. layout.before_closer empty (n - 1)) same)
+
+end_none_in : (layout : Layout) (kinds : List Kind) (empty : Bool) → length kinds ≡ 0 → [] ≡ before_end layout (shown_in kinds empty)
+end_none_in layout [] empty none = refl
+end_none_in layout (k ∷ kinds) empty none = absurd (omega (arith, none))
+
+pub end_none : (layout : Layout) (kinds : List Kind) (empty : Bool) → length kinds ≡ 0 → [] ≡ before_end layout (shown kinds empty)
+end_none layout kinds empty none = end_none_in layout (reverse kinds) empty (length-reverse kinds ∙ none)
+
+-- ---- lengths
+
+pub line-length : (depth : ℕ) → length (new_line depth) ≡ 1 + 2 * depth
+line-length depth = let blanks = length-replicate {A = ℕ} (2 * depth) 32 in omega (arith, blanks)
+
+byte-length : (mark : Option ℕ) → length (byte_in mark) ≤ 1
+byte-length None = omega arith
+byte-length (Some b) = omega arith
+
+gap_of-length : (mark line : Option ℕ) (n : ℕ) → length (line_in line) ≤ n → length (byte_in mark ++ line_in line) ≤ 1 + n
+gap_of-length mark line n few =
+    let one = byte-length mark in
+    let both = length-append (byte_in mark) (line_in line) in
+    omega (arith, few, one, both)
+
+-- what has no new line
+pub gap-short : (gap : Gap) → gap.line ≡ None → length (gap_text gap) ≤ 1
+gap-short gap is = rw is (gap_of-length gap.mark None 0 (omega arith))
+
+-- and what has one
+pub gap-long : (gap : Gap) (depth : ℕ) → gap.line ≡ Some depth → length (gap_text gap) ≤ 1 + (1 + 2 * depth)
+gap-long gap depth is = rw is (gap_of-length gap.mark (Some depth) (1 + 2 * depth) (omega (arith, line-length depth)))
+
+within_in : (layout : Layout) (kinds : List Kind) (empty : Bool) (room n : ℕ) → length kinds ≡ n
+    → ((kind : Kind) (first : Bool) → length (layout.before_member kind first n) + length layout.after_name + 3 ≤ room)
+    → length (before_item layout (shown_in kinds empty)) + length layout.after_name + 3 ≤ room
+within_in layout [] empty room n same fits = let any = fits kind.List true in omega (arith, any)
+within_in layout (k ∷ kinds) empty room n same fits =
+    subst (λ (l : List ℕ). length l + length layout.after_name + 3 ≤ room)
+    (sym (item_in layout (k ∷ kinds) empty k refl ∙ ap (λ m. layout.before_member k empty m) same)) (fits k empty)
+
+-- what stands before a value is within what may stand before one
+pub item-within : (layout : Layout) (kinds : List Kind) (empty : Bool) (room : ℕ)
+    → ((kind : Kind) (first : Bool) → length (layout.before_member kind first (length kinds)) + length layout.after_name + 3 ≤ room)
+    → length (before_item layout (shown kinds empty)) + length layout.after_name + 3 ≤ room
+item-within layout kinds empty room fits = within_in layout (reverse kinds) empty room (length kinds) (length-reverse kinds) fits
+
+marked-length : (mark text : List ℕ) → length (marked mark text) ≤ length text + length mark
+marked-length mark [] = omega arith
+marked-length mark (b ∷ bytes) = let both = length-append bytes mark in omega (arith, both)
+
+-- a name and annotations, with what stands after them
+pub front-length : (layout : Layout) (name note : List ℕ) → length (plain_front layout name note) ≤ length name + length note + length layout.after_name + 2
+front-length layout name note =
+    let first = marked-length layout.after_name name in
+    let second = marked-length (codes "::") note in
+    let both = length-append (marked layout.after_name name) (marked (codes "::") note) in
+    omega (arith, first, second, both)
+
+-- ---- blanks, by blocks of 64
+
+pub blanks_then : (left : ℕ) → 32 < left → replicate {A = ℕ} (2 * left) 32 ≡ replicate {A = ℕ} 64 32 ++ replicate {A = ℕ} (2 * (left - 32)) 32
+blanks_then left more =
+    let same : 64 + 2 * (left - 32) ≡ 2 * left = omega (arith, more) in
+    sym (replicate-append-replicate {A = ℕ} 64 (2 * (left - 32)) 32 ∙ ap (λ n. replicate {A = ℕ} n 32) same)
+
+pub blanks_last : (left : ℕ) → left ≤ 32 → take {A = ℕ} (2 * left) (replicate {A = ℕ} 64 32) ≡ replicate {A = ℕ} (2 * left) 32
+blanks_last left few = take-replicate {X = ℕ} (2 * left) 64 32 (omega (arith, few))
+
+-- what is put after some of it, and then the rest
+pub put_before : {O : Type 0} (now new : Outgoing O) (first rest : List ℕ) → new ≡ record now { pending = now.pending ++ first }
+    → record new { pending = new.pending ++ rest } ≡ record now { pending = now.pending ++ (first ++ rest) }
+put_before now new first rest put = rw put (ap (λ (l : List ℕ). record now { pending = l }) (append_assoc now.pending first rest))

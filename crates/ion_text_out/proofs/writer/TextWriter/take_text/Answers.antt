@@ -1,5 +1,0 @@
-use Rattle.std.proofs.Common.{append-nil}
-use Rattle.ion_text_out.proofs.writer.TextWriter.take_text.Goals as goal
-
-pub returns : goal.returns
-returns g c = rw (append-nil c.args.text.now) at c.take_marked.ensures

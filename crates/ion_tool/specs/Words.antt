@@ -18,7 +18,7 @@ use Rattle.ion_meter.specs.Rules.{strict}
 use Rattle.ion_transcode.specs.declared.to.Form.{Form}
 use Rattle.ion_transcode.specs.declared.to.Form.TheVariants as form
 use Rattle.ion_tool.specs.declared.words.Action.{Action}
-use Rattle.ion_tool.specs.declared.words.Action.TheVariants.{Show, Check, Convert}
+use Rattle.ion_tool.specs.declared.words.Action.TheVariants.{Show, ShowPretty, Check, Convert, ConvertPretty}
 use Rattle.ion_tool.specs.declared.words.Task.{Task}
 use Rattle.ion_tool.specs.declared.words.Request.{Request}
 use Rattle.ion_tool.specs.declared.words.Request.TheVariants.{Run, Help, Usage}
@@ -34,6 +34,10 @@ form_rule = record (new_rule (codes "to")) { long = Some (codes "to"); value_nam
 -- `--catalog FILE`
 abbrev pub catalog_rule : Rule
 catalog_rule = record (new_rule (codes "catalog")) { long = Some (codes "catalog"); value_names = 1 }
+
+-- `--pretty`
+abbrev pub pretty_rule : Rule
+pretty_rule = record (new_rule (codes "pretty")) { long = Some (codes "pretty"); action = Some SetTrue }
 
 -- `--floats`
 abbrev pub floats_rule : Rule
@@ -60,17 +64,19 @@ action_app app = with_rule (with_limits (with_rule (with_rule app floats_rule) c
 abbrev pub bare_app : App
 bare_app = let a = new_app (codes "ion") in record a { top = record a.top { no_binary_name = true; subcommand_required = true; has_version = true } }
 
--- `ion show`, `ion check`, `ion convert [--to FORM]`
+-- `ion show [--pretty]`, `ion check`, `ion convert [--to FORM] [--pretty]`
 abbrev pub ion_app : App
 ion_app =
-    with_subcommand (with_subcommand (with_subcommand bare_app (action_app (new_app (codes "show"))).top) (action_app (new_app (codes "check"))).top)
-    (action_app (with_rule (new_app (codes "convert")) form_rule)).top
+    with_subcommand (with_subcommand (with_subcommand bare_app (action_app (with_rule (new_app (codes "show")) pretty_rule)).top) (action_app (new_app (codes "check"))).top)
+    (action_app (with_rule (with_rule (new_app (codes "convert")) form_rule) pretty_rule)).top
 
 -- the subcommand for an action
 abbrev pub action_name : Action → Text
 action_name Show = codes "show"
+action_name ShowPretty = codes "show"
 action_name Check = codes "check"
 action_name (Convert to) = codes "convert"
+action_name ConvertPretty = codes "convert"
 
 -- the word for a form
 abbrev pub form_name : Form → Text
@@ -80,8 +86,18 @@ form_name form.Binary = codes "binary"
 -- the word that `--to` has for an action, where that names a form
 abbrev pub form_word : Action → Option Text
 form_word Show = None
+form_word ShowPretty = None
 form_word Check = None
 form_word (Convert to) = option_map form_name to
+form_word ConvertPretty = Some (form_name form.Text)
+
+-- whether `--pretty` stands for an action
+abbrev pub is_pretty : Action → Bool
+is_pretty Show = false
+is_pretty ShowPretty = true
+is_pretty Check = false
+is_pretty (Convert to) = false
+is_pretty ConvertPretty = true
 
 -- the number of a text that the option takes: digits, of a number that is at most this one
 abbrev pub number_in : ℕ → Text → Option ℕ
@@ -110,6 +126,10 @@ is_set (Some word) = bytes_eq word (codes "true")
 abbrev pub profile_in : List Row → Profile
 profile_in rows = record { floats = is_set (first_of (codes "floats") rows) }
 
+-- whether a subcommand is given `--pretty`
+abbrev pub pretty_in : List Row → Bool
+pretty_in rows = is_set (first_of (codes "pretty") rows)
+
 -- the word of `--to`, where a subcommand is given one
 abbrev pub form_in : List Row → Option Text
 form_in rows = first_of (codes "to") rows
@@ -136,16 +156,19 @@ has_one_form (Convert None) (first ∷ second ∷ rest) = false
 has_one_form (Convert None) (first ∷ []) = true
 has_one_form (Convert None) [] = true
 has_one_form (Convert (Some form)) files = true
+has_one_form ConvertPretty files = true
 has_one_form Show files = true
+has_one_form ShowPretty files = true
 has_one_form Check files = true
 
--- `clap` finds no fault in the words, and they name the subcommand and the form for the task's action, and its profile, with these limits, this catalogue and
+-- `clap` finds no fault in the words, and they name the subcommand, the form and the layout for the task's action, and its profile, with these limits, this catalogue and
 -- these words for files
 pub record Names (words : List Text) (task : Task) (limits : Limits) (catalog : Option Text) (files : List Text) : Type 0 where
   pub rows : List Row
   pub faultless : fault_of ion_app words ≡ []
   pub named : subcommand_of ion_app words ≡ Some (action_name task.action, rows)
   pub formed : form_in rows ≡ form_word task.action
+  pub laid_out : pretty_in rows ≡ is_pretty task.action
   pub profiled : profile_in rows ≡ task.profile
   pub limited : limits_in rows ≡ Some limits
   pub catalogued : catalog_in rows ≡ catalog
@@ -165,7 +188,7 @@ AsksRun words = (task : Task) × (limits : Limits) × (catalog : Option Text) ×
 abbrev pub IsHelp : List Text → Type 0
 IsHelp words = IsAmong DisplayHelp (fault_of ion_app words) ⊎ IsAmong DisplayVersion (fault_of ion_app words)
 
--- the words are wrong: `clap` may find a fault in them that asks for neither, or it finds none and `--to` names no form, or is not there for several files
+-- the words are wrong: `clap` may find a fault in them that asks for neither, or it finds none and `--to` names no form, or is not there for several files, or not text with `--pretty`
 abbrev pub IsUsage : List Text → Type 0
 IsUsage words =
     (fault_of ion_app words ≡ []) ⊎ ((kind : ErrorKind) × IsAmong kind (fault_of ion_app words) × (kind ≢ DisplayHelp) × (kind ≢ DisplayVersion))

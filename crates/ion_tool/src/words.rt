@@ -1,9 +1,9 @@
 //! The words of the command line.
 ghost use Rattle.std.specs.Prelude.{◌≡◌, ◌≢◌, ◌≤◌, false, true, IfOk, IfSome, OnErr, None, List, [], Some, codes, map, option_map, string_bytes};
-ghost use Rattle.clap.specs.Words.{Row, app_of, found_of, kind_of, rows_of, rule_of, fault_of, FailsBy, new_rule, subcommand_of, subcommand_rows_of, with_subcommand};
+ghost use Rattle.clap.specs.Words.{Row, app_of, first_of, found_of, kind_of, rows_of, rule_of, fault_of, FailsBy, new_app, new_rule, subcommand_of, subcommand_rows_of, with_rule, with_subcommand};
 ghost use Rattle.clap.specs.declared.builder.command.Command.TheViews.{out-Command};
 ghost use Rattle.ion_meter.specs.Limits.{AreChecked};
-ghost use Rattle.ion_tool.specs.Words.{action_app, with_limits, action_name, all_named, bare_app, catalog_in, catalog_rule, file_for, files_in, files_rule, form_in, has_one_form, form_rule, form_word, ion_app, limit_in, limit_rule, limits_in, floats_rule, profile_in, Asks, AnswersError, IsRequestFor};
+ghost use Rattle.ion_tool.specs.Words.{action_app, with_limits, action_name, all_named, bare_app, catalog_in, catalog_rule, file_for, files_in, files_rule, form_in, has_one_form, form_rule, form_word, ion_app, limit_in, limit_rule, limits_in, floats_rule, is_pretty, is_set, pretty_in, pretty_rule, profile_in, Asks, AnswersError, IsRequestFor};
 
 use clap::builder::ValueParser;
 use clap::error::ErrorKind;
@@ -18,11 +18,15 @@ use std::alloc::{AllocError, Global};
 pub enum Action {
     /// Its canonical text is written.
     Show,
+    /// Its text for people is written, each member of a container on a line of its own.
+    ShowPretty,
     /// It is read, and the number of its values is written.
     Check,
     /// It is written in this form, or where none is named in the other one: text as binary, and
     /// binary as text.
     Convert(Option<Form>),
+    /// It is written in the form that is named, text, as text for people.
+    ConvertPretty,
 }
 
 /// What is done with the stream, and which values of Ion it may have.
@@ -74,8 +78,9 @@ const USAGE: &str = "ion <show|check|convert> [OPTIONS] [FILE]...
        as in: ion show data.ion";
 
 /// What is said of wrong words of which `clap` says nothing: it takes any word after `--to`, and
-/// several files without that option.
-const WRONG: &str = "error: '--to <FORM>' takes text or binary; to convert several files it is needed
+/// several files or `--pretty` without that option.
+const WRONG: &str = "error: '--to <FORM>' takes text or binary; to convert several files it is needed,
+and '--pretty' needs '--to text'
 
 For more information, try '--help'.
 ";
@@ -120,6 +125,17 @@ fn form_arg<'a>(alloc: Global) -> Arg<'a>
         .long("to")
         .value_name("FORM")
         .help("Form to write, text or binary [default: the other one]")
+}
+
+/// The option `--pretty`.
+fn pretty_arg<'a>(alloc: Global) -> Arg<'a>
+    ensures rule { rule_of result ≡ pretty_rule }
+    ensures own { result.global ≡ false }
+{
+    Arg::new(alloc, "pretty")
+        .long("pretty")
+        .action(ArgAction::SetTrue)
+        .help("Write each member of a container on a line of its own")
 }
 
 /// The option `--catalog FILE`.
@@ -224,13 +240,32 @@ fn with_action<'a>(
     command.subcommand(action)
 }
 
+/// The subcommand that shows, with the options of its own.
+fn show_command<'a>(alloc: Global) -> Result<Command<'a>, AllocError>
+    ensures app { IfOk result (λ c. app_of c ≡ with_rule (new_app (codes "show")) pretty_rule) }
+    ensures own { IfOk result (λ c. (out-Command c).has_globals ≡ false) }
+{
+    Command::new(alloc, "show").arg(pretty_arg(alloc))
+}
+
+/// The subcommand that converts, with the options of its own.
+fn convert_command<'a>(alloc: Global) -> Result<Command<'a>, AllocError>
+    ensures app { IfOk result (λ c. app_of c
+        ≡ with_rule (with_rule (new_app (codes "convert")) form_rule) pretty_rule) }
+    ensures own { IfOk result (λ c. (out-Command c).has_globals ≡ false) }
+{
+    Command::new(alloc, "convert")
+        .arg(form_arg(alloc))?
+        .arg(pretty_arg(alloc))
+}
+
 /// The whole command.
 fn command<'a>(alloc: Global) -> Result<Command<'a>, AllocError>
     ensures app { IfOk result (λ c. app_of c ≡ ion_app) }
 {
     let about = "Writes the values as canonical Ion text, a line each";
     let example = "Example: ion show data.ion";
-    let show = Command::new(alloc, "show");
+    let show = show_command(alloc)?;
     let command = with_action(alloc, top_command(alloc), show, about, example, false)?;
     let about = "Reads the whole stream and counts its values, as in: ok 6 values";
     let example = "Example: ion check < data.10n";
@@ -238,7 +273,7 @@ fn command<'a>(alloc: Global) -> Result<Command<'a>, AllocError>
     let command = with_action(alloc, command, check, about, example, false)?;
     let about = "Writes the values in the other form: text as binary, binary as text";
     let example = "Example: ion convert --to binary data.ion > data.10n";
-    let convert = Command::new(alloc, "convert").arg(form_arg(alloc))?;
+    let convert = convert_command(alloc)?;
     with_action(alloc, command, convert, about, example, true)?.bin_name("ion")
 }
 
@@ -350,30 +385,33 @@ fn limits_of(options: &ArgMatches<'_>) -> Option<Limits>
     })
 }
 
-/// Which values a subcommand accepts: `clap` says "true" where `--floats` stands, and else "false".
-fn profile_of(options: &ArgMatches<'_>) -> Profile
-    ensures { result ≡ profile_in (rows_of (found_of options.now)) }
+/// Whether the option of this name stands, which takes no word: `clap` says "true" where it does, and
+/// else "false", or nothing of a subcommand without that option.
+fn is_set(options: &ArgMatches<'_>, name: &str) -> bool
+    ensures { result ≡ is_set (first_of name.now (rows_of (found_of options.now))) }
 {
-    let floats = match options.get_str("floats") {
+    match options.get_str(name) {
         Some(word) => word == "true",
         None => false,
-    };
-    Profile { floats }
+    }
 }
 
-/// The action that a subcommand stands for, with the word that `--to` gives it.
-fn action_of(name: &str, form: Option<&str>) -> Option<Action>
+/// The action that a subcommand stands for, with the word that `--to` gives it, and where `--pretty`
+/// stands.
+fn action_of(name: &str, form: Option<&str>, pretty: bool) -> Option<Action>
     ensures some { IfSome result (λ a. (name.now ≡ action_name a)
-        × (option_map (λ s. s.now) form.entry ≡ form_word a)) }
+        × (option_map (λ s. s.now) form.entry ≡ form_word a) × (pretty ≡ is_pretty a)) }
     ensures none { result ≡ None → (a : Action) → name.now ≡ action_name a
-        → option_map (λ s. s.now) form.entry ≢ form_word a }
+        → option_map (λ s. s.now) form.entry ≡ form_word a → pretty ≢ is_pretty a }
 {
-    match (name, form) {
-        ("show", None) => Some(Action::Show),
-        ("check", None) => Some(Action::Check),
-        ("convert", None) => Some(Action::Convert(None)),
-        ("convert", Some("text")) => Some(Action::Convert(Some(Form::Text))),
-        ("convert", Some("binary")) => Some(Action::Convert(Some(Form::Binary))),
+    match (name, form, pretty) {
+        ("show", None, false) => Some(Action::Show),
+        ("show", None, true) => Some(Action::ShowPretty),
+        ("check", None, false) => Some(Action::Check),
+        ("convert", None, false) => Some(Action::Convert(None)),
+        ("convert", Some("text"), false) => Some(Action::Convert(Some(Form::Text))),
+        ("convert", Some("text"), true) => Some(Action::ConvertPretty),
+        ("convert", Some("binary"), false) => Some(Action::Convert(Some(Form::Binary))),
         _ => None,
     }
 }
@@ -403,6 +441,7 @@ fn asked_by<'m, 'a>(matches: &'m ArgMatches<'a>) -> Option<Asked<'m, 'a>>
     ensures some { IfSome result (λ a. (rows : List Row)
         × (subcommand_rows_of matches.now ≡ Some (action_name a.task.action, rows))
         × (form_in rows ≡ form_word a.task.action)
+        × (pretty_in rows ≡ is_pretty a.task.action)
         × (profile_in rows ≡ a.task.profile)
         × (limits_in rows ≡ Some a.limits) × AreChecked a.limits
         × (catalog_in rows ≡ option_map (λ s. s.now) a.catalog)
@@ -411,11 +450,13 @@ fn asked_by<'m, 'a>(matches: &'m ArgMatches<'a>) -> Option<Asked<'m, 'a>>
     ensures none { result ≡ None → (action : Action) (rows : List Row)
         → subcommand_rows_of matches.now ≡ Some (action_name action, rows)
         → form_in rows ≡ form_word action
+        → pretty_in rows ≡ is_pretty action
         → has_one_form action (files_in rows) ≡ true
         → limits_in rows ≡ None }
 {
     let (name, options) = matches.subcommand()?;
-    let action = action_of(name, options.get_str("to"))?;
+    let pretty = is_set(options, "pretty");
+    let action = action_of(name, options.get_str("to"), pretty)?;
     let limits = limits_of(options)?;
     let files = options.get_strs("FILE");
     if !has_one_form(action, files) {
@@ -423,7 +464,9 @@ fn asked_by<'m, 'a>(matches: &'m ArgMatches<'a>) -> Option<Asked<'m, 'a>>
     }
     let task = Task {
         action,
-        profile: profile_of(options),
+        profile: Profile {
+            floats: is_set(options, "floats"),
+        },
     };
     let catalog = options.get_str("catalog");
     Some(Asked {

@@ -23,3 +23,13 @@ pub returns-in-Convert-clause-answered : goal.returns-in-Convert-clause-answered
 returns-in-Convert-clause-answered g c i o =
     written (label_of (option_map (λ s. s.now) c.args.label)) c.args.task (λ v text. rw c.in-Convert.is refl) c.args.catalog.now c.args.limits (g.I.Input.rest c.args.input) (g.O.Output.written c.args.out) (g.O.Output.written c.run_stream-in-Convert.result.2) (g.O.Output.observable c.args.out) o
     c.run_stream-in-Convert.result.0 (c.run_stream-in-Convert.ensures.transcoded i)
+
+pub returns-in-ShowPretty-clause-answered : goal.returns-in-ShowPretty-clause-answered
+returns-in-ShowPretty-clause-answered g c i o =
+    written (label_of (option_map (λ s. s.now) c.args.label)) c.args.task (λ v text. rw c.in-ShowPretty.is refl) c.args.catalog.now c.args.limits (g.I.Input.rest c.args.input) (g.O.Output.written c.args.out) (g.O.Output.written c.run_stream-in-ShowPretty.result.2) (g.O.Output.observable c.args.out) o
+    c.run_stream-in-ShowPretty.result.0 (c.run_stream-in-ShowPretty.ensures.transcoded i)
+
+pub returns-in-ConvertPretty-clause-answered : goal.returns-in-ConvertPretty-clause-answered
+returns-in-ConvertPretty-clause-answered g c i o =
+    written (label_of (option_map (λ s. s.now) c.args.label)) c.args.task (λ v text. rw c.in-ConvertPretty.is refl) c.args.catalog.now c.args.limits (g.I.Input.rest c.args.input) (g.O.Output.written c.args.out) (g.O.Output.written c.run_stream-in-ConvertPretty.result.2) (g.O.Output.observable c.args.out) o
+    c.run_stream-in-ConvertPretty.result.0 (c.run_stream-in-ConvertPretty.ensures.transcoded i)

@@ -1,7 +1,7 @@
-use Rattle.std.proofs.Common.{[], rules, unwrap_or, ◌≡◌, Some, ap, sym, ◌∙◌, codes}
+use Rattle.std.proofs.Common.{[], Bool, rules, unwrap_or, ◌≡◌, Some, ap, sym, ◌∙◌, codes}
 use Rattle.clap.proofs.WalkLemmas.{first_value-rows, raw_values-rows}
 use Rattle.clap.specs.Words.{found_of, rows_of, subcommand_rows_of}
-use Rattle.ion_tool.specs.Words.{action_name, form_in}
+use Rattle.ion_tool.specs.Words.{action_name, form_in, pretty_in}
 use Rattle.ion_tool.proofs.OneRun.{some_is}
 use Rattle.ion_tool.proofs.words.asked_by.Goals as goal
 
@@ -11,7 +11,8 @@ returns-clause-some c =
       rows_of found,
       search rules,
       sym (first_value-rows found (codes "to")) ∙ (sym c.get_str.ensures ∙ c.in_ok-action.ensures.some.1),
-      sym c.profile_of.ensures,
+      sym c.is_set-pretty.ensures ∙ c.in_ok-action.ensures.some.2,
+      sym (ap (λ (b : Bool). record { floats = b }) c.is_set.ensures),
       search rules,
       search rules,
       sym (c.get_str-catalog.ensures ∙ first_value-rows found (codes "catalog")),
@@ -21,9 +22,10 @@ returns-clause-some c =
 
 -- no action has this name and this form
 pub returns-in_err-action-clause-none : goal.returns-in_err-action-clause-none
-returns-in_err-action-clause-none c none action rows named formed =
+returns-in_err-action-clause-none c none action rows named formed laid_out =
     let found = found_of c.in_ok-name.options.now in
     let mine : subcommand_rows_of c.args.matches.now ≡ Some (c.in_ok-name.name.now, rows_of found) = search rules in
     let both : (c.in_ok-name.name.now, rows_of found) ≡ (action_name action, rows) = some_is (sym mine ∙ named) in
     let given = first_value-rows found (codes "to") ∙ (ap form_in (ap (λ p. p.1) both) ∙ formed) in
-    absurd (c.action_of.ensures.none c.in_err-action.was action (ap (λ p. p.0) both) (c.get_str.ensures ∙ given))
+    let flag = c.is_set-pretty.ensures ∙ (ap pretty_in (ap (λ p. p.1) both) ∙ laid_out) in
+    absurd (c.action_of.ensures.none c.in_err-action.was action (ap (λ p. p.0) both) (c.get_str.ensures ∙ given) flag)

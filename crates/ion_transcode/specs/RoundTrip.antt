@@ -115,15 +115,16 @@ ShowOnce =
     → HasVerdictWith profile catalog limits asked bytes (Accepted n) shown
     → HasVerdictWith next other wide to.Text shown (Accepted m) again → (again ≡ shown) × (m ≡ n)
 
--- a run to text by whatever layout accepts a stream of this form, counts so many values, and writes the text of these by its layout
+-- a run to text, canonical or pretty, accepts a stream of this form, counts so many values, and writes the text of these by its
+-- layout
 abbrev pub IsShown : Profile → List Shared → Limits → Form → List ℕ → ℕ → List (Top UserSymbol ℕ) → Type 0
 IsShown profile catalog limits form bytes n us =
     (target : Target) (layout : Layout) (asked : To) → IsTextBy layout target → resolved form asked ≡ Some target
     → HasVerdictWith profile catalog limits asked bytes (Accepted n) (text_by layout us)
 
--- of a stream with these user values: what was shown back is their text by this layout, and counts as many values; a run to text by
--- whatever layout over the stream itself is accepted under these limits, and shows them; and each by this layout that is accepted
--- shows what was shown back, whatever its limits and its profile are
+-- of a stream with these user values: what was shown back is their text by this layout, and counts as many values; a run to text,
+-- canonical or pretty, over the stream itself is accepted under these limits, and shows them; and each by this layout that is
+-- accepted shows what was shown back, whatever its limits and its profile are
 pub record IsShownBack (profile : Profile) (catalog : List Shared) (limits : Limits) (layout : Layout) (bytes back : List ℕ) (n m : ℕ)
     : Type 0 where
   pub tops : List (Top SymbolAt ℕ)

@@ -211,8 +211,9 @@ pub fn text_is_read()
     are_layouts();
 }
 
-/// What is shown by any layout of the text by another is what is shown of the values themselves: where
-/// text by a layout is read, the text of what is read is that of the values.
+/// What is shown of a text of values is what is shown of the values themselves: where text by any layout
+/// of white space, commas and colons (`IsLayout`) is read, the text of what is read is that of the
+/// values, by this layout and by each other.
 pub fn layouts_are_alike()
     ensures { LayoutsAreAlike }
 {
@@ -346,10 +347,10 @@ pub fn what_is_read_is_no_deeper()
     ensures { WhatIsReadIsNoDeeper }
 {}
 
-/// The text of values by any layout is read to its end under limits that the values fit, where the
-/// limit on scalars is 64 or more, and its symbols are all resolved: of all values that a user of a
-/// stream can have. No number and no timestamp has more than 64 bytes, and white space counts for no
-/// limit.
+/// The text of values by any layout (`IsLayout`) is read to its end under limits that the values fit,
+/// where the limit on scalars is 64 or more, and its symbols are all resolved: of all values that a user
+/// of a stream can have. No number and no timestamp has more than 64 bytes, and white space counts for
+/// no limit.
 pub fn each_layout_is_read_within()
     ensures { EachTextIsReadWithin }
 {
@@ -379,9 +380,9 @@ pub fn text_is_read_within()
     are_layouts();
 }
 
-/// What a run to text by any layout wrote is accepted, where its values fit the limits, and a run to text
-/// over it writes the text of its values by its own layout. Where depth is no lower and the limit on
-/// scalars is 64 or more, only texts, lobs and annotations may be too long.
+/// What a run to canonical or pretty text wrote is accepted, where its values fit the limits, and a run
+/// to either over it writes that text of its values. Where depth is no lower and the limit on scalars is
+/// 64 or more, only texts, lobs and annotations may be too long.
 pub fn each_shown_text_is_accepted()
     ensures { EachShownTextIsAccepted }
 {

@@ -3,45 +3,9 @@
  * so much more, and none after a call. To be linked with --wrap=malloc,--wrap=realloc,--wrap=free. The last line is
  * `N passed, M failed`. */
 #include "cozgelt.h"
+#include "wrapped.h"
 #include <inttypes.h>
 #include <stdio.h>
-#include <stdlib.h>
-#include <string.h>
-
-void *__real_malloc(size_t), *__real_realloc(void *, size_t);
-void __real_free(void *);
-void *__wrap_malloc(size_t), *__wrap_realloc(void *, size_t);
-void __wrap_free(void *);
-
-/* Before each block stands its length, in as many bytes as malloc aligns to. A block that moves is counted twice while it does. */
-#define HEAD 16
-static size_t held, peak;
-
-static void *kept(uint8_t *block, size_t size) {
-    if (!block) exit(3);
-    memcpy(block, &size, sizeof size);
-    held += size;
-    if (held > peak) peak = held;
-    return block + HEAD;
-}
-
-void *__wrap_malloc(size_t size) { return kept(__real_malloc(HEAD + size), size); }
-
-void *__wrap_realloc(void *block, size_t size) {
-    size_t before = 0;
-    if (block) memcpy(&before, (uint8_t *)block - HEAD, sizeof before);
-    block = kept(__real_realloc(block ? (uint8_t *)block - HEAD : 0, HEAD + size), size);
-    held -= before;
-    return block;
-}
-
-void __wrap_free(void *block) {
-    size_t size = 0;
-    if (!block) return;
-    memcpy(&size, (uint8_t *)block - HEAD, sizeof size);
-    held -= size;
-    __real_free((uint8_t *)block - HEAD);
-}
 
 static CozgeltLimits limits = COZGELT_LIMITS;
 static CozgeltAnswer answer;
@@ -81,8 +45,8 @@ static size_t peak_with(size_t size) {
     return peak;
 }
 
-/* What README counts, for a run and its catalogue. Lengths are counted, and a growing buffer may take three times its length; the
- * least that one takes is not counted, for which some kilobytes are let through. */
+/* What README counts, for a run and its catalogue: lengths, of which a growing buffer may take three times as much. The least that a
+ * buffer takes is not counted, for which some kilobytes are let through. */
 static size_t counted(void) {
     size_t lengths = 32 * (size_t)limits.depth + 3 * limits.scalar + 3 * limits.symbols;
     if (!strcmp(name, "to_binary")) lengths += limits.symbols + limits.value;

@@ -19,7 +19,7 @@ ghost use Rattle.cozgelt_c.specs.Calls.{Answers, AnswersAt, AnswersBy, AnswersWi
 ghost use Rattle.cozgelt_c.specs.Calls.{AreValid, limits_of, profile_of};
 ghost use Rattle.cozgelt_c.specs.Memory.{HoldsAtMost, call_bound, room_bound};
 
-use crate::bounded::Bounded;
+use crate::buffer::Bounded;
 use ion_meter::fault::{Fault, Reason};
 use ion_meter::limits::Limits;
 use ion_meter::meter::Meter;
@@ -31,7 +31,7 @@ use ion_transcode::run::run_with;
 use ion_transcode::to::{Summary, To};
 use std::alloc::Global;
 
-mod bounded;
+mod buffer;
 mod written;
 
 /// The limits of a call.
@@ -88,7 +88,7 @@ const STRICT: u32 = 0;
 const FLOATS: u32 = 1;
 
 // The longest room that a call counts: no process of an x86-64 has an address above it.
-const MOST_ROOM: usize = 1 << 47;
+const MOST_ROOM: usize = 0x8000_0000_0000;
 
 /// What is done with a stream: by which profile it is read, and as what it is written.
 #[derive(Clone, Copy)]

@@ -1,6 +1,6 @@
 //! The output of a call: kept while it may fit into the caller's room, and only counted beyond.
-ghost use Rattle.std.specs.Prelude.{◌≡◌, ◌≢◌, ℕ, ◌+◌, ◌^◌, ◌<◌, ◌≤◌, [], ◌++◌, length, true};
-ghost use Rattle.std.specs.Prelude.{vec_capacity, IfSome, MatchOption, Ok, Err};
+ghost use Rattle.std.specs.Prelude.{◌≡◌, ◌+◌, ◌-◌, ◌^◌, ◌<◌, ◌≤◌, [], ◌∷◌, ◌++◌, length, true};
+ghost use Rattle.std.specs.Prelude.{vec_capacity, IfSome, MatchOption};
 ghost use Rattle.ion_meter.specs.Counts.{Grows, Shrinks, IsRefused};
 
 use crate::written::Written;

@@ -1,20 +1,23 @@
--- What a run says of the size and of what was put, where the size stands before what was put.
-use Rattle.std.proofs.Common.{◌≡◌, ℕ, List, [], ◌∷◌, ◌++◌, refl, ap, ◌∙◌, sym}
+-- What a run says of what was put into a buffer, where the buffer's size stands before that.
+use Rattle.std.proofs.Common.{◌≡◌, ℕ, List, [], ◌∷◌, ◌++◌, ap, ◌∙◌, sym, subst}
+use Rattle.ion_meter.specs.declared.limits.Limits.{Limits}
+use Rattle.ion_meter.specs.declared.profile.Profile.{Profile}
+use Rattle.ion_value.specs.Outcome.{Verdict}
+use Rattle.ion_symbols.specs.Table.{Shared}
+use Rattle.ion_transcode.specs.declared.to.To.{To}
+use Rattle.ion_transcode.specs.Verdict.{HasVerdictWith, IsWrittenWith}
 
--- the first of a list, else 0
-first_of : List ℕ → ℕ
-first_of [] = 0
-first_of (x ∷ xs) = x
-
--- the others of a list
+-- a list without its first
 others_of : List ℕ → List ℕ
 others_of [] = []
 others_of (x ∷ xs) = xs
 
 -- what was written after nothing was put is what was put
-pub put_is : (most most' : ℕ) (put put' out : List ℕ) → put ≡ [] → most' ∷ put' ≡ (most ∷ put) ++ out → put' ≡ out
+put_is : (most most' : ℕ) (put put' out : List ℕ) → put ≡ [] → most' ∷ put' ≡ (most ∷ put) ++ out → put' ≡ out
 put_is most most' put put' out none written = ap others_of written ∙ ap (λ it. it ++ out) none
 
--- and the size is as it was
-pub most_is : (most most' : ℕ) (put put' out : List ℕ) → most' ∷ put' ≡ (most ∷ put) ++ out → most' ≡ most
-most_is most most' put put' out written = ap first_of written
+-- so the stream has this verdict with what was put
+pub verdict_is : (profile : Profile) (tables : List Shared) (limits : Limits) (to : To) (bytes : List ℕ) (v : Verdict) (most most' : ℕ) (put put' : List ℕ) → put ≡ []
+    → IsWrittenWith profile tables limits to bytes v (Unit {0}) (most ∷ put) (most' ∷ put') → HasVerdictWith profile tables limits to bytes v put'
+verdict_is profile tables limits to bytes v most most' put put' none it =
+    subst (λ (out : List ℕ). HasVerdictWith profile tables limits to bytes v out) (sym (put_is most most' put put' it.output none (it.written tt))) it.has_verdict

@@ -14,11 +14,11 @@ pub record Filling : Type 0 where
 
 -- so it is held: `count` is the length of what was put, and while no write has failed and that may be held, `kept` is all of it; the memory
 -- that was taken for it is never more than it may hold, which is what the meter counts
-pub record IsBounded (f : Filling) (count : ℕ) (kept : List ℕ) (capacity charged : ℕ) : Type 0 where
+pub record IsBounded (f : Filling) (count : ℕ) (kept : List ℕ) (capacity cost : ℕ) : Type 0 where
   pub counted : count ≡ length f.put
   pub whole : f.failures ≡ 0 → count ≤ f.most → kept ≡ f.put
   pub within : capacity ≤ f.most
-  pub charged : charged ≡ f.most
+  pub charged : cost ≡ f.most
 
 -- memory is given back, and at most so much was held, beside what was held before
 pub record HoldsAtMost (most : ℕ) (old new : Counts) : Type 0 where

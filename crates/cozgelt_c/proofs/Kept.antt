@@ -8,7 +8,7 @@ use Rattle.ion_transcode.specs.declared.to.To.{To}
 use Rattle.ion_transcode.specs.Verdict.{HasVerdictWith, IsWrittenWith}
 
 -- a list without its first
-others_of : List ℕ → List ℕ
+abbrev others_of : List ℕ → List ℕ
 others_of [] = []
 others_of (x ∷ xs) = xs
 

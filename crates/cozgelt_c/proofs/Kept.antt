@@ -1,5 +1,6 @@
 -- What a run says of what was put into a buffer, where the buffer's size stands before that.
-use Rattle.std.proofs.Common.{◌≡◌, ℕ, List, [], ◌∷◌, ◌++◌, ap, ◌∙◌, sym, subst}
+use Rattle.std.proofs.Common.{◌≡◌, ◌⊎◌, inl, inr, ℕ, List, [], ◌∷◌, ◌++◌, take, drop, ap, ◌∙◌, sym, subst, arith}
+use Rattle.std.proofs.lemmas.Grind.{common_steps}
 use Rattle.ion_meter.specs.declared.limits.Limits.{Limits}
 use Rattle.ion_meter.specs.declared.profile.Profile.{Profile}
 use Rattle.ion_value.specs.Outcome.{Verdict}
@@ -21,3 +22,8 @@ pub verdict_is : (profile : Profile) (tables : List Shared) (limits : Limits) (t
     → IsWrittenWith profile tables limits to bytes v (Unit {0}) (most ∷ put) (most' ∷ put') → HasVerdictWith profile tables limits to bytes v put'
 verdict_is profile tables limits to bytes v most most' put put' none it =
     subst (λ (out : List ℕ). HasVerdictWith profile tables limits to bytes v out) (sym (put_is most most' put put' it.output none (it.written tt))) it.has_verdict
+
+-- what goes into the first of two buffers, while the second is empty, and what goes into the second
+pub in_two : (front rest bytes : List ℕ) (n : ℕ) → (n ≡ 0) ⊎ (rest ≡ []) → (front ++ take n bytes) ++ (rest ++ drop n bytes) ≡ (front ++ rest) ++ bytes
+in_two front rest bytes n (inl none) = grind (arith, common_steps, none)
+in_two front rest bytes n (inr none) = grind (arith, common_steps, none)

@@ -148,8 +148,7 @@ fn leave(output: &Bounded, room: &mut [u8], answer: &mut CozgeltAnswer)
     let n = output.len();
     answer.needed = n;
     if n <= room.len() as u64 {
-        let kept = output.as_slice();
-        room[..kept.len()].copy_from_slice(kept);
+        output.copy_to(room);
     }
 }
 

@@ -1,6 +1,6 @@
 #!/usr/bin/env python3
-"""What a call of the library costs from C, Rust and Python, and a process of `ion` for the same, in processor time; and the memory
-that a call has of malloc at most, where its room is four times as long as the stream, or 4 KB.
+"""What a call of the library costs from C, Rust and Python, and a process of `ion` for the same, in processor time; and
+how many bytes a call from C, whose room has 64 MB, asks of malloc at most.
 
 usage: bench/calls.py [PROGRAM [LIBRARY]]
 

@@ -225,9 +225,8 @@ fn grow(front: &mut Vec<u8>, most: usize, count: usize)
     if free - len < more {
         return;
     }
-    if front.try_reserve_exact(more).is_err() {
-        return;
-    }
+    // Where there is no memory, all of it is asked for the second buffer.
+    let _ = front.try_reserve_exact(more);
 }
 
 /// Adds bytes to a buffer of at most this capacity. It answers false where there is no memory, or they

@@ -87,8 +87,7 @@ const STRICT: u32 = 0;
 
 const FLOATS: u32 = 1;
 
-// The longest room that is counted: all that a process of an x86-64 has addresses for, by four levels of
-// pages.
+// The longest room that is counted: 2^47 bytes, for which a process of an x86-64 has no addresses.
 const MOST_ROOM: usize = 0x8000_0000_0000;
 
 /// What is done with a stream: by which profile it is read, and as what it is written.

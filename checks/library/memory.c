@@ -28,13 +28,15 @@ static uint8_t *read_bytes(size_t length) {
 
 #define GIVEN profile, &limits, catalog, catalog_len, stream, stream_len, room, size, &answer
 
-/* One call with so much room: the most bytes that it had of malloc at once. */
-static size_t peak_with(size_t size) {
+/* One call with so much room, of which canonical text may be pretty: the most bytes that it had of malloc at once. */
+static size_t peak_with(size_t size, int pretty) {
     CozgeltAnswer none = COZGELT_ANSWER;
     uint8_t *room = __real_malloc(size + 1);
     if (!room) exit(3);
     answer = none, held = peak = 0;
-    if (!strcmp(name, "check"))
+    if (pretty)
+        cozgelt_to_pretty_with(GIVEN);
+    else if (!strcmp(name, "check"))
         cozgelt_check_with(GIVEN);
     else if (!strcmp(name, "to_text"))
         cozgelt_to_text_with(GIVEN);
@@ -61,11 +63,13 @@ int main(void) {
            getchar() == '\n') {
         limits.depth = depth, limits.scalar = n[0], limits.symbols = n[1], limits.value = n[2], limits.input = n[3];
         catalog = read_bytes(catalog_len), stream = read_bytes(stream_len);
-        size_t least = peak_with(0), needed = answer.needed;
-        judge(least <= counted(), "the peak with no room", least, counted());
-        for (int part = 2; part > 0 && needed; part--) {
-            size_t room = needed / part, most = peak_with(room);
-            judge(most <= least + room, "the peak with a room", most, least + room);
+        for (int pretty = 0; pretty <= !strcmp(name, "to_text"); pretty++) {
+            size_t least = peak_with(0, pretty), needed = answer.needed;
+            judge(least <= counted(), "the peak with no room", least, counted());
+            for (int part = 2; part > 0 && needed; part--) {
+                size_t room = needed / part, most = peak_with(room, pretty);
+                judge(most <= least + room, "the peak with a room", most, least + room);
+            }
         }
         __real_free(catalog), __real_free(stream);
     }

@@ -1,5 +1,6 @@
 #!/usr/bin/env python3
-"""What a call of the library costs from C, Rust and Python, and a process of `ion` for the same, in processor time.
+"""What a call of the library costs from C, Rust and Python, and a process of `ion` for the same, in processor time; and
+how many bytes a call from C, whose room has 64 MB, asks of malloc at most.
 
 usage: bench/calls.py [PROGRAM [LIBRARY]]
 
@@ -54,8 +55,9 @@ def of_processes(words, data, rounds):
 
 def build(library, folder):
     subprocess.run(['make', '-s', '-C', ROOT + '/bindings/c', f'OUT={folder}', f'PROVED={library}'], check=True)
-    subprocess.run(['cc', '-O2', '-I', ROOT + '/bindings/c', ROOT + '/bench/parts/calls.c', folder + '/libcozgelt.a', '-o',
-                    folder + '/calls_c'], check=True)
+    for name, more in (('calls_c', []), ('calls_memory', ['-DWRAPPED', '-Wl,--wrap=malloc,--wrap=realloc,--wrap=free'])):
+        subprocess.run(['cc', '-O2', '-I', ROOT + '/bindings/c', *more, ROOT + '/bench/parts/calls.c', folder + '/libcozgelt.a', '-o',
+                        f'{folder}/{name}'], check=True)
     os.makedirs(folder + '/rust/src')
     shutil.copy(ROOT + '/bench/parts/calls.rs', folder + '/rust/src/main.rs')
     with open(folder + '/rust/Cargo.toml', 'w') as file:
@@ -85,7 +87,7 @@ def main():
             size += len(lines[-1])
             n += 1
         long = b''.join(lines)
-        print(f'| Work | C | Rust | Python | a process |\n|---|---|---|---|---|')
+        print('| Work | C | Rust | Python | a process | memory |\n|---|---|---|---|---|---|')
         for data, rounds, runs in ((short, 20000, 100), (long, 1, 1)):
             binary = cozgelt.to_binary(data)
             for call, command, given in (('to_binary', 'convert', data), ('to_text', 'show', binary), ('check', 'check', data)):
@@ -98,7 +100,10 @@ def main():
                 cells.append(best_of(lambda: getattr(cozgelt, call)(given), rounds // 4 or 1))
                 cells.append(of_processes([program, command], given, runs))
                 length = f'{len(given):,} bytes' if len(given) < 10000 else f'{len(given) / 1e6:.1f} MB'
-                print(f'| {length}, {call} | ' + ' | '.join(map(shown, cells)) + ' |', flush=True)
+                words = [folder + '/calls_memory', call, folder + '/stream', '1']
+                peak = int(subprocess.run(words, stdout=subprocess.PIPE, check=True).stdout)
+                memory = f'{peak / 1e3:.1f} KB' if peak < 1e6 else f'{peak / 1e6:.1f} MB'
+                print(f'| {length}, {call} | ' + ' | '.join(map(shown, cells)) + f' | {memory} |', flush=True)
 
 
 if __name__ == '__main__':

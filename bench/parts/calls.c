@@ -1,5 +1,9 @@
-/* usage: calls CALL FILE ROUNDS: processor time of one call of the library, in seconds, the best of nine batches of so many. */
+/* usage: calls CALL FILE ROUNDS: processor time of one call of the library, in seconds, the best of nine batches of so many. Built with
+ * WRAPPED, the most bytes that a call has of malloc at once. */
 #include "cozgelt.h"
+#ifdef WRAPPED
+#include "../../checks/library/wrapped.h"
+#endif
 #include <stdio.h>
 #include <stdlib.h>
 #include <string.h>
@@ -27,6 +31,10 @@ int main(int words, char **word) {
         double each = (double)(clock() - start) / CLOCKS_PER_SEC / rounds;
         if (each < best) best = each;
     }
+#ifdef WRAPPED
+    printf("%zu\n", peak);
+#else
     printf("%.9f\n", best);
+#endif
     return 0;
 }

@@ -12,8 +12,8 @@
  *  - the CPU is an x86-64-v2 (SSE4.2), and the stack has 24 KB left;
  *  - no call is made from a signal handler, nor in a forked child of a process that had threads.
  *
- * A call keeps nothing. It takes memory by malloc, for the whole output too, and gives all of it back before it returns. There is
- * no state, so any number of threads may call at once.
+ * A call keeps nothing. It takes memory by malloc, for as much output as the room has too, and gives all of it back before it
+ * returns. There is no state, so any number of threads may call at once.
  *
  * The statuses 2 and 4 come where malloc gave nothing; no proof sees malloc, so that this is only tested.
  *

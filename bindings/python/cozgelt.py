@@ -120,10 +120,11 @@ def _fixed(what: str, given: _Bytes) -> bytes:
 
 
 def _call(name: str, floats: bool, stream: _Bytes, catalog: _Bytes, limits: Tuple[int, int, int, int, int],
-          times: int) -> Tuple[bytes, int]:
-    """The output, and how many values there are. times: how many times as long as the stream the output may be at the first try."""
+          writes: bool = True) -> Tuple[bytes, int]:
+    """The output, and how many values there are. The first try has room for an output as long as the stream, and for a short one in
+    any case; where that is too little, the second has as much as is needed. A call may hold as much again as its room."""
     stream, catalog = _fixed("the stream", stream), _fixed("the catalog", catalog)
-    guess = times * len(stream) + 64
+    size = max(len(stream), 1024) if writes else 0
     for number, most in zip(limits, (65535, 1 << 30, 1 << 30, 1 << 30, 1 << 48)):
         if not 0 <= number <= most:
             raise Invalid(f"{number} is no limit from 0 to {most}")
@@ -131,11 +132,12 @@ def _call(name: str, floats: bool, stream: _Bytes, catalog: _Bytes, limits: Tupl
     given = _Limits(ctypes.sizeof(_Limits), *limits)
     answer = _Answer(ctypes.sizeof(_Answer))
     while True:
-        room = ctypes.create_string_buffer(guess)
-        status = getattr(_library, name)(profile, given, catalog, len(catalog), stream, len(stream), room, guess, answer)
-        if status > 1 or answer.needed <= guess:
+        room = ctypes.create_string_buffer(size)
+        status = getattr(_library, name)(profile, given, catalog, len(catalog), stream, len(stream), room, size, answer)
+        if status > 1 or answer.needed <= size:
             break
-        guess = answer.needed
+        del room
+        size = answer.needed
     if status in (2, 4):
         raise MemoryError("no memory")
     if status == 3:
@@ -154,19 +156,19 @@ def to_text(stream: _Bytes, *, catalog: _Bytes = b"", depth: int = 64, scalar: i
             value: int = 1 << 24, input: int = 1 << 48, floats: bool = False) -> bytes:
     """The stream, text or binary, as canonical text: each value at top level is a line. catalog: a stream of shared symbol
     tables, for the imports of the other. floats: whether floats other than null.float are read."""
-    return _call("cozgelt_to_text_with", floats, stream, catalog, (depth, scalar, symbols, value, input), 2)[0]
+    return _call("cozgelt_to_text_with", floats, stream, catalog, (depth, scalar, symbols, value, input))[0]
 
 
 def to_pretty(stream: _Bytes, *, catalog: _Bytes = b"", depth: int = 64, scalar: int = 1 << 20, symbols: int = 1 << 20,
               value: int = 1 << 24, input: int = 1 << 48, floats: bool = False) -> bytes:
     """The stream, text or binary, as pretty text: each member of a container begins a line."""
-    return _call("cozgelt_to_pretty_with", floats, stream, catalog, (depth, scalar, symbols, value, input), 4)[0]
+    return _call("cozgelt_to_pretty_with", floats, stream, catalog, (depth, scalar, symbols, value, input))[0]
 
 
 def to_binary(stream: _Bytes, *, catalog: _Bytes = b"", depth: int = 64, scalar: int = 1 << 20, symbols: int = 1 << 20,
               value: int = 1 << 24, input: int = 1 << 48, floats: bool = False) -> bytes:
     """The stream, a text, as canonical binary. One that is binary is refused as SameForm."""
-    return _call("cozgelt_to_binary_with", floats, stream, catalog, (depth, scalar, symbols, value, input), 1)[0]
+    return _call("cozgelt_to_binary_with", floats, stream, catalog, (depth, scalar, symbols, value, input))[0]
 
 
 def rewrite(stream: _Bytes, *, catalog: _Bytes = b"", depth: int = 64, scalar: int = 1 << 20, symbols: int = 1 << 20,
@@ -178,7 +180,7 @@ def rewrite(stream: _Bytes, *, catalog: _Bytes = b"", depth: int = 64, scalar: i
 def check(stream: _Bytes, *, catalog: _Bytes = b"", depth: int = 64, scalar: int = 1 << 20, symbols: int = 1 << 20,
           value: int = 1 << 24, input: int = 1 << 48, floats: bool = False) -> int:
     """How many values the stream has at top level."""
-    return _call("cozgelt_check_with", floats, stream, catalog, (depth, scalar, symbols, value, input), 0)[1]
+    return _call("cozgelt_check_with", floats, stream, catalog, (depth, scalar, symbols, value, input), False)[1]
 
 
 def version() -> str:

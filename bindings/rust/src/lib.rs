@@ -288,22 +288,29 @@ fn once(
     Ok((status, room, answer))
 }
 
-/// The output, and how many values there are. guess: how long the output may be at the first try.
+/// The room of a first try: for an output as long as the stream, and for a short one in any case.
+fn first_room(stream: &[u8]) -> usize {
+    stream.len().max(1024)
+}
+
+/// The output, and how many values there are. size: the room of the first try; where that is too little, the second has as much as is
+/// needed. A call may hold as much again as its room.
 fn convert(
     call: Call,
     profile: Profile,
     stream: &[u8],
     catalog: &[u8],
     limits: &Limits,
-    guess: usize,
+    size: usize,
 ) -> Result<(Vec<u8>, u64), Error> {
     // SAFETY: it takes nothing, and answers a number.
     if unsafe { cozgelt_version() } != VERSION {
         return Err(Error::OtherVersion);
     }
-    let (mut status, mut room, mut answer) = once(call, profile, stream, catalog, limits, guess)?;
-    if status <= 1 && answer.needed > guess as u64 {
+    let (mut status, mut room, mut answer) = once(call, profile, stream, catalog, limits, size)?;
+    if status <= 1 && answer.needed > size as u64 {
         let needed = usize::try_from(answer.needed).map_err(|_| Error::NoMemory)?;
+        drop(room);
         (status, room, answer) = once(call, profile, stream, catalog, limits, needed)?;
     }
     let reason = Reason::of(answer.reason).ok_or(Error::OtherVersion);
@@ -361,7 +368,7 @@ pub fn to_text_with(
         stream,
         catalog,
         limits,
-        stream.len().saturating_mul(2).saturating_add(64),
+        first_room(stream),
     )?
     .0)
 }
@@ -379,7 +386,7 @@ pub fn to_pretty_with(
         stream,
         catalog,
         limits,
-        stream.len().saturating_mul(4).saturating_add(64),
+        first_room(stream),
     )?
     .0)
 }
@@ -397,7 +404,7 @@ pub fn to_binary_with(
         stream,
         catalog,
         limits,
-        stream.len().saturating_add(64),
+        first_room(stream),
     )?
     .0)
 }

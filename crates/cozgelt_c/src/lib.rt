@@ -4,22 +4,35 @@
 #![tactic(auto)]
 
 ghost use Rattle.std.specs.Prelude.{◌≡◌, ◌≢◌, ◌≤◌, ◌<◌, ◌-◌, ◌^◌, ◌++◌, length, drop, None, IfSome};
+ghost use Rattle.std.specs.Prelude.{ℕ, [], Ok, Err};
 ghost use Rattle.ion_meter.specs.Limits.{AreChecked};
 ghost use Rattle.ion_meter.specs.Reasons.{number_of};
+ghost use Rattle.ion_meter.specs.declared.fault.Reason.{Reason};
+ghost use Rattle.ion_meter.specs.declared.fault.Fault.TheVariants.{Refused, Memory, WriteFault, InputLimit};
+ghost use Rattle.ion_value.specs.Outcome.{Accepted, Rejected};
+ghost use Rattle.ion_transcode.specs.declared.to.Summary as code;
+ghost use Rattle.ion_transcode.specs.Verdict.{HasVerdictWith};
 ghost use Rattle.ion_transcode.specs.declared.to.To.TheVariants as to;
+ghost use Rattle.ion_transcode.specs.declared.to.Form.TheVariants as form;
+ghost use Rattle.ion_transcode.specs.Bound.{bound};
 ghost use Rattle.cozgelt_c.specs.Calls.{Answers, AnswersAt, AnswersBy, AnswersWith};
 ghost use Rattle.cozgelt_c.specs.Calls.{AreValid, limits_of, profile_of};
+ghost use Rattle.cozgelt_c.specs.Memory.{HoldsAtMost, call_bound, room_bound};
 
+use crate::buffer::Bounded;
 use ion_meter::fault::{Fault, Reason};
 use ion_meter::limits::Limits;
 use ion_meter::meter::Meter;
 use ion_meter::profile::Profile;
-use ion_meter::stream::{FromRead, ToWrite};
+use ion_meter::stream::FromRead;
 use ion_symbols::catalog::Catalog;
 use ion_transcode::load::load_catalog;
 use ion_transcode::run::run_with;
-use ion_transcode::to::To;
+use ion_transcode::to::{Summary, To};
 use std::alloc::Global;
+
+mod buffer;
+mod written;
 
 /// The limits of a call.
 #[repr(C)]
@@ -74,6 +87,9 @@ const STRICT: u32 = 0;
 
 const FLOATS: u32 = 1;
 
+// The longest room that is counted: 2^47 bytes, for which a process of an x86-64 has no addresses.
+const MOST_ROOM: usize = 0x8000_0000_0000;
+
 /// What is done with a stream: by which profile it is read, and as what it is written.
 #[derive(Clone, Copy)]
 struct Task {
@@ -121,17 +137,51 @@ fn refuse(reason: Reason, place: u64, answer: &mut CozgeltAnswer)
 }
 
 /// Tells how long the output is, and copies it to the front of the room if it fits.
-fn leave(output: &[u8], room: &mut [u8], answer: &mut CozgeltAnswer)
-    ensures told { answer.new ≡ record answer.old { needed = length output.now } }
-    ensures fits { length output.now ≤ length room.old
-        → room.new ≡ output.now ++ drop (length output.now) room.old }
-    ensures does_not_fit { length room.old < length output.now → room.new ≡ room.old }
+fn leave(output: &Bounded, room: &mut [u8], answer: &mut CozgeltAnswer)
+    requires well { output.now.failures ≡ 0 }
+    requires room { output.now.most ≡ length room.old }
+    ensures told { answer.new ≡ record answer.old { needed = length output.now.put } }
+    ensures fits { length output.now.put ≤ length room.old
+        → room.new ≡ output.now.put ++ drop (length output.now.put) room.old }
+    ensures does_not_fit { length room.old < length output.now.put → room.new ≡ room.old }
 {
     let n = output.len();
-    answer.needed = n as u64;
-    if n <= room.len() {
-        room[..n].copy_from_slice(output);
+    answer.needed = n;
+    if n <= room.len() as u64 {
+        output.copy_to(room);
     }
+}
+
+/// A run from memory to a buffer of the library's own, which it hands back.
+fn run_within(
+    meter: &mut Meter<Global>,
+    tables: &Catalog<Global>,
+    limits: Limits,
+    task: Task,
+    stream: &[u8],
+    output: Bounded,
+) -> (Result<Summary, Fault>, Bounded)
+    requires checked { AreChecked limits }
+    requires held { meter.old.held ≤ 2 ^ 48 }
+    requires countable { meter.old.refused < 2 ^ 64 - 1 }
+    requires empty { output.put ≡ [] }
+    requires well { output.failures ≡ 0 }
+    ensures accepted { (s : code.Summary) → result.0 ≡ Ok s
+        → HasVerdictWith task.profile tables.now limits task.to stream.now (Accepted s.values)
+        result.1.put }
+    ensures refused { (r : Reason) (p : ℕ) → result.0 ≡ Err (Refused r p)
+        → HasVerdictWith task.profile tables.now limits task.to stream.now (Rejected r p)
+        result.1.put }
+    ensures limit { result.0 ≡ Err InputLimit → limits.input < length stream.now }
+    ensures well { result.0 ≢ Err WriteFault → result.1.failures ≡ 0 }
+    ensures same_room { result.1.most ≡ output.most }
+    ensures counted { result.0 ≢ Err Memory → meter.new.refused ≡ meter.old.refused }
+    ensures memory { HoldsAtMost (bound limits form.Text task.to) meter.old meter.new }
+{
+    let Task { profile, to } = task;
+    let reader = FromRead::new(stream);
+    let (outcome, _, output) = run_with(meter, tables, limits, profile, to, reader, output);
+    (outcome, output)
 }
 
 /// Converts a stream, its imports from these tables.
@@ -146,38 +196,52 @@ fn convert_with(
     answer: &mut CozgeltAnswer,
 ) -> u32
     requires checked { AreChecked limits }
-    requires held { meter.old.held ≤ 2 ^ 48 }
+    requires held { meter.old.held ≤ 2 ^ 47 }
     requires countable { meter.old.refused < 2 ^ 64 - 1 }
     ensures answers { AnswersWith task.profile tables.now limits task.to stream.now
         result answer.old answer.new room.old room.new }
-    ensures held { meter.new.held ≡ meter.old.held }
+    ensures memory { HoldsAtMost (room_bound limits task.to (length room.old)) meter.old meter.new }
     ensures counted { result ≢ 2 → meter.new.refused ≡ meter.old.refused }
 {
-    let reader = FromRead::new(stream);
-    let writer = ToWrite::new(Vec::new(alloc));
-    let Task { profile, to } = task;
-    let (outcome, _, writer) = run_with(meter, tables, limits, profile, to, reader, writer);
-    let output = writer.into_inner();
+    if room.len() > MOST_ROOM {
+        return NO_OUTPUT_MEMORY;
+    }
+    let Some(output) = Bounded::new(meter, alloc, room.len()) else {
+        return NO_MEMORY;
+    };
+    let (outcome, output) = run_within(meter, tables, limits, task, stream, output);
     match outcome {
         Ok(summary) => {
             answer.values = summary.values;
-            leave(output.as_slice(), room, answer);
+            leave(&output, room, answer);
+            output.release(meter);
             ACCEPTED
         }
         Err(Fault::Refused(reason, place)) => {
             refuse(reason, place, answer);
-            leave(output.as_slice(), room, answer);
+            leave(&output, room, answer);
+            output.release(meter);
             REFUSED
         }
-        Err(Fault::Memory | Fault::ReadFault) => NO_MEMORY,
-        Err(Fault::InputLimit) => INPUT_LIMIT,
-        Err(Fault::WriteFault) => NO_OUTPUT_MEMORY,
+        Err(Fault::Memory | Fault::ReadFault) => {
+            output.release(meter);
+            NO_MEMORY
+        }
+        Err(Fault::InputLimit) => {
+            output.release(meter);
+            INPUT_LIMIT
+        }
+        Err(Fault::WriteFault) => {
+            output.release(meter);
+            NO_OUTPUT_MEMORY
+        }
     }
 }
 
 /// Converts a stream, its imports from a catalogue.
 fn convert_by(
     alloc: Global,
+    meter: &mut Meter<Global>,
     limits: &CozgeltLimits,
     task: Task,
     catalog: &[u8],
@@ -185,20 +249,21 @@ fn convert_by(
     room: &mut [u8],
     answer: &mut CozgeltAnswer,
 ) -> u32
-    ensures { AnswersBy task.profile limits.now task.to catalog.now stream.now result
+    requires held { meter.old.held ≤ 2 ^ 46 }
+    requires countable { meter.old.refused < 2 ^ 64 - 1 }
+    ensures answers { AnswersBy task.profile limits.now task.to catalog.now stream.now result
         answer.old answer.new room.old room.new }
+    ensures memory { HoldsAtMost (call_bound (limits_of limits.now) task.to (length room.old))
+        meter.old meter.new }
 {
     let Some(limits) = checked(limits, answer) else {
         return INVALID;
     };
-    let mut meter = Meter::new(alloc);
-    let (loaded, _) = load_catalog(&mut meter, limits, FromRead::new(catalog));
+    let (loaded, _) = load_catalog(meter, limits, FromRead::new(catalog));
     match loaded {
         Ok(tables) => {
-            let status = convert_with(
-                alloc, &mut meter, &tables, limits, task, stream, room, answer,
-            );
-            tables.release(&mut meter);
+            let status = convert_with(alloc, meter, &tables, limits, task, stream, room, answer);
+            tables.release(meter);
             status
         }
         Err(Fault::Refused(reason, place)) => {
@@ -227,7 +292,10 @@ fn convert(
     match profile_of(profile) {
         Some(profile) => {
             let task = Task { profile, to };
-            convert_by(alloc, limits, task, catalog, stream, room, answer)
+            let mut meter = Meter::new(alloc);
+            convert_by(
+                alloc, &mut meter, limits, task, catalog, stream, room, answer,
+            )
         }
         None => INVALID,
     }

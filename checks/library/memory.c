@@ -1,0 +1,78 @@
+/* Answers calls that it reads from standard input, as common.py says, each with no room, with room for half of the output and with
+ * room for all of it, and judges the bytes that are asked of malloc: with no room at most what README counts, with a room at most
+ * so much more, and none after a call. To be linked with --wrap=malloc,--wrap=realloc,--wrap=free. The last line is
+ * `N passed, M failed`. */
+#include "cozgelt.h"
+#include "wrapped.h"
+#include <inttypes.h>
+#include <stdio.h>
+
+static CozgeltLimits limits = COZGELT_LIMITS;
+static CozgeltAnswer answer;
+static char name[16];
+static uint32_t profile;
+static unsigned long long catalog_len, stream_len;
+static uint8_t *catalog, *stream;
+static long passed, failed;
+
+static void judge(int right, const char *what, size_t got, size_t most) {
+    right ? passed++ : failed++;
+    if (!right && failed <= 20) printf("FAILED %s of %llu bytes: %s, %zu, not %zu\n", name, stream_len, what, got, most);
+}
+
+static uint8_t *read_bytes(size_t length) {
+    uint8_t *bytes = __real_malloc(length + 1);
+    if (!bytes || fread(bytes, 1, length, stdin) != length) exit(3);
+    return bytes;
+}
+
+#define GIVEN profile, &limits, catalog, catalog_len, stream, stream_len, room, size, &answer
+
+/* One call with so much room, of which canonical text may be pretty: the most bytes that it had of malloc at once. */
+static size_t peak_with(size_t size, int pretty) {
+    CozgeltAnswer none = COZGELT_ANSWER;
+    uint8_t *room = __real_malloc(size + 1);
+    if (!room) exit(3);
+    answer = none, held = peak = 0;
+    if (pretty)
+        cozgelt_to_pretty_with(GIVEN);
+    else if (!strcmp(name, "check"))
+        cozgelt_check_with(GIVEN);
+    else if (!strcmp(name, "to_text"))
+        cozgelt_to_text_with(GIVEN);
+    else
+        cozgelt_to_binary_with(GIVEN);
+    judge(!held, "not given back", held, 0);
+    __real_free(room);
+    return peak;
+}
+
+/* What README counts, for a run and its catalogue: lengths, of which a growing buffer may take three times as much. The least that a
+ * buffer takes is not counted, for which some kilobytes are let through. */
+static size_t counted(void) {
+    size_t lengths = 32 * (size_t)limits.depth + 3 * limits.scalar + 3 * limits.symbols;
+    if (!strcmp(name, "to_binary")) lengths += limits.symbols + limits.value;
+    return 8192 + 3 * lengths + 4096;
+}
+
+int main(void) {
+    unsigned depth;
+    unsigned long long n[4];
+    while (scanf("%15s %" SCNu32 " %u %llu %llu %llu %llu %llu %llu", name, &profile, &depth, n, n + 1, n + 2, n + 3, &catalog_len,
+                 &stream_len) == 9 &&
+           getchar() == '\n') {
+        limits.depth = depth, limits.scalar = n[0], limits.symbols = n[1], limits.value = n[2], limits.input = n[3];
+        catalog = read_bytes(catalog_len), stream = read_bytes(stream_len);
+        for (int pretty = 0; pretty <= !strcmp(name, "to_text"); pretty++) {
+            size_t least = peak_with(0, pretty), needed = answer.needed;
+            judge(least <= counted(), "the peak with no room", least, counted());
+            for (int part = 2; part > 0 && needed; part--) {
+                size_t room = needed / part, most = peak_with(room, pretty);
+                judge(most <= least + room, "the peak with a room", most, least + room);
+            }
+        }
+        __real_free(catalog), __real_free(stream);
+    }
+    printf("%ld passed, %ld failed\n", passed, failed);
+    return failed || !passed || !feof(stdin);
+}

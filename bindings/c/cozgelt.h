@@ -112,6 +112,10 @@ uint32_t cozgelt_to_pretty_with(uint32_t profile, const CozgeltLimits *limits, c
                                 const uint8_t *stream, size_t stream_len, uint8_t *room, size_t room_len,
                                 CozgeltAnswer *answer);
 
+/* The stream, text or binary, as canonical binary, with a profile. */
+uint32_t cozgelt_rewrite_with(uint32_t profile, const CozgeltLimits *limits, const uint8_t *catalog, size_t catalog_len,
+                              const uint8_t *stream, size_t stream_len, uint8_t *room, size_t room_len, CozgeltAnswer *answer);
+
 /* The name of a reason, as REFUSALS.md has it; "" of any other number. */
 static inline const char *cozgelt_reason(uint32_t number) {
     static const char *const names[] = {

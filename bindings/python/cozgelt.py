@@ -36,7 +36,7 @@ import ctypes.util
 import os
 from typing import Any, Tuple, Union
 
-__all__ = ["to_text", "to_pretty", "to_binary", "check", "version", "Refused", "CatalogRefused", "InputLimit", "Invalid"]
+__all__ = ["to_text", "to_pretty", "to_binary", "rewrite", "check", "version", "Refused", "CatalogRefused", "InputLimit", "Invalid"]
 
 _REASONS = ("", "Truncated", "BadDescriptor", "BadVar", "Overrun", "BadVersion", "BadAnnotation", "BadNumber", "BadTimestamp",
             "Range", "BadText", "Float", "BadToken", "BadLob", "DepthLimit", "ScalarLimit", "AnnotationLimit", "BadSymbol",
@@ -99,7 +99,8 @@ def _load() -> ctypes.CDLL:
     library.cozgelt_version.restype = ctypes.c_uint32
     if library.cozgelt_version() != _VERSION:
         raise ImportError(f"{path} is another version than this module")
-    for name in ("cozgelt_to_text_with", "cozgelt_to_pretty_with", "cozgelt_to_binary_with", "cozgelt_check_with"):
+    for name in ("cozgelt_to_text_with", "cozgelt_to_pretty_with", "cozgelt_to_binary_with", "cozgelt_rewrite_with",
+                 "cozgelt_check_with"):
         call = getattr(library, name)
         call.argtypes = [ctypes.c_uint32, ctypes.POINTER(_Limits), ctypes.c_char_p, ctypes.c_size_t, ctypes.c_char_p,
                          ctypes.c_size_t, ctypes.c_void_p, ctypes.c_size_t, ctypes.POINTER(_Answer)]
@@ -166,6 +167,12 @@ def to_binary(stream: _Bytes, *, catalog: _Bytes = b"", depth: int = 64, scalar:
               value: int = 1 << 24, input: int = 1 << 48, floats: bool = False) -> bytes:
     """The stream, a text, as canonical binary. One that is binary is refused as SameForm."""
     return _call("cozgelt_to_binary_with", floats, stream, catalog, (depth, scalar, symbols, value, input), 1)[0]
+
+
+def rewrite(stream: _Bytes, *, catalog: _Bytes = b"", depth: int = 64, scalar: int = 1 << 20, symbols: int = 1 << 20,
+            value: int = 1 << 24, input: int = 1 << 48, floats: bool = False) -> bytes:
+    """The stream, text or binary, as canonical binary."""
+    return _call("cozgelt_rewrite_with", floats, stream, catalog, (depth, scalar, symbols, value, input), 1)[0]
 
 
 def check(stream: _Bytes, *, catalog: _Bytes = b"", depth: int = 64, scalar: int = 1 << 20, symbols: int = 1 << 20,

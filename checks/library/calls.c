@@ -20,6 +20,10 @@ static void judge(int right, const char *what) {
 #define IMPORT "$ion_symbol_table::{imports:[{name:\"x\",version:1,max_id:2}]} $10 $11"
 #define TABLE "$ion_shared_symbol_table::{name:\"x\",version:1,symbols:[\"p\",\"q\"]}"
 
+/* A NOP pad, an int with a zero octet before it, a struct with its fields in order, and the symbol of a table that has one more. */
+#define STORED "\xE0\x01\x00\xEA\x01\xFF\x22\x00\x05\xD1\x82\x84\x11\xE9\x81\x83\xD6\x87\xB4\x81\x61\x81\x62\x71\x0B"
+#define REWRITTEN "\xE0\x01\x00\xEA\x21\x05\xD2\x84\x11\xEA\x81\x83\xD7\x86\x71\x03\x87\xB2\x81\x62\x71\x0A"
+
 #define FLOATS "[1.50e0, -0e0, 0.1e0, nan, +inf, 0e0] 602214076e15 4.94e-324"
 #define FLOATS_SHOWN "[1.5e0,-0e0,1e-1,nan,+inf,0e0]\n6.02214076e23\n5e-324\n"
 #define FLOATS_STORED                                                                                                          \
@@ -162,6 +166,34 @@ static void calls_of_pretty_text(void) {
           "a float to pretty text by the strict profile");
 }
 
+static void calls_that_rewrite(void) {
+    begin();
+    judge(cozgelt_rewrite_with(COZGELT_STRICT, &limits, COZGELT_NO_CATALOG, STREAM(STORED), room, sizeof room, &answer) ==
+                  COZGELT_ACCEPTED &&
+              answer.values == 3 && HOLDS(REWRITTEN),
+          "binary to binary");
+    begin();
+    judge(cozgelt_rewrite_with(COZGELT_STRICT, &limits, COZGELT_NO_CATALOG, STREAM(REWRITTEN), room, sizeof room, &answer) ==
+                  COZGELT_ACCEPTED &&
+              answer.values == 3 && HOLDS(REWRITTEN),
+          "binary to binary again");
+    begin();
+    judge(cozgelt_rewrite_with(COZGELT_STRICT, &limits, COZGELT_NO_CATALOG, STREAM("5 {name:true} b"), room, sizeof room,
+                               &answer) == COZGELT_ACCEPTED &&
+              answer.values == 3 && HOLDS(REWRITTEN),
+          "text to binary, by the call that rewrites");
+    begin();
+    judge(cozgelt_rewrite_with(COZGELT_FLOATS, &limits, COZGELT_NO_CATALOG, STREAM(FLOATS_STORED), room, sizeof room, &answer) ==
+                  COZGELT_ACCEPTED &&
+              answer.values == 3 && HOLDS(FLOATS_STORED),
+          "binary with floats to binary");
+    begin();
+    judge(cozgelt_rewrite_with(COZGELT_STRICT, &limits, COZGELT_NO_CATALOG, STREAM("\xE0\x01\x00\xEA\x21\x05\x31\x00"), room,
+                               sizeof room, &answer) == COZGELT_REFUSED &&
+              !strcmp(cozgelt_reason(answer.reason), "BadNumber") && answer.place == 6 && HOLDS("\xE0\x01\x00\xEA\x21\x05"),
+          "what stands before a fault in binary, as binary");
+}
+
 static void calls_of_floats(void) {
     uint32_t by = COZGELT_FLOATS;
     begin();
@@ -236,6 +268,10 @@ static void numbers_of_no_profile(void) {
                       COZGELT_INVALID &&
                   no_answer() && kept_from(0),
               "to pretty text by a number of no profile");
+        judge(cozgelt_rewrite_with(numbers[i], &limits, COZGELT_NO_CATALOG, STREAM(STORED), room, sizeof room, &answer) ==
+                      COZGELT_INVALID &&
+                  no_answer() && kept_from(0),
+              "to binary again by a number of no profile");
         judge(cozgelt_to_binary_with(numbers[i], &limits, COZGELT_NO_CATALOG, STREAM(TEXT), room, sizeof room, &answer) ==
                       COZGELT_INVALID &&
                   no_answer() && kept_from(0),
@@ -272,6 +308,7 @@ int main(void) {
     right_calls();
     wrong_calls();
     calls_of_pretty_text();
+    calls_that_rewrite();
     calls_of_floats();
     strict_calls();
     numbers_of_no_profile();

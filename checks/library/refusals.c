@@ -54,6 +54,7 @@ static int answers(int call, int whole) {
                       : call == 3 ? cozgelt_to_text_with(COZGELT_FLOATS, GIVEN)
                       : call == 4 ? cozgelt_to_binary_with(COZGELT_FLOATS, GIVEN)
                       : call == 5 ? cozgelt_to_pretty_with(COZGELT_FLOATS, GIVEN)
+                      : call == 6 ? cozgelt_rewrite_with(COZGELT_FLOATS, GIVEN)
                                   : cozgelt_check_with(COZGELT_FLOATS, GIVEN);
     int met = asked >= refused_from; /* else the call asked for less */
     if (held) return 0;
@@ -65,7 +66,7 @@ static int answers(int call, int whole) {
 
 int main(void) {
     int passed = 0, failed = 0;
-    for (int i = 0; i < 7; i++) {
+    for (int i = 0; i < 8; i++) {
         refused_from = refused_to = 0;
         int right = answers(i, 1);
         right ? passed++ : failed++;

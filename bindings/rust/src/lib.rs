@@ -210,6 +210,17 @@ extern "C" {
         room_len: usize,
         answer: *mut CAnswer,
     ) -> u32;
+    fn cozgelt_rewrite_with(
+        profile: u32,
+        limits: *const CLimits,
+        catalog: *const u8,
+        catalog_len: usize,
+        stream: *const u8,
+        stream_len: usize,
+        room: *mut u8,
+        room_len: usize,
+        answer: *mut CAnswer,
+    ) -> u32;
     fn cozgelt_check_with(
         profile: u32,
         limits: *const CLimits,
@@ -327,6 +338,11 @@ pub fn to_binary(stream: &[u8], catalog: &[u8], limits: &Limits) -> Result<Vec<u
     to_binary_with(Profile::Strict, stream, catalog, limits)
 }
 
+/// The stream, text or binary, as canonical binary.
+pub fn rewrite(stream: &[u8], catalog: &[u8], limits: &Limits) -> Result<Vec<u8>, Error> {
+    rewrite_with(Profile::Strict, stream, catalog, limits)
+}
+
 /// How many values the stream has at top level.
 pub fn check(stream: &[u8], catalog: &[u8], limits: &Limits) -> Result<u64, Error> {
     check_with(Profile::Strict, stream, catalog, limits)
@@ -377,6 +393,24 @@ pub fn to_binary_with(
 ) -> Result<Vec<u8>, Error> {
     Ok(convert(
         cozgelt_to_binary_with,
+        profile,
+        stream,
+        catalog,
+        limits,
+        stream.len().saturating_add(64),
+    )?
+    .0)
+}
+
+/// As [`rewrite`], with a profile.
+pub fn rewrite_with(
+    profile: Profile,
+    stream: &[u8],
+    catalog: &[u8],
+    limits: &Limits,
+) -> Result<Vec<u8>, Error> {
+    Ok(convert(
+        cozgelt_rewrite_with,
         profile,
         stream,
         catalog,

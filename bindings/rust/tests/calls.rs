@@ -1,6 +1,6 @@
 //! One call of each kind, refusals, wrong calls, and four threads at once.
 use cozgelt::{check, check_with, to_binary, to_binary_with, to_text, to_text_with, version};
-use cozgelt::{to_pretty, to_pretty_with};
+use cozgelt::{rewrite, rewrite_with, to_pretty, to_pretty_with};
 use cozgelt::{Error, Limits, Profile, Reason};
 
 const TABLES: &[u8] = b"$ion_shared_symbol_table::{name:\"x\",version:1,symbols:[\"p\",\"q\"]}";
@@ -47,6 +47,29 @@ fn pretty_text_has_a_line_for_each_member() {
     assert_eq!(
         to_pretty_with(Profile::Floats, b"[4e0]", &[], &limits).unwrap(),
         b"[\n  4e0\n]\n"
+    );
+}
+
+#[test]
+fn binary_is_written_again() {
+    let limits = Limits::default();
+    let stream = b"\xE0\x01\x00\xEA\x01\xFF\x22\x00\x05\xD1\x82\x84\x11";
+    let binary = b"\xE0\x01\x00\xEA\x21\x05\xD2\x84\x11";
+    for given in [&stream[..], binary, b"5 {name:true}"] {
+        assert_eq!(rewrite(given, &[], &limits).unwrap(), binary);
+    }
+    assert_eq!(
+        refused(to_binary(stream, &[], &limits)),
+        (Reason::SameForm, 0, vec![])
+    );
+    let floats = to_binary_with(Profile::Floats, b"[4e0]", &[], &limits).unwrap();
+    assert_eq!(
+        rewrite_with(Profile::Floats, &floats, &[], &limits).unwrap(),
+        floats
+    );
+    assert_eq!(
+        refused(rewrite(&floats, &[], &limits)),
+        (Reason::Float, 5, floats[..4].to_vec())
     );
 }
 

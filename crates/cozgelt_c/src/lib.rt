@@ -343,6 +343,24 @@ pub extern "C" fn cozgelt_to_binary_with(
     convert(alloc, profile, limits, to, catalog, stream, room, answer)
 }
 
+/// The stream, text or binary, as canonical binary, where it is read by the profile that a number names.
+#[unsafe(no_mangle)]
+pub extern "C" fn cozgelt_rewrite_with(
+    alloc: Global,
+    profile: u32,
+    limits: &CozgeltLimits,
+    catalog: &[u8],
+    stream: &[u8],
+    room: &mut [u8],
+    answer: &mut CozgeltAnswer,
+) -> u32
+    ensures { AnswersAt profile limits.now to.Rewritten catalog.now stream.now result
+        answer.old answer.new room.old room.new }
+{
+    let to = To::Rewritten;
+    convert(alloc, profile, limits, to, catalog, stream, room, answer)
+}
+
 /// The stream's verdict alone, where it is read by the profile that a number names.
 #[unsafe(no_mangle)]
 pub extern "C" fn cozgelt_check_with(

@@ -64,7 +64,7 @@ is_empty (member before field annotations place value) = false
 -- ---- whole values
 
 abbrev mutual
-  -- the text of a value, without field and annotations, where depths are counted from
+  -- the text of a value, without field and annotations; depths are counted from where it stands
   pub value_text_by : {P : Type 0} → Layout → Value UserSymbol P → List ℕ
   value_text_by layout (scalar body) = scalar_text body
   value_text_by layout (container kind members last) =

@@ -1,10 +1,10 @@
--- Where a run to binary accepts a text, no item was refused, and so its values are within its limits.
+-- Where a run to binary accepts a stream, no item was refused, and so its values are within its limits.
 use Rattle.std.proofs.Common.{◌≡◌, ◌⊎◌, inl, inr, ℕ, List, [], ◌∷◌, ◌++◌, None, Some, refl, ap, ap₂, sym, ◌∙◌, subst}
 use Rattle.ion_meter.specs.declared.limits.Limits.{Limits}
 use Rattle.ion_meter.specs.declared.profile.Profile.{Profile}
 use Rattle.ion_value.specs.Outcome.{Verdict, Accepted}
 use Rattle.ion_value.specs.Path.{Path, closed, path_items}
-use Rattle.ion_value.specs.Reading.{Step, Gives, GoesOn}
+use Rattle.ion_value.specs.Reading.{Reading, Step, Gives, GoesOn}
 use Rattle.ion_value.specs.Value.{SymbolAt, UserSymbol, Top, PlacedItem, top_items, user_items}
 use Rattle.ion_symbols.specs.Laws.{UsersAreRead}
 use Rattle.ion_symbols.specs.Table.{Shared, system}
@@ -12,12 +12,10 @@ use Rattle.ion_symbols.specs.Tree.{user_tops}
 use Rattle.ion_symbols.specs.Users as users
 use Rattle.ion_binary.specs.Refusals.{refused_after, ItemsAreRefusedAsInTrees, NoneIsRefused, AreWithin, NoneIsRefusedWithin}
 use Rattle.ion_binary.specs.Writing.{binary_refusal}
-use Rattle.ion_text_in.specs.Laws.{OneStream}
-use Rattle.ion_transcode.specs.declared.to.Form.TheVariants as form
+use Rattle.ion_transcode.specs.declared.to.Form.{Form}
 use Rattle.ion_transcode.specs.declared.to.Target.TheVariants as target
-use Rattle.ion_transcode.specs.Encoding.{Encoding, Follows}
-use Rattle.ion_transcode.specs.Forms.{text_encoding}
-use Rattle.ion_transcode.specs.Laws.{TextIsSound}
+use Rattle.ion_transcode.specs.Encoding.{Encoding, Follows, IsSound}
+use Rattle.ion_transcode.specs.Forms.{encoding_of}
 use Rattle.ion_transcode.specs.Outputs.{to_binary}
 use Rattle.ion_transcode.specs.UserPaths.{FaultlessPathsAreRead}
 use Rattle.ion_transcode.specs.Verdict.{Faultless, nothing, goes_on, taken_in, user, HasVerdictFrom, whole, refused}
@@ -76,10 +74,11 @@ record StandsAt (e : Encoding) (bytes : List ℕ) (items : List PlacedItem) (s :
   at : e.At bytes path s
   items_are : items ≡ path_items path
 
-module _ (sound : TextIsSound) (along : FaultlessPathsAreRead) (trees : ItemsAreRefusedAsInTrees) (profile : Profile) (catalog : List Shared)
-    (limits : Limits) (bytes : List ℕ) where
+module _ (along : FaultlessPathsAreRead) (trees : ItemsAreRefusedAsInTrees) (profile : Profile) (f : Form) (IsOf : List ℕ → Type 0)
+    (reading : Limits → List ℕ → Reading) (sound : IsSound (encoding_of profile f) IsOf reading) (catalog : List Shared)
+    (limits : Limits) (bytes : List ℕ) (is_of : IsOf bytes) where
   abbrev e : Encoding
-  e = text_encoding profile
+  e = encoding_of profile f
 
   abbrev Fine : List PlacedItem → e.State → users.State → List PlacedItem → Type 0
   Fine items s u mine = Faultless e (to_binary limits) catalog limits bytes items s u mine
@@ -87,18 +86,18 @@ module _ (sound : TextIsSound) (along : FaultlessPathsAreRead) (trees : ItemsAre
   followed : (path : Path SymbolAt ℕ) (s : e.State) (x : Step e.State) → e.At bytes path s
       → e.step limits s ≡ x → Follows e bytes path x
   followed path s x at is =
-      subst (λ (y : Step e.State). Follows e bytes path y) is ((sound profile).follows limits bytes path s tt at)
+      subst (λ (y : Step e.State). Follows e bytes path y) is (sound.follows limits bytes path s is_of at)
 
   item-stands : (items : List PlacedItem) (item : PlacedItem) (s t : e.State)
       → e.step limits s ≡ Gives item t → StandsAt e bytes items s
       → StandsAt e bytes (items ++ item ∷ []) t
   item-stands items item s t step r =
-      let f = followed r.path s (Gives item t) r.at step in
-      record { path = f.0; at = f.1; items_are = ap (λ (is : List PlacedItem). is ++ item ∷ []) r.items_are ∙ sym f.2 }
+      let next = followed r.path s (Gives item t) r.at step in
+      record { path = next.0; at = next.1; items_are = ap (λ (is : List PlacedItem). is ++ item ∷ []) r.items_are ∙ sym next.2 }
 
   stands-at : (items mine : List PlacedItem) (s : e.State) (u : users.State) → Fine items s u mine
       → StandsAt e bytes items s
-  stands-at _ _ _ _ nothing = record { path = closed []; at = (sound profile).starts bytes; items_are = refl }
+  stands-at _ _ _ _ nothing = record { path = closed []; at = sound.starts bytes; items_are = refl }
   stands-at _ _ _ _ (goes_on items mine s t u prev step) =
       let r = stands-at items mine s u prev in
       record { path = r.path; at = followed r.path s (GoesOn t) r.at step; items_are = r.items_are }
@@ -113,7 +112,7 @@ module _ (sound : TextIsSound) (along : FaultlessPathsAreRead) (trees : ItemsAre
   user-along items mine s u fine =
       let r = stands-at items mine s u fine in
       let moved = subst (λ (is : List PlacedItem). Fine is s u mine) r.items_are fine in
-      let a = along profile form.Text target.Binary catalog limits bytes r.path mine s u moved in
+      let a = along profile f target.Binary catalog limits bytes r.path mine s u moved in
       (a.user_path, a.items)
 
   -- so none of these is refused item by item either
@@ -131,12 +130,12 @@ module _ (sound : TextIsSound) (along : FaultlessPathsAreRead) (trees : ItemsAre
 
   -- ---- an accepted run
 
-  pub within : UsersAreRead → NoneIsRefusedWithin → OneStream → (v : Verdict) (written : List ℕ) (n : ℕ) → v ≡ Accepted n
+  pub within : UsersAreRead → NoneIsRefusedWithin → ((a b : List (Top SymbolAt ℕ)) → e.Stream bytes a → e.Stream bytes b → a ≡ b) → (v : Verdict) (written : List ℕ) (n : ℕ) → v ≡ Accepted n
       → HasVerdictFrom e (to_binary limits) catalog limits bytes v written
       → (tops : List (Top SymbolAt ℕ)) (us : List (Top UserSymbol ℕ)) → e.Stream bytes tops
       → user_tops catalog system tops ≡ Some us → AreWithin limits [] us
   within users_read law one v written n is (whole others vs mine s u stream fine ends are) tops us st users =
-      let same : others ≡ tops = one bytes others tops stream st in
+      let same : others ≡ tops = one others tops stream st in
       let prefix = faultless-prefixes e (to_binary limits) catalog limits bytes (top_items others) s u mine fine in
       let read = faultless-tops e (to_binary limits) catalog limits users_read bytes others s u mine prefix ends in
       let found : read.0 ≡ us = some-same read.0 us (sym read.1 ∙ (ap (user_tops catalog system) same ∙ users)) in

@@ -6,14 +6,14 @@ use Rattle.ion_value.specs.Outcome.{Accepted}
 use Rattle.ion_value.specs.Path.{closed, path_items}
 use Rattle.ion_value.specs.Reading.{Finished, items_then}
 use Rattle.ion_value.specs.Value.{SymbolAt, UserSymbol, Top, unplaced_top}
+use Rattle.ion_value.specs.Writable.{AreBytes}
 use Rattle.ion_symbols.specs.Resolved.{AreResolved}
 use Rattle.ion_symbols.specs.Table.{Shared, system}
 use Rattle.ion_symbols.specs.Tree.{user_tops}
-use Rattle.ion_symbols.specs.UserValues.{AreUsers, UsersOfRawValues}
+use Rattle.ion_symbols.specs.UserValues.{AreUsers, CatalogIsText, UsersOfRawValues}
 use Rattle.ion_binary.specs.Canonical.{binary}
 use Rattle.ion_binary.specs.Laws as binary_laws
 use Rattle.ion_binary.specs.Spelling.{TheFormIsRead, WhatIsWithinIsShort}
-use Rattle.ion_text_in.specs.Grammar as text_grammar
 use Rattle.ion_text_in.specs.Laws as text_laws
 use Rattle.ion_text_out.specs.Laws.{AreLayouts}
 use Rattle.ion_text_out.specs.Layout.{Layout, IsLayout, canonical}
@@ -34,12 +34,18 @@ use Rattle.ion_transcode.proofs.TextWithoutPlaces.{same-text-by}
 
 -- ---- values of streams
 
--- by what is true of them before their ids are resolved
-pub values-of-streams : UsersOfRawValues → binary_laws.StreamsAreRaw → text_laws.StreamsAreRaw → ValuesOfStreams
-values-of-streams users binary_raw text_raw profile form.Binary catalog bytes tops us small texts stream are =
-    users catalog tops us texts (binary_raw bytes tops small stream) are
-values-of-streams users binary_raw text_raw profile form.Text catalog bytes tops us small texts stream are =
+-- by what is true of them before their ids are resolved, and of text whatever its bytes are
+pub users-of : UsersOfRawValues → binary_laws.StreamsAreRaw → text_laws.StreamsAreRaw → (profile : Profile) (f : Form) (catalog : List Shared)
+    (bytes : List ℕ) (tops : List (Top SymbolAt ℕ)) (us : List (Top UserSymbol ℕ)) → (f ≡ form.Binary → AreBytes bytes) → CatalogIsText catalog
+    → (encoding_of profile f).Stream bytes tops → user_tops catalog system tops ≡ Some us → AreUsers us
+users-of users binary_raw text_raw profile form.Binary catalog bytes tops us small texts stream are =
+    users catalog tops us texts (binary_raw bytes tops (small refl) stream) are
+users-of users binary_raw text_raw profile form.Text catalog bytes tops us small texts stream are =
     users catalog tops us texts (text_raw bytes tops stream) are
+
+pub values-of-streams : UsersOfRawValues → binary_laws.StreamsAreRaw → text_laws.StreamsAreRaw → ValuesOfStreams
+values-of-streams users binary_raw text_raw profile f catalog bytes tops us small texts stream are =
+    users-of users binary_raw text_raw profile f catalog bytes tops us (λ e. small) texts stream are
 
 pub round-trip : ValuesOfStreams → TextIsRead → TheFormIsRead → RoundTrip
 round-trip values is_text is_binary profile f catalog other limit bytes tops us small texts stream users =
@@ -163,63 +169,60 @@ layouts-are-shown-alike is_read values each laid one one_text profile next catal
           ((direct u asks most out k is to v).0 ∙ sym b.0, (direct u asks most out k is to v).1 ∙ sym a.count);
     }
 
-to-text : (f : Form) → resolved f to.Text ≡ Some target.Text
-to-text form.Binary = refl
-to-text form.Text = refl
+-- each form can be shown
+shown-as : (f : Form) → resolved f to.Text ≡ Some target.Text
+shown-as form.Text = refl
+shown-as form.Binary = refl
 
 pub show-once : LayoutsAreShownAlike → ShowOnce
 show-once alike profile next catalog other limits wide asked bytes shown again n m small texts to_is first second =
     let r = alike profile next catalog other limits wide asked to.Text bytes shown again n m target.Text target.Text canonical canonical
-    IsTextBy.canonical_text IsTextBy.canonical_text small texts to_is first (to-text (form_of shown)) second in
+    IsTextBy.canonical_text IsTextBy.canonical_text small texts to_is first (shown-as (form_of shown)) second in
     (r.output_again ∙ sym r.output, r.count)
 
--- binary is written of text alone
-pub of-text : (f : Form) (asked : To) → resolved f asked ≡ Some target.Binary → f ≡ form.Text
-of-text form.Text asked e = refl
-of-text form.Binary to.Text e = absurd (cc e)
-of-text form.Binary to.Pretty e = absurd (cc e)
-of-text form.Binary to.Binary e = absurd (cc e)
-of-text form.Binary to.Nothing e = absurd (cc e)
-of-text form.Binary to.Other e = absurd (cc e)
+-- what bytes spell does not look at the profile
+same-stream : (profile next : Profile) (f : Form) (bytes : List ℕ) (tops : List (Top SymbolAt ℕ)) → (encoding_of profile f).Stream bytes tops
+    → (encoding_of next f).Stream bytes tops
+same-stream profile next form.Text bytes tops stream = stream
+same-stream profile next form.Binary bytes tops stream = stream
 
-pub there-and-back : WhatIsAcceptedIsRead → WhatIsReadIsAccepted → UsersOfRawValues → text_laws.StreamsAreRaw → TheFormIsRead
-    → WhatIsWithinIsShort → binary_laws.OneStream → text_laws.OneStream → ThereAndBack
-there-and-back is_read accepted values raw is_binary short one one_text profile next catalog other limits wide asked back_as bytes written back n m
-    t layout by texts checked to_is first to_text second =
+pub there-and-back : WhatIsAcceptedIsRead → WhatIsReadIsAccepted → UsersOfRawValues → binary_laws.StreamsAreRaw → text_laws.StreamsAreRaw
+    → TheFormIsRead → WhatIsWithinIsShort → OneSpelling → ThereAndBack
+there-and-back is_read accepted values binary_raw text_raw is_binary short one profile next catalog other limits wide asked back_as bytes written
+    back n m t layout by texts checked small to_is first to_text second =
     let w = is_read profile catalog limits asked bytes target.Binary n written to_is first in
     let us : List (Top UserSymbol ℕ) = w.us in
-    let f_is : form_of bytes ≡ form.Text = of-text (form_of bytes) asked to_is in
-    let stream : text_grammar.Stream bytes w.tops = subst (λ (g : Form). (encoding_of profile g).Stream bytes w.tops) f_is w.stream in
-    let are : AreUsers us = values catalog w.tops us texts (raw bytes w.tops stream) w.users_are in
+    let f : Form = form_of bytes in
+    let are : AreUsers us = users-of values binary_raw text_raw profile f catalog bytes w.tops us small texts w.stream w.users_are in
     let r = is_binary other limits.symbols us are.0 (short limits us checked w.taken) in
     let octets : List ℕ = binary limits.symbols us in
     let of_form : form_of octets ≡ form.Binary = ap form_of r.stream.begins.1 in
     let moved = subst (λ (xs : List ℕ). HasVerdictWith next other wide back_as xs (Accepted m) back) w.output second in
     let moved_to = subst (λ (xs : List ℕ). resolved (form_of xs) back_as ≡ Some t) w.output to_text in
-    let b = shows-text is_read by next form.Binary other wide back_as octets back m r.raw r.users us (one octets) of_form r.stream r.users_are
-    r.same moved_to moved in
-    let here : IsReadAs profile form.Text catalog limits bytes us n = record {
+    let b = shows-text is_read by next form.Binary other wide back_as octets back m r.raw r.users us ((one next form.Binary).stream octets) of_form
+    r.stream r.users_are r.same moved_to moved in
+    let here : IsReadAs profile f catalog limits bytes us n = record {
       raw = w.tops;
       users = us;
-      form = f_is;
-      read = subst (λ (g : Form). reading_of profile g limits bytes ≡ items_then (path_items (closed w.tops)) Finished) f_is w.read;
+      form = refl;
+      read = w.read;
       resolved = w.resolved_are;
       users_are = w.users_are;
       same = refl;
       count = w.count;
     } in
     let alike = λ (any : Profile) (most : Limits) (u : Target) (asks : To) (out : List ℕ) (k : ℕ) (is : IsTextBy layout u)
-    (to : resolved form.Text asks ≡ Some u) (v : HasVerdictWith any catalog most asks bytes (Accepted k) out).
-    shows-text is_read is any form.Text catalog most asks bytes out k w.tops us us (one_text bytes) f_is stream w.users_are refl
-    (ap (λ (g : Form). resolved g asks) f_is ∙ to) v in
+    (to : resolved f asks ≡ Some u) (v : HasVerdictWith any catalog most asks bytes (Accepted k) out).
+    shows-text is_read is any f catalog most asks bytes out k w.tops us us ((one any f).stream bytes) refl
+    (same-stream profile any f bytes w.tops w.stream) w.users_are refl to v in
     record {
       tops = w.tops;
       us = us;
-      stream = stream;
+      stream = w.stream;
       users_are = w.users_are;
       output = b.0;
       count = b.1 ∙ sym w.count;
-      shown = is-shown accepted profile form.Text catalog limits bytes us n here;
+      shown = is-shown accepted profile f catalog limits bytes us n here;
       shown_by = λ any most u asks out k is to v.
           ((alike any most u asks out k is to v).0 ∙ sym b.0, (alike any most u asks out k is to v).1 ∙ sym w.count);
     }

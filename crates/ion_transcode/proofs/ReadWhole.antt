@@ -14,22 +14,20 @@ use Rattle.ion_symbols.specs.Tree.{user_tops}
 use Rattle.ion_symbols.specs.Users as users
 use Rattle.ion_symbols.specs.Users.{at_start}
 use Rattle.ion_binary.specs.Refusals.{ItemsAreRefusedAsInTrees, NoneIsRefusedWithin}
-use Rattle.ion_text_in.specs.Laws.{OneStream}
 use Rattle.ion_transcode.specs.declared.to.Form.{Form}
 use Rattle.ion_transcode.specs.declared.to.Form.TheVariants as form
 use Rattle.ion_transcode.specs.declared.to.Target.{Target}
 use Rattle.ion_transcode.specs.declared.to.Target.TheVariants as target
-use Rattle.ion_transcode.specs.declared.to.To.{To}
-use Rattle.ion_transcode.specs.declared.to.To.TheVariants as to
 use Rattle.ion_transcode.specs.Acceptance.{AreTaken, WhatIsAcceptedIsRead}
 use Rattle.ion_transcode.specs.Encoding.{Encoding, IsSound}
 use Rattle.ion_transcode.specs.Forms.{IsBinary, binary_encoding, text_encoding, encoding_of, form_of, reading_of}
-use Rattle.ion_transcode.specs.Laws.{BinaryIsSound, TextIsSound}
-use Rattle.ion_transcode.specs.Outputs.{Outputs, outputs_of, resolved}
+use Rattle.ion_transcode.specs.Laws.{BinaryIsSound, TextIsSound, OneSpelling}
+use Rattle.ion_transcode.specs.Outputs.{Outputs, outputs_of}
 use Rattle.ion_transcode.specs.UserPaths.{FaultlessPathsAreRead}
 use Rattle.ion_transcode.specs.Verdict.{Faultless, HasVerdictFrom, whole, refused, HasVerdictAs}
 use Rattle.ion_transcode.proofs.Faultless.{raw_in, user-step, faultless-prefixes}
 use Rattle.ion_transcode.proofs.NoneRefused.{within}
+use Rattle.ion_transcode.proofs.Streams.{first_byte}
 
 -- ---- by an encoding that is sound
 
@@ -84,32 +82,27 @@ module _ (e : Encoding) (IsOf : List ℕ → Type 0) (reading : Limits → List 
 -- ---- by the form of a stream
 
 module _ (binary_sound : BinaryIsSound) (text_sound : TextIsSound) (law : WhatIsAcceptedIsResolved) (users_read : UsersAreRead) (along : FaultlessPathsAreRead)
-    (trees : ItemsAreRefusedAsInTrees) (none : NoneIsRefusedWithin) (one : OneStream) (profile : Profile) (catalog : List Shared) (limits : Limits) where
+    (trees : ItemsAreRefusedAsInTrees) (none : NoneIsRefusedWithin) (one : OneSpelling) (profile : Profile) (catalog : List Shared) (limits : Limits) where
   whole-as : (f : Form) (t : Target) (bytes : List ℕ) (n : ℕ) (out : List ℕ) → HasVerdictFrom (encoding_of profile f) (outputs_of t limits) catalog limits bytes (Accepted n) out
       → IsWhole (encoding_of profile f) (outputs_of t limits) catalog limits bytes (reading_of profile f) n out
   whole-as form.Binary t bytes n out v = whole-by (binary_encoding profile) IsBinary (reading_of profile form.Binary) (binary_sound profile) (outputs_of t limits) catalog limits bytes law (Accepted n) out n refl v
   whole-as form.Text t bytes n out v = whole-by (text_encoding profile) (λ b. Unit {0}) (reading_of profile form.Text) (text_sound profile) (outputs_of t limits) catalog limits bytes law (Accepted n) out n refl v
 
-  -- binary is written of text alone
-  no-binary : (to : To) → resolved form.Binary to ≡ Some target.Binary → ⊥
-  no-binary to.Text e = absurd (cc e)
-  no-binary to.Pretty e = absurd (cc e)
-  no-binary to.Binary e = absurd (cc e)
-  no-binary to.Nothing e = absurd (cc e)
-  no-binary to.Other e = absurd (cc e)
-
-  taken-as : (f : Form) (to : To) (t : Target) (bytes : List ℕ) (n : ℕ) (out : List ℕ) → resolved f to ≡ Some t
+  taken-as : (f : Form) (t : Target) (bytes : List ℕ) (n : ℕ) (out : List ℕ) → (f ≡ form.Binary → IsBinary bytes)
       → HasVerdictFrom (encoding_of profile f) (outputs_of t limits) catalog limits bytes (Accepted n) out
       → (tops : List (Top SymbolAt ℕ)) (us : List (Top UserSymbol ℕ)) → (encoding_of profile f).Stream bytes tops → user_tops catalog system tops ≡ Some us → AreTaken t limits us
-  taken-as f to target.Text bytes n out to_is v tops us stream users_are = tt
-  taken-as f to target.Pretty bytes n out to_is v tops us stream users_are = tt
-  taken-as form.Binary to target.Binary bytes n out to_is v tops us stream users_are = absurd (no-binary to to_is)
-  taken-as form.Text to target.Binary bytes n out to_is v tops us stream users_are =
-      within text_sound along trees profile catalog limits bytes users_read none one (Accepted n) out n refl v tops us stream users_are
-  taken-as f to target.Nothing bytes n out to_is v tops us stream users_are = tt
+  taken-as f target.Text bytes n out is v tops us stream users_are = tt
+  taken-as f target.Pretty bytes n out is v tops us stream users_are = tt
+  taken-as form.Binary target.Binary bytes n out is v tops us stream users_are =
+      within along trees profile form.Binary IsBinary (reading_of profile form.Binary) (binary_sound profile) catalog limits bytes (is refl) users_read none
+      ((one profile form.Binary).stream bytes) (Accepted n) out n refl v tops us stream users_are
+  taken-as form.Text target.Binary bytes n out is v tops us stream users_are =
+      within along trees profile form.Text (λ b. Unit {0}) (reading_of profile form.Text) (text_sound profile) catalog limits bytes tt users_read none
+      ((one profile form.Text).stream bytes) (Accepted n) out n refl v tops us stream users_are
+  taken-as f target.Nothing bytes n out is v tops us stream users_are = tt
 
 pub what-is-accepted-is-read : BinaryIsSound → TextIsSound → WhatIsAcceptedIsResolved → UsersAreRead → FaultlessPathsAreRead → ItemsAreRefusedAsInTrees → NoneIsRefusedWithin
-    → OneStream → WhatIsAcceptedIsRead
+    → OneSpelling → WhatIsAcceptedIsRead
 what-is-accepted-is-read binary_sound text_sound law users_read along trees none one profile catalog limits to bytes t n out to_is v =
     let f : Form = form_of bytes in
     let from : HasVerdictFrom (encoding_of profile f) (outputs_of t limits) catalog limits bytes (Accepted n) out =
@@ -123,7 +116,7 @@ what-is-accepted-is-read binary_sound text_sound law users_read along trees none
       read = w.read;
       resolved_are = w.resolved_are;
       users_are = w.users_are;
-      taken = taken-as binary_sound text_sound law users_read along trees none one profile catalog limits f to t bytes n out to_is from w.tops w.us w.stream w.users_are;
+      taken = taken-as binary_sound text_sound law users_read along trees none one profile catalog limits f t bytes n out (first_byte bytes) from w.tops w.us w.stream w.users_are;
       count = w.count;
       output = w.output;
     }

@@ -311,6 +311,29 @@ its_symbol_refused : told [] usual to.Text (39 ∷ 255 ∷ 39 ∷ 10 ∷ []) ≡
 unfolding told
 its_symbol_refused = refl
 
+-- ---- binary written again
+
+binary_rewritten : told [] usual to.Rewritten (marked "22 00 05 D5 80 01 FF 84 11 0F 00") ≡ (marked "21 05 D2 84 11 0F", Accepted 3)
+unfolding told
+binary_rewritten = refl
+
+a_declaration_rewritten : told [] usual to.Rewritten (marked "EA 81 83 D7 87 B2 81 61 86 71 03 71 0A")
+    ≡ (marked "EA 81 83 D7 86 71 03 87 B2 81 61 71 0A", Accepted 1)
+unfolding told
+a_declaration_rewritten = refl
+
+a_text_rewritten : told [] usual to.Rewritten (codes "{name:[1,2]}") ≡ (marked "D6 84 B4 21 01 21 02", Accepted 1)
+unfolding told
+a_text_rewritten = refl
+
+an_int_negative_zero_not_rewritten : told [] usual to.Rewritten (marked "21 05 31 00") ≡ (marked "21 05", Rejected BadNumber 6)
+unfolding told
+an_int_negative_zero_not_rewritten = refl
+
+binary_longer_than_its_limit_not_rewritten : told [] (record usual { value = 1 }) to.Rewritten (marked "21 05") ≡ (marked "", Rejected ValueLimit 4)
+unfolding told
+binary_longer_than_its_limit_not_rewritten = refl
+
 -- ---- pretty text
 
 members_pretty : told [] usual to.Pretty (codes "a::{name:[1,(b c)],d:{}}[]")
@@ -340,6 +363,12 @@ bound_of_pretty_text = refl
 
 bound_of_binary_from_text : bound usual form.Text to.Other ≡ 23078912
 bound_of_binary_from_text = refl
+
+bound_of_binary_rewritten : bound usual form.Binary to.Rewritten ≡ 23078912
+bound_of_binary_rewritten = refl
+
+bound_of_text_rewritten : bound usual form.Text to.Rewritten ≡ 23078912
+bound_of_text_rewritten = refl
 
 bound_of_other_from_binary : bound usual form.Binary to.Other ≡ 5253120
 bound_of_other_from_binary = refl

@@ -115,34 +115,35 @@ ShowOnce =
     → HasVerdictWith profile catalog limits asked bytes (Accepted n) shown
     → HasVerdictWith next other wide to.Text shown (Accepted m) again → (again ≡ shown) × (m ≡ n)
 
--- a run to text by whatever layout accepts a stream of this form, counts so many values, and writes the text of these by its layout
+-- a run to text, canonical or pretty, accepts a stream of this form, counts so many values, and writes the text of these by its
+-- layout
 abbrev pub IsShown : Profile → List Shared → Limits → Form → List ℕ → ℕ → List (Top UserSymbol ℕ) → Type 0
 IsShown profile catalog limits form bytes n us =
     (target : Target) (layout : Layout) (asked : To) → IsTextBy layout target → resolved form asked ≡ Some target
     → HasVerdictWith profile catalog limits asked bytes (Accepted n) (text_by layout us)
 
--- of a text with these user values: what was shown back is their text by this layout, and counts as many values; a run to text by
--- whatever layout over the text itself is accepted under these limits, and shows them; and each by this layout that is accepted
--- shows what was shown back, whatever its limits and its profile are
+-- of a stream with these user values: what was shown back is their text by this layout, and counts as many values; a run to text,
+-- canonical or pretty, over the stream itself is accepted under these limits, and shows them; and each by this layout that is
+-- accepted shows what was shown back, whatever its limits and its profile are
 pub record IsShownBack (profile : Profile) (catalog : List Shared) (limits : Limits) (layout : Layout) (bytes back : List ℕ) (n m : ℕ)
     : Type 0 where
   pub tops : List (Top SymbolAt ℕ)
   pub us : List (Top UserSymbol ℕ)
-  pub stream : text_grammar.Stream bytes tops
+  pub stream : (encoding_of profile (form_of bytes)).Stream bytes tops
   pub users_are : user_tops catalog system tops ≡ Some us
   pub output : back ≡ text_by layout us
   pub count : m ≡ n
-  pub shown : IsShown profile catalog limits form.Text bytes n us
+  pub shown : IsShown profile catalog limits (form_of bytes) bytes n us
   pub shown_by : (next : Profile) (most : Limits) (target : Target) (asked : To) (out : List ℕ) (k : ℕ) → IsTextBy layout target
-      → resolved form.Text asked ≡ Some target → HasVerdictWith next catalog most asked bytes (Accepted k) out
+      → resolved (form_of bytes) asked ≡ Some target → HasVerdictWith next catalog most asked bytes (Accepted k) out
       → (out ≡ back) × (k ≡ n)
 
--- so it is where a run to binary accepts a text, and a run to text by this layout accepts what it wrote: whatever the limits and
--- the profile of the second are, and the catalogue by which the binary is read
+-- so it is where a run to binary accepts a text, or binary of bytes, and a run to text by this layout accepts what it wrote:
+-- whatever the limits and the profile of the second are, and the catalogue by which the binary is read
 abbrev pub ThereAndBack : Type 0
 ThereAndBack =
     (profile next : Profile) (catalog other : List Shared) (limits wide : Limits) (asked shown : To) (bytes written back : List ℕ) (n m : ℕ)
     (second : Target) (layout : Layout) → IsTextBy layout second → CatalogIsText catalog → AreChecked limits
-    → resolved (form_of bytes) asked ≡ Some target.Binary → HasVerdictWith profile catalog limits asked bytes (Accepted n) written
-    → resolved (form_of written) shown ≡ Some second → HasVerdictWith next other wide shown written (Accepted m) back
-    → IsShownBack profile catalog limits layout bytes back n m
+    → (form_of bytes ≡ form.Binary → AreBytes bytes) → resolved (form_of bytes) asked ≡ Some target.Binary
+    → HasVerdictWith profile catalog limits asked bytes (Accepted n) written → resolved (form_of written) shown ≡ Some second
+    → HasVerdictWith next other wide shown written (Accepted m) back → IsShownBack profile catalog limits layout bytes back n m

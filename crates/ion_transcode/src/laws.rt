@@ -211,8 +211,9 @@ pub fn text_is_read()
     are_layouts();
 }
 
-/// What is shown by any layout of the text by another is what is shown of the values themselves: where
-/// text by a layout is read, the text of what is read is that of the values.
+/// What is shown of a text of values is what is shown of the values themselves: where text by any layout
+/// of white space, commas and colons (`IsLayout`) is read, the text of what is read is that of the
+/// values, by this layout and by each other.
 pub fn layouts_are_alike()
     ensures { LayoutsAreAlike }
 {
@@ -263,21 +264,21 @@ pub fn show_once()
     layouts_are_shown_alike();
 }
 
-/// To convert a text and show the binary is to show the text: a run to text over the binary that was
-/// written of a text writes the text of its values by its layout, where both runs are accepted, and
-/// counts as many. A run to text over the text itself is then accepted under the first run's limits,
-/// and each by that layout that is accepted, under whatever limits, writes the same.
+/// To convert a stream and show the binary is to show the stream: a run to text over the binary that
+/// was written of a text, or of binary, writes the text of its values by its layout, where both runs
+/// are accepted, and counts as many. A run to text over the stream itself is then accepted under the
+/// first run's limits, and each by that layout that is accepted, under whatever limits, writes the same.
 pub fn there_and_back()
     ensures { ThereAndBack }
 {
     what_is_accepted_is_read();
     what_is_read_is_accepted();
     users_of_raw_values();
+    binary::streams_are_raw();
     text::streams_are_raw();
     binary::the_form_is_read();
     binary::what_is_within_is_short();
-    binary_is_spelled_once();
-    text::one_stream();
+    one_spelling();
 }
 
 /// What is read to its end, and has its symbols resolved, and values of which the writer refuses
@@ -326,7 +327,7 @@ pub fn what_is_accepted_is_read()
     faultless_paths_are_read();
     binary::items_are_refused_as_in_trees();
     binary::none_is_refused_within();
-    text::one_stream();
+    one_spelling();
 }
 
 /// What the strict profile accepts, the one that reads floats accepts too: as many values, with the same
@@ -346,10 +347,10 @@ pub fn what_is_read_is_no_deeper()
     ensures { WhatIsReadIsNoDeeper }
 {}
 
-/// The text of values by any layout is read to its end under limits that the values fit, where the
-/// limit on scalars is 64 or more, and its symbols are all resolved: of all values that a user of a
-/// stream can have. No number and no timestamp has more than 64 bytes, and white space counts for no
-/// limit.
+/// The text of values by any layout (`IsLayout`) is read to its end under limits that the values fit,
+/// where the limit on scalars is 64 or more, and its symbols are all resolved: of all values that a user
+/// of a stream can have. No number and no timestamp has more than 64 bytes, and white space counts for
+/// no limit.
 pub fn each_layout_is_read_within()
     ensures { EachTextIsReadWithin }
 {
@@ -379,9 +380,9 @@ pub fn text_is_read_within()
     are_layouts();
 }
 
-/// What a run to text by any layout wrote is accepted, where its values fit the limits, and a run to text
-/// over it writes the text of its values by its own layout. Where depth is no lower and the limit on
-/// scalars is 64 or more, only texts, lobs and annotations may be too long.
+/// What a run to canonical or pretty text wrote is accepted, where its values fit the limits, and a run
+/// to either over it writes that text of its values. Where depth is no lower and the limit on scalars is
+/// 64 or more, only texts, lobs and annotations may be too long.
 pub fn each_shown_text_is_accepted()
     ensures { EachShownTextIsAccepted }
 {
@@ -401,17 +402,18 @@ pub fn what_is_shown_is_accepted()
     each_shown_text_is_accepted();
 }
 
-/// Where a run to binary accepts a text, a run over what it wrote accepts that too, under the same
-/// limits and whatever the catalogue, and writes what a run to text over the text does: under checked
-/// limits of 16 or more for a scalar, where no symbol of the values has a text that is none of the
-/// system symbol table, or the limits allow a declaration and these texts; and under any that the
-/// values fit by their own lengths and numbers.
+/// Where a run to binary accepts a stream, a run over what it wrote accepts that too, under the same
+/// limits and whatever the catalogue, and writes what a run to text over the stream does: of a text
+/// under checked limits of 16 or more for a scalar, where no symbol of the values has a text that is
+/// none of the system symbol table, or the limits allow a declaration and these texts; and of text and
+/// of binary under any that the values fit by their own lengths and numbers.
 pub fn written_binary_is_accepted()
     ensures { WrittenBinaryIsAccepted }
 {
     what_is_accepted_is_read();
     what_is_read_is_accepted();
     users_of_raw_values();
+    binary::streams_are_raw();
     text::streams_are_raw();
     text::values_read_are_within_limits();
     texts_of_users_are_short();

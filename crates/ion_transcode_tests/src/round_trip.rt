@@ -28,9 +28,14 @@ fn written(rt: &impl Abort, alloc: Global, case: Case, to: To) -> Vec<u8> {
     out
 }
 
-/// Asserts that binary shows this, and is accepted when it is only checked.
-fn expect_back(rt: &impl Abort, alloc: Global, case: Case, shown: &[u8]) {
-    for (to, want) in [(To::Text, shown), (To::Other, shown), (To::Nothing, b"")] {
+/// Asserts that binary shows this, is accepted when it is only checked, and is written again as it stands.
+fn expect_back<'a>(rt: &impl Abort, alloc: Global, case: Case<'a>, shown: &'a [u8]) {
+    for (to, want) in [
+        (To::Text, shown),
+        (To::Other, shown),
+        (To::Nothing, b""),
+        (To::Rewritten, case.input),
+    ] {
         let back = written(rt, alloc, case, to);
         same_at(rt, "back", case.row, 0, (to, back.as_slice()), (to, want));
     }

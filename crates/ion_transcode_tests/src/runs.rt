@@ -304,10 +304,12 @@ fn bounds(rt: HostRuntime) -> Result<(), Fail> {
         (To::Pretty, 5_253_120),
         (To::Nothing, 5_253_120),
         (To::Binary, 23_078_912),
+        (To::Rewritten, 23_078_912),
         (To::Other, 23_078_912),
     ] {
         same(&rt, bound(LIMITS, Form::Text, to), want);
     }
+    same(&rt, bound(LIMITS, Form::Binary, To::Rewritten), 23_078_912);
     Ok(())
 }
 

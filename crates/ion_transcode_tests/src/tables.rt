@@ -5,7 +5,7 @@ use super::pretty::expect_pretty;
 use super::round_trip::{expect_by, expect_round_trip};
 use super::rows::{answer_of, next_bytes, next_verdict};
 use super::runs::{Case, LIMITS, expect_octets, expect_text};
-use super::to_binary::expect_converted;
+use super::to_binary::{expect_converted, expect_rewritten};
 use ion_test_support::fields::{Fields, is_row};
 use std::alloc::Global;
 use std::process::Abort;
@@ -21,6 +21,8 @@ pub enum Kind {
     Octets,
     /// Texts, their verdicts, and what is written of them as binary.
     Converted,
+    /// Binary, its verdicts, and what is written of it as binary.
+    Rewritten,
     /// Streams, their verdicts, and their pretty text.
     Pretty,
     /// Streams that are read by the catalogue of one table, their verdicts, and what is shown of them.
@@ -58,6 +60,7 @@ fn expect(rt: &impl Abort, alloc: Global, kind: Kind, case: Case, output: &[u8])
         Kind::Texts | Kind::Canonical => expect_text(rt, alloc, case, output),
         Kind::Octets => expect_octets(rt, alloc, case, output),
         Kind::Converted => expect_converted(rt, alloc, case, output),
+        Kind::Rewritten => expect_rewritten(rt, alloc, case, output),
         Kind::Pretty => expect_pretty(rt, alloc, case, output),
         Kind::Imports => expect_by(rt, alloc, case, output),
         Kind::Catalogues => expect_load(rt, alloc, case),

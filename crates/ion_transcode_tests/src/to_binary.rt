@@ -17,7 +17,37 @@ use std::test::Fail;
 pub fn expect_converted(rt: &impl Abort, alloc: Global, case: Case, output: &[u8]) {
     expect(rt, alloc, case, To::Binary, output);
     expect(rt, alloc, case, To::Other, output);
+    expect(rt, alloc, case, To::Rewritten, output);
     expect_round_trip(rt, alloc, case);
+}
+
+/// Asserts the verdict on binary that is written as binary again, and what is written of it, and that what is
+/// accepted goes there and back.
+pub fn expect_rewritten(rt: &impl Abort, alloc: Global, case: Case, output: &[u8]) {
+    expect(rt, alloc, case, To::Rewritten, output);
+    expect_round_trip(rt, alloc, case);
+}
+
+/// Binary that is written again: NOP pads, order of fields, lengths and declarations as this project writes them.
+const REWRITTEN: &str = r#"
+%E0%01%00%EA|0|%E0%01%00%EA|
+%E0%01%00%EA%0F%00%01%FF%21%05|2|%E0%01%00%EA%0F%21%05|
+%E0%01%00%EA%22%00%05%72%00%04%2E%00%81%05%8E%81%61%BE%80|5|%E0%01%00%EA%21%05%71%04%21%05%81%61%B0|
+%E0%01%00%EA%D5%80%01%FF%84%11%D1%82%84%11|2|%E0%01%00%EA%D2%84%11%D2%84%11|
+%E0%01%00%EA%E0%01%00%EA%21%05%E0%01%00%EA%11|2|%E0%01%00%EA%21%05%11|
+%E0%01%00%EA%EA%81%83%D7%87%B2%81%61%86%71%03%71%0A%71%0A|2|%E0%01%00%EA%EA%81%83%D7%86%71%03%87%B2%81%61%71%0A%71%0A|
+# A declared text that is not used is not declared again, and ids count from 10.
+%E0%01%00%EA%E9%81%83%D6%87%B4%81%61%81%62%71%0B|1|%E0%01%00%EA%EA%81%83%D7%86%71%03%87%B2%81%62%71%0A|
+# What is refused, and what stands before it.
+%E0%01%00%EA%21%05%31%00|BadNumber 6|%E0%01%00%EA%21%05|
+%E0%01%00%EA%21%05%B2%11|Truncated 8|%E0%01%00%EA%21%05|
+%E0%01%00%EA%71%0A|BadSymbol 4|%E0%01%00%EA|
+%E0%01%00%EA%11%21%05|ValueLimit 5|%E0%01%00%EA%11|value=1|
+"#;
+
+#[test]
+fn rewritten(rt: HostRuntime) {
+    expect_rows(&rt, rt.alloc(), Kind::Rewritten, REWRITTEN);
 }
 
 /// Numbers and timestamps.

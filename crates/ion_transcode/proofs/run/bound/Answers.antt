@@ -2,5 +2,5 @@ use Rattle.std.proofs.Common.{arith}
 use Rattle.std.proofs.lemmas.Grind.{common_steps}
 use Rattle.ion_transcode.proofs.run.bound.Goals as goal
 
-pub returns-in-Text-Some-Binary : goal.returns-in-Text-Some-Binary
-returns-in-Text-Some-Binary c = grind (arith, common_steps) steps 400000
+pub returns-in-Some-Binary : goal.returns-in-Some-Binary
+returns-in-Some-Binary c = grind (arith, common_steps) steps 400000

@@ -62,9 +62,11 @@ ALL_FOUR = ["--depth", "1", "--scalar", "3", "--symbols", "17", "--value", "7"]
 # [1,"abc"] in binary; then the declaration of `a` and its symbol
 WITHIN = MARKER + bytes.fromhex("B6 21 01 83 61 62 63 EA 81 83 D7 86 71 03 87 B2 81 61 71 0A")
 TRY = b"\nFor more information, try '--help'.\n"
-WRONG = b"error: '--to <FORM>' takes text or binary; several files need it; '--pretty' needs '--to text'\n" + TRY
+WRONG = b"error: '--to <FORM>' takes text or binary; several files need it, '--pretty' text, '--rewrite' binary\n" + TRY
 FLOATS = b"[1e0, 1.0e0, -0e0, 6.02214076e23, 5e-324, 1.7976931348623157e308, nan, +inf, -inf, 0.1e0, 1e400]"
 SHOWN_FLOATS = b"[1e0,1e0,-0e0,6.02214076e23,5e-324,1.7976931348623157e308,nan,+inf,-inf,1e-1"
+# After a NOP pad an int with a zero octet before it, and a struct with its fields in order.
+PADDED = MARKER + bytes.fromhex("01 FF 22 00 05 D1 82 84 11")
 # Seconds that a row may take, which takes some milliseconds.
 PATIENCE = 60
 
@@ -92,6 +94,12 @@ ROWS = [
     ("to binary, of text", "convert --to binary six.ion", b"", 0, SIX, b""),
     ("to binary, of binary", "convert --to binary six.10n", b"", 1, b"", b"refused SameForm at 0\n"),
     ("the same, by =", "convert --to=binary", SIX + b"\xff", 1, b"", b"refused SameForm at 0\n"),
+    ("to binary, of binary, written again", "convert --to binary --rewrite six.10n", b"", 0, SIX, b""),
+    ("canonical binary of other binary", "convert --rewrite --to=binary", PADDED, 0, MARKER + b"\x21\x05\xD2\x84\x11", b""),
+    ("to binary, of text, by the same words", "convert --to binary --rewrite -", LINES, 0, SIX, b""),
+    ("binary written again, to its fault", "convert --to binary --rewrite", PADDED + b"\x31\x00", 1, MARKER + b"\x21\x05\xD2\x84\x11",
+     b"refused BadNumber at 13\n"),
+    ("floats in binary, written again", "convert --floats --to binary --rewrite", MARKER + b"\x40", 0, MARKER + b"\x40", b""),
     ("to binary, of nothing", "convert --to binary empty", b"", 0, MARKER, b""),
     ("to text, with a catalogue", "convert --catalog tables.ion --to text imports.ion", b"", 0, b"p\nq\n", b""),
     ("show with a catalogue", "show --catalog tables.ion imports.ion", b"", 0, b"p\nq\n", b""),
@@ -200,6 +208,7 @@ FORMED = [
     ("convert --to=text -", STRUCT, 0, LINE, b""),
     ("convert --to=binary", STRUCT, 1, b"", b"refused SameForm at 0\n"),
     ("convert --to binary nested.10n", LINE, 1, b"", b"refused SameForm at 0\n"),
+    ("convert --to binary --rewrite", STRUCT, 0, STRUCT, b""),
     ("convert --catalog tables.ion --to text", IMPORT_AND_A, 0, b"a\np\n", b""),
     ("convert --to binary", CUT, 1, FIVE, b"refused Truncated at 7\n"),
 ]
@@ -236,6 +245,7 @@ SEVERAL = [
     ("show --pretty nested.10n bad.ion five.10n", b"", 1, b"[\n  [\n    5\n  ]\n]\n1\n[\n  2,\n  3\n]\n5\n", b"bad.ion: refused Float at 9\n"),
     ("convert --to text --pretty five.10n nested.10n", b"", 0, b"5\n[\n  [\n    5\n  ]\n]\n", b""),
     ("convert --to binary six.ion - empty", b"5", 0, SIX + FIVE + MARKER, b""),
+    ("convert --to binary --rewrite six.ion five.10n", b"", 0, SIX + FIVE, b""),
     ("convert --to binary six.ion five.10n -", b"[1, 2", 1, SIX + MARKER, b"five.10n: refused SameForm at 0\n-: refused Truncated at 5\n"),
     ("show -", SIX + FIVE + MARKER, 0, LINES + b"5\n", b""),
     ("show --catalog tables.ion imports.ion imports.ion", b"", 0, b"p\nq\np\nq\n", b""),
@@ -283,6 +293,10 @@ USAGE = [
     "check --pretty six.ion",
     "convert --pretty six.ion",
     "convert --pretty --to binary six.ion",
+    "show --rewrite six.10n",
+    "convert --rewrite six.10n",
+    "convert --rewrite --to text six.10n",
+    "convert --rewrite --pretty --to binary six.10n",
     "convert --to other",
     "convert --to text --to text",
 ]

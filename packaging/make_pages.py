@@ -33,9 +33,10 @@ stream then has a name:
   make-tables | ion show --catalog /dev/stdin data.10n
 
 A stream is binary if its first byte is E0, whatever the file is called. A script that may run twice says --to, since convert
-alone would turn everything back. Binary is not written again as binary: that is refused as SameForm at 0.
+alone would turn everything back. Binary is refused as SameForm at 0 where
+--to binary stands, unless --rewrite asks for canonical binary of it.
 
---pretty goes with show, and with convert --to text.
+--pretty goes with show, and with convert --to text; --rewrite with convert --to binary.
 
 Without --floats a float other than null.float is refused, as Float, and so is a number of JSON with an exponent, which is one.
 

@@ -18,7 +18,7 @@ use Rattle.ion_meter.specs.Rules.{strict}
 use Rattle.ion_transcode.specs.declared.to.Form.{Form}
 use Rattle.ion_transcode.specs.declared.to.Form.TheVariants as form
 use Rattle.ion_tool.specs.declared.words.Action.{Action}
-use Rattle.ion_tool.specs.declared.words.Action.TheVariants.{Show, ShowPretty, Check, Convert, ConvertPretty}
+use Rattle.ion_tool.specs.declared.words.Action.TheVariants.{Show, ShowPretty, Check, Convert, ConvertPretty, Rewrite}
 use Rattle.ion_tool.specs.declared.words.Task.{Task}
 use Rattle.ion_tool.specs.declared.words.Request.{Request}
 use Rattle.ion_tool.specs.declared.words.Request.TheVariants.{Run, Help, Usage}
@@ -38,6 +38,10 @@ catalog_rule = record (new_rule (codes "catalog")) { long = Some (codes "catalog
 -- `--pretty`
 abbrev pub pretty_rule : Rule
 pretty_rule = record (new_rule (codes "pretty")) { long = Some (codes "pretty"); action = Some SetTrue }
+
+-- `--rewrite`
+abbrev pub rewrite_rule : Rule
+rewrite_rule = record (new_rule (codes "rewrite")) { long = Some (codes "rewrite"); action = Some SetTrue }
 
 -- `--floats`
 abbrev pub floats_rule : Rule
@@ -64,11 +68,11 @@ action_app app = with_rule (with_limits (with_rule (with_rule app floats_rule) c
 abbrev pub bare_app : App
 bare_app = let a = new_app (codes "ion") in record a { top = record a.top { no_binary_name = true; subcommand_required = true; has_version = true } }
 
--- `ion show [--pretty]`, `ion check`, `ion convert [--to FORM] [--pretty]`
+-- `ion show [--pretty]`, `ion check`, `ion convert [--to FORM] [--pretty] [--rewrite]`
 abbrev pub ion_app : App
 ion_app =
     with_subcommand (with_subcommand (with_subcommand bare_app (action_app (with_rule (new_app (codes "show")) pretty_rule)).top) (action_app (new_app (codes "check"))).top)
-    (action_app (with_rule (with_rule (new_app (codes "convert")) form_rule) pretty_rule)).top
+    (action_app (with_rule (with_rule (with_rule (new_app (codes "convert")) form_rule) pretty_rule) rewrite_rule)).top
 
 -- the subcommand for an action
 abbrev pub action_name : Action → Text
@@ -77,6 +81,7 @@ action_name ShowPretty = codes "show"
 action_name Check = codes "check"
 action_name (Convert to) = codes "convert"
 action_name ConvertPretty = codes "convert"
+action_name Rewrite = codes "convert"
 
 -- the word for a form
 abbrev pub form_name : Form → Text
@@ -90,6 +95,7 @@ form_word ShowPretty = None
 form_word Check = None
 form_word (Convert to) = option_map form_name to
 form_word ConvertPretty = Some (form_name form.Text)
+form_word Rewrite = Some (form_name form.Binary)
 
 -- whether `--pretty` stands for an action
 abbrev pub is_pretty : Action → Bool
@@ -98,6 +104,16 @@ is_pretty ShowPretty = true
 is_pretty Check = false
 is_pretty (Convert to) = false
 is_pretty ConvertPretty = true
+is_pretty Rewrite = false
+
+-- whether `--rewrite` stands for an action
+abbrev pub is_rewritten : Action → Bool
+is_rewritten Show = false
+is_rewritten ShowPretty = false
+is_rewritten Check = false
+is_rewritten (Convert to) = false
+is_rewritten ConvertPretty = false
+is_rewritten Rewrite = true
 
 -- the number of a text that the option takes: digits, of a number that is at most this one
 abbrev pub number_in : ℕ → Text → Option ℕ
@@ -130,6 +146,10 @@ profile_in rows = record { floats = is_set (first_of (codes "floats") rows) }
 abbrev pub pretty_in : List Row → Bool
 pretty_in rows = is_set (first_of (codes "pretty") rows)
 
+-- whether a subcommand is given `--rewrite`
+abbrev pub rewrite_in : List Row → Bool
+rewrite_in rows = is_set (first_of (codes "rewrite") rows)
+
 -- the word of `--to`, where a subcommand is given one
 abbrev pub form_in : List Row → Option Text
 form_in rows = first_of (codes "to") rows
@@ -157,6 +177,7 @@ has_one_form (Convert None) (first ∷ []) = true
 has_one_form (Convert None) [] = true
 has_one_form (Convert (Some form)) files = true
 has_one_form ConvertPretty files = true
+has_one_form Rewrite files = true
 has_one_form Show files = true
 has_one_form ShowPretty files = true
 has_one_form Check files = true
@@ -169,6 +190,7 @@ pub record Names (words : List Text) (task : Task) (limits : Limits) (catalog : 
   pub named : subcommand_of ion_app words ≡ Some (action_name task.action, rows)
   pub formed : form_in rows ≡ form_word task.action
   pub laid_out : pretty_in rows ≡ is_pretty task.action
+  pub rewritten : rewrite_in rows ≡ is_rewritten task.action
   pub profiled : profile_in rows ≡ task.profile
   pub limited : limits_in rows ≡ Some limits
   pub catalogued : catalog_in rows ≡ catalog
@@ -188,7 +210,8 @@ AsksRun words = (task : Task) × (limits : Limits) × (catalog : Option Text) ×
 abbrev pub IsHelp : List Text → Type 0
 IsHelp words = IsAmong DisplayHelp (fault_of ion_app words) ⊎ IsAmong DisplayVersion (fault_of ion_app words)
 
--- the words are wrong: `clap` may find a fault in them that asks for neither, or it finds none and `--to` names no form, or is not there for several files, or not text with `--pretty`
+-- the words are wrong: `clap` may find a fault in them that asks for neither, or it finds none and `--to` names no form, or is not there for several files, or not text with `--pretty`, or not binary
+-- with `--rewrite`
 abbrev pub IsUsage : List Text → Type 0
 IsUsage words =
     (fault_of ion_app words ≡ []) ⊎ ((kind : ErrorKind) × IsAmong kind (fault_of ion_app words) × (kind ≢ DisplayHelp) × (kind ≢ DisplayVersion))

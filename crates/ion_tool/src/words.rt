@@ -3,7 +3,7 @@ ghost use Rattle.std.specs.Prelude.{◌≡◌, ◌≢◌, ◌≤◌, false, true
 ghost use Rattle.clap.specs.Words.{Row, app_of, first_of, found_of, kind_of, rows_of, rule_of, fault_of, FailsBy, new_app, new_rule, subcommand_of, subcommand_rows_of, with_rule, with_subcommand};
 ghost use Rattle.clap.specs.declared.builder.command.Command.TheViews.{out-Command};
 ghost use Rattle.ion_meter.specs.Limits.{AreChecked};
-ghost use Rattle.ion_tool.specs.Words.{action_app, with_limits, action_name, all_named, bare_app, catalog_in, catalog_rule, file_for, files_in, files_rule, form_in, has_one_form, form_rule, form_word, ion_app, limit_in, limit_rule, limits_in, floats_rule, is_pretty, is_set, pretty_in, pretty_rule, profile_in, Asks, AnswersError, IsRequestFor};
+ghost use Rattle.ion_tool.specs.Words.{action_app, with_limits, action_name, all_named, bare_app, catalog_in, catalog_rule, file_for, files_in, files_rule, form_in, has_one_form, form_rule, form_word, ion_app, limit_in, limit_rule, limits_in, floats_rule, is_pretty, is_rewritten, is_set, pretty_in, pretty_rule, profile_in, rewrite_in, rewrite_rule, Asks, AnswersError, IsRequestFor};
 
 use clap::builder::ValueParser;
 use clap::error::ErrorKind;
@@ -27,6 +27,8 @@ pub enum Action {
     Convert(Option<Form>),
     /// It is written in the form that is named, text, as text for people.
     ConvertPretty,
+    /// It is written in the form that is named, binary, also where it is binary.
+    Rewrite,
 }
 
 /// What is done with the stream, and which values of Ion it may have.
@@ -78,9 +80,9 @@ const USAGE: &str = "ion <show|check|convert> [OPTIONS] [FILE]...
        as in: ion show data.ion";
 
 /// What is said of wrong words of which `clap` says nothing: it takes any word after `--to`, and
-/// several files or `--pretty` without that option.
+/// several files, `--pretty` or `--rewrite` without that option.
 const WRONG: &str =
-    "error: '--to <FORM>' takes text or binary; several files need it; '--pretty' needs '--to text'
+    "error: '--to <FORM>' takes text or binary; several files need it, '--pretty' text, '--rewrite' binary
 
 For more information, try '--help'.
 ";
@@ -136,6 +138,17 @@ fn pretty_arg<'a>(alloc: Global) -> Arg<'a>
         .long("pretty")
         .action(ArgAction::SetTrue)
         .help("Write each member of a container on a line of its own")
+}
+
+/// The option `--rewrite`.
+fn rewrite_arg<'a>(alloc: Global) -> Arg<'a>
+    ensures rule { rule_of result ≡ rewrite_rule }
+    ensures own { result.global ≡ false }
+{
+    Arg::new(alloc, "rewrite")
+        .long("rewrite")
+        .action(ArgAction::SetTrue)
+        .help("Write binary also of a stream that is binary")
 }
 
 /// The option `--catalog FILE`.
@@ -251,12 +264,14 @@ fn show_command<'a>(alloc: Global) -> Result<Command<'a>, AllocError>
 /// The subcommand that converts, with the options of its own.
 fn convert_command<'a>(alloc: Global) -> Result<Command<'a>, AllocError>
     ensures app { IfOk result (λ c. app_of c
-        ≡ with_rule (with_rule (new_app (codes "convert")) form_rule) pretty_rule) }
+        ≡ with_rule (with_rule (with_rule (new_app (codes "convert")) form_rule) pretty_rule)
+        rewrite_rule) }
     ensures own { IfOk result (λ c. (out-Command c).has_globals ≡ false) }
 {
     Command::new(alloc, "convert")
         .arg(form_arg(alloc))?
-        .arg(pretty_arg(alloc))
+        .arg(pretty_arg(alloc))?
+        .arg(rewrite_arg(alloc))
 }
 
 /// The whole command.
@@ -397,21 +412,24 @@ fn is_set(options: &ArgMatches<'_>, name: &str) -> bool
 }
 
 /// The action that a subcommand stands for, with the word that `--to` gives it, and where `--pretty`
-/// stands.
-fn action_of(name: &str, form: Option<&str>, pretty: bool) -> Option<Action>
+/// and `--rewrite` stand.
+fn action_of(name: &str, form: Option<&str>, pretty: bool, rewrite: bool) -> Option<Action>
     ensures some { IfSome result (λ a. (name.now ≡ action_name a)
-        × (option_map (λ s. s.now) form.entry ≡ form_word a) × (pretty ≡ is_pretty a)) }
+        × (option_map (λ s. s.now) form.entry ≡ form_word a) × (pretty ≡ is_pretty a)
+        × (rewrite ≡ is_rewritten a)) }
     ensures none { result ≡ None → (a : Action) → name.now ≡ action_name a
-        → option_map (λ s. s.now) form.entry ≡ form_word a → pretty ≢ is_pretty a }
+        → option_map (λ s. s.now) form.entry ≡ form_word a → pretty ≡ is_pretty a
+        → rewrite ≢ is_rewritten a }
 {
-    match (name, form, pretty) {
-        ("show", None, false) => Some(Action::Show),
-        ("show", None, true) => Some(Action::ShowPretty),
-        ("check", None, false) => Some(Action::Check),
-        ("convert", None, false) => Some(Action::Convert(None)),
-        ("convert", Some("text"), false) => Some(Action::Convert(Some(Form::Text))),
-        ("convert", Some("text"), true) => Some(Action::ConvertPretty),
-        ("convert", Some("binary"), false) => Some(Action::Convert(Some(Form::Binary))),
+    match (name, form, pretty, rewrite) {
+        ("show", None, false, false) => Some(Action::Show),
+        ("show", None, true, false) => Some(Action::ShowPretty),
+        ("check", None, false, false) => Some(Action::Check),
+        ("convert", None, false, false) => Some(Action::Convert(None)),
+        ("convert", Some("text"), false, false) => Some(Action::Convert(Some(Form::Text))),
+        ("convert", Some("text"), true, false) => Some(Action::ConvertPretty),
+        ("convert", Some("binary"), false, false) => Some(Action::Convert(Some(Form::Binary))),
+        ("convert", Some("binary"), false, true) => Some(Action::Rewrite),
         _ => None,
     }
 }
@@ -442,6 +460,7 @@ fn asked_by<'m, 'a>(matches: &'m ArgMatches<'a>) -> Option<Asked<'m, 'a>>
         × (subcommand_rows_of matches.now ≡ Some (action_name a.task.action, rows))
         × (form_in rows ≡ form_word a.task.action)
         × (pretty_in rows ≡ is_pretty a.task.action)
+        × (rewrite_in rows ≡ is_rewritten a.task.action)
         × (profile_in rows ≡ a.task.profile)
         × (limits_in rows ≡ Some a.limits) × AreChecked a.limits
         × (catalog_in rows ≡ option_map (λ s. s.now) a.catalog)
@@ -451,12 +470,14 @@ fn asked_by<'m, 'a>(matches: &'m ArgMatches<'a>) -> Option<Asked<'m, 'a>>
         → subcommand_rows_of matches.now ≡ Some (action_name action, rows)
         → form_in rows ≡ form_word action
         → pretty_in rows ≡ is_pretty action
+        → rewrite_in rows ≡ is_rewritten action
         → has_one_form action (files_in rows) ≡ true
         → limits_in rows ≡ None }
 {
     let (name, options) = matches.subcommand()?;
     let pretty = is_set(options, "pretty");
-    let action = action_of(name, options.get_str("to"), pretty)?;
+    let rewrite = is_set(options, "rewrite");
+    let action = action_of(name, options.get_str("to"), pretty, rewrite)?;
     let limits = limits_of(options)?;
     let files = options.get_strs("FILE");
     if !has_one_form(action, files) {
@@ -549,9 +570,9 @@ pub fn read_words(alloc: Global, words: &[String]) -> Result<Request, AllocError
     };
     match asked_by(&matches) {
         Some(asked) => request_for(alloc, asked),
-        // `--to` names no form, not text with `--pretty`, or is not there for several files. No
-        // other words lead here: `clap` answers its own subcommand, `help`, by an error, and so
-        // numbers that are past a limit.
+        // `--to` names no form, not text with `--pretty` or binary with `--rewrite`, or is not there
+        // for several files. No other words lead here: `clap` answers its own subcommand, `help`, by
+        // an error, and so numbers that are past a limit.
         None => Ok(Request::Usage(String::from_str(alloc, WRONG)?)),
     }
 }

@@ -33,3 +33,8 @@ pub returns-in-ConvertPretty-clause-answered : goal.returns-in-ConvertPretty-cla
 returns-in-ConvertPretty-clause-answered g c i o =
     written (label_of (option_map (λ s. s.now) c.args.label)) c.args.task (λ v text. rw c.in-ConvertPretty.is refl) c.args.catalog.now c.args.limits (g.I.Input.rest c.args.input) (g.O.Output.written c.args.out) (g.O.Output.written c.run_stream-in-ConvertPretty.result.2) (g.O.Output.observable c.args.out) o
     c.run_stream-in-ConvertPretty.result.0 (c.run_stream-in-ConvertPretty.ensures.transcoded i)
+
+pub returns-in-Rewrite-clause-answered : goal.returns-in-Rewrite-clause-answered
+returns-in-Rewrite-clause-answered g c i o =
+    written (label_of (option_map (λ s. s.now) c.args.label)) c.args.task (λ v text. rw c.in-Rewrite.is refl) c.args.catalog.now c.args.limits (g.I.Input.rest c.args.input) (g.O.Output.written c.args.out) (g.O.Output.written c.run_stream-in-Rewrite.result.2) (g.O.Output.observable c.args.out) o
+    c.run_stream-in-Rewrite.result.0 (c.run_stream-in-Rewrite.ensures.transcoded i)

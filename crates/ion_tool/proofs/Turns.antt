@@ -9,7 +9,7 @@ use Rattle.ion_meter.specs.declared.device.Output.{Ghosts as OutputOf}
 use Rattle.ion_meter.specs.declared.limits.Limits.{Limits}
 use Rattle.ion_symbols.specs.Table.{Shared}
 use Rattle.ion_tool.specs.Words.{file_for}
-use Rattle.ion_tool.specs.Serving.{label_of, Giving, Closing, Standing, IsFollowed, IsOpenServed, IsRunServed, AreServed}
+use Rattle.ion_tool.specs.Serving.{label_of, Giving, Closing, Standing, IsFollowed, IsOpenServed, IsRunServed, AreServed, AreAllServed, IsInTurn}
 use Rattle.ion_tool.specs.declared.words.Task.{Task}
 
 -- whatever the runs for the words that are left come to, that is what all of them come to
@@ -119,3 +119,30 @@ pub one_holds : {S F I O E : Type 0} (gives : Giving S F) (closes : Closing S F)
 one_holds gives closes remaining input output errors label catalog asked limits None old new status run = run.1.kept.held
 one_holds gives closes remaining input output errors label catalog asked limits (Some name) old new status run =
     open_holds closes remaining output errors label catalog asked limits name run.1.0 old.counts new.counts run.1.1 new.files old.output new.output old.errors new.errors status run.1.3
+
+-- ---- by how many words there are
+
+pub all_of_none : {T S F I O E : Type 0} (gives : Giving S F) (closes : Closing S F) (remaining : F → Option (List ℕ)) (input : InputOf I) (output : OutputOf O) (errors : OutputOf E)
+    (catalog : List Shared) (asked : Task) (limits : Limits) (f : T → Text) (xs : List T) (old new : Standing S I O E) (status : ℕ) → length xs ≡ 0
+    → IsRunServed gives closes remaining input output errors [] catalog asked limits None old new status
+    → AreAllServed gives closes remaining input output errors catalog asked limits (map f xs) old new status
+all_of_none gives closes remaining input output errors catalog asked limits f [] old new status e run = run
+all_of_none gives closes remaining input output errors catalog asked limits f (x ∷ xs) old new status e run = absurd (cc e)
+
+pub all_of_one : {T S F I O E : Type 0} (gives : Giving S F) (closes : Closing S F) (remaining : F → Option (List ℕ)) (input : InputOf I) (output : OutputOf O) (errors : OutputOf E)
+    (catalog : List Shared) (asked : Task) (limits : Limits) (f : T → Text) (xs : List T) (x : T) (old new : Standing S I O E) (status : ℕ) → length xs ≡ 1 → x ≡ get_or xs 0 x
+    → IsRunServed gives closes remaining input output errors [] catalog asked limits (file_for (f x)) old new status
+    → AreAllServed gives closes remaining input output errors catalog asked limits (map f xs) old new status
+all_of_one gives closes remaining input output errors catalog asked limits f [] x old new status e is run = absurd (cc e)
+all_of_one {T} gives closes remaining input output errors catalog asked limits f (y ∷ []) x old new status e is run =
+    subst (λ (z : T). IsRunServed gives closes remaining input output errors [] catalog asked limits (file_for (f z)) old new status) is run
+all_of_one gives closes remaining input output errors catalog asked limits f (y ∷ z ∷ zs) x old new status e is run = absurd (omega arith)
+
+pub all_of_several : {T S F I O E : Type 0} (gives : Giving S F) (closes : Closing S F) (remaining : F → Option (List ℕ)) (input : InputOf I) (output : OutputOf O) (errors : OutputOf E)
+    (catalog : List Shared) (asked : Task) (limits : Limits) (f : T → Text) (xs : List T) (old new : Standing S I O E) (status : ℕ) → 1 < length xs
+    → AreServed gives closes remaining input output errors catalog asked limits (map f xs) old new status
+    → (output.observable old.output → IsInTurn gives closes remaining input output errors catalog asked limits (map f xs) old.output new.output)
+    → AreAllServed gives closes remaining input output errors catalog asked limits (map f xs) old new status
+all_of_several gives closes remaining input output errors catalog asked limits f [] old new status several served parts = absurd (omega arith)
+all_of_several gives closes remaining input output errors catalog asked limits f (x ∷ []) old new status several served parts = absurd (omega arith)
+all_of_several gives closes remaining input output errors catalog asked limits f (x ∷ y ∷ zs) old new status several served parts = (served, parts)

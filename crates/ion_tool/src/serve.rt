@@ -259,7 +259,7 @@ fn serve_job<F: FileSource, I: Input, O: Output, E: Output>(
         label: None,
     };
     match job.files.as_slice() {
-        [] => serve_input(meter, catalog, manner, input, out, err),
+        [] => serve_one(meter, catalog, manner, files, None, input, out, err),
         [word] => {
             let name = file_of(word.as_str());
             serve_one(meter, catalog, manner, files, name, input, out, err)
@@ -416,9 +416,9 @@ pub fn serve<F: FileSource, I: Input + Drop, O: Output + Drop, E: Output + Drop>
     // Words that ask for runs without a catalogue. Where they name no file it is one run over the
     // input, and the source of files is left as it was; where they name one it is a run over what
     // that opens to, which is handed back as the run leaves it, and the input is not read; where
-    // they name several, such a run for each in turn, with its word before its lines. The status,
-    // both outputs, the failures and the memory of a run are those of some answer. Or the words
-    // could not be read.
+    // they name several, such a run for each in turn, with its word before its lines, and what is
+    // written is what the runs alone write, one after another. The status, both outputs, the
+    // failures and the memory of a run are those of some answer. Or the words could not be read.
     ensures ran { (task : Task) (limits : Limits) (names : List (List ℕ))
         → IsRun (map string_bytes words.items) task limits None names
         → IsJobServed F.gives F.closes F.File.remaining I.Input O.Output E.Output []

@@ -27,7 +27,7 @@ open_adds : {S F O E : Type 0} (closes : Closing S F) (remaining : F → Option 
     (limits : Limits) (name : List ℕ) (found : Result F (List ℕ)) (old new : Counts) (opened files_new : S) (out_old out_new : O) (err_old err_new : E) (status : ℕ)
     → IsOpenServed closes remaining output errors label catalog asked limits name found old new opened files_new out_old out_new err_old err_new status → Adds output out_old out_new
 open_adds {S} {F} {O} {E} closes remaining output errors label catalog asked limits name (Err reason) old new opened files_new out_old out_new err_old err_new status served =
-    λ o. subst (λ (d : O). output.observable d × HasPrefix (output.written d) (output.written out_old)) (sym served.output) (o, [], sym (append-nil _))
+    λ o. subst (λ (d : O). output.observable d × HasPrefix (output.written d) (output.written out_old)) (sym served.output) (o, ([], sym (append-nil _)))
 open_adds closes remaining output errors label catalog asked limits name (Ok file) old new opened files_new out_old out_new err_old err_new status served =
     run_adds (file_input remaining) output errors label catalog asked limits old new _ _ out_old out_new err_old err_new status served.2
 

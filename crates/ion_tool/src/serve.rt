@@ -264,7 +264,7 @@ fn serve_job<F: FileSource, I: Input, O: Output, E: Output>(
             let name = file_of(word.as_str());
             serve_one(meter, catalog, manner, files, name, input, out, err)
         }
-        _ => serve_each(meter, catalog, &job, files, input, out, err),
+        [_, _, ..] => serve_each(meter, catalog, &job, files, input, out, err),
     }
 }
 

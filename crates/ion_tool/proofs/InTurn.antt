@@ -1,7 +1,6 @@
 -- What runs write that are served one after another.
-use Rattle.std.proofs.Common.{◌≡◌, ◌⊎◌, inl, inr, ℕ, List, [], ◌∷◌, ◌++◌, Option, None, Some, Result, Ok, Err, refl, sym, ap, subst, ◌∙◌, append_assoc, append-nil}
+use Rattle.std.proofs.Common.{inl, inr, ℕ, List, [], ◌∷◌, ◌++◌, Option, None, Some, Result, Ok, Err, sym, ap, subst, ◌∙◌, append_assoc, append-nil}
 use Rattle.std.specs.List.{concat}
-use Rattle.std.specs.Prelude.{max}
 use Rattle.clap.specs.Words.{Text}
 use Rattle.ion_meter.specs.Counts.{Counts}
 use Rattle.ion_meter.specs.Windows.{HasPrefix}
@@ -10,7 +9,7 @@ use Rattle.ion_meter.specs.declared.device.Output.{Ghosts as OutputOf}
 use Rattle.ion_meter.specs.declared.limits.Limits.{Limits}
 use Rattle.ion_symbols.specs.Table.{Shared}
 use Rattle.ion_tool.specs.Words.{file_for}
-use Rattle.ion_tool.specs.Serving.{file_input, label_of, Giving, Closing, Standing, IsServed, IsOpenServed, IsFileServed, IsFollowed, IsRunServed, ArePartsOf, AreServed, IsInTurn}
+use Rattle.ion_tool.specs.Serving.{file_input, label_of, Giving, Closing, Standing, IsServed, IsOpenServed, IsRunServed, AreServed, IsInTurn}
 use Rattle.ion_tool.specs.declared.words.Task.{Task}
 
 -- what is written after what was there before, where that can be observed

@@ -1,7 +1,6 @@
-use Rattle.std.proofs.Common.{arith, ◌≡◌, ◌∙◌, inl, refl, sym, ap}
+use Rattle.std.proofs.Common.{arith, inl, refl}
 use Rattle.std.specs.Prelude.{string_bytes}
 use Rattle.ion_tool.specs.Serving.{standing}
-use Rattle.ion_tool.specs.Words.{file_for}
 use Rattle.ion_tool.proofs.InTurn.{in_turn}
 use Rattle.ion_tool.proofs.Turns.{greatest_status, leads_first, leads_next, leads_last, leads_out, left_from, left_past, one_holds}
 use Rattle.ion_tool.proofs.serve.serve_each.Goals as goal

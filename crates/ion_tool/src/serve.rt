@@ -209,7 +209,7 @@ fn serve_each<F: FileSource, I: Input, O: Output, E: Output>(
         out result.2 }
     ensures status { (result.0 ≡ 0) ⊎ ((result.0 ≡ 1) ⊎ (result.0 ≡ 3)) }
 {
-    let mut status = 0;
+    let mut status: u8 = 0;
     let words = job.files.as_slice();
     for word in words {
         let word = word.as_str();

@@ -19,8 +19,8 @@ returns-in-len1-clause-served g c =
     (standing c.serve_one-in-len1.new.meter c.serve_one-in-len1.new.files c.serve_one-in-len1.result.1 c.serve_one-in-len1.result.2 c.serve_one-in-len1.result.3) c.serve_one-in-len1.result.0
     c.as_slice.ensures.value (omega (arith, c.in-len1.len_at_least, c.in-len1.len_below)) c.word-item.is c.as_str.ensures.value c.file_of-name.ensures c.serve_one-in-len1.ensures.served
 
-pub returns-in-len2-up-clause-served : goal.returns-in-len2-up-clause-served
-returns-in-len2-up-clause-served g c =
+pub returns-clause-served : goal.returns-clause-served
+returns-clause-served g c =
     all_of_several g.F.FileSource.gives g.F.FileSource.closes g.F.File.Read.remaining g.I.Input g.O.Output g.E.Output _ _ _ string_bytes c.args.job.files.items c.as_slice.result.now
     (standing c.args.meter.now c.args.files.now c.args.input c.args.out c.args.err)
     (standing c.serve_each.new.meter c.serve_each.new.files c.serve_each.result.1 c.serve_each.result.2 c.serve_each.result.3) c.serve_each.result.0

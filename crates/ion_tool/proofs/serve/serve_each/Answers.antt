@@ -1,4 +1,4 @@
-use Rattle.std.proofs.Common.{arith, inl, refl}
+use Rattle.std.proofs.Common.{arith, ◌≡◌, inl, refl}
 use Rattle.std.specs.Prelude.{string_bytes}
 use Rattle.ion_tool.specs.Serving.{standing}
 use Rattle.ion_tool.proofs.InTurn.{in_turn}
@@ -24,7 +24,8 @@ loop-word-preserved g c =
     let go = c.may_go_on.ensures.yes c.if-not-may_go_on.false in
     let now = standing c.loop-word.meter c.loop-word.files c.loop-word.input c.loop-word.out c.loop-word.err in
     let next = standing c.serve_one-served.new.meter c.serve_one-served.new.files c.serve_one-served.result.1 c.serve_one-served.result.2 c.serve_one-served.result.3 in
-    let held = one_holds _ _ _ _ _ _ _ _ _ _ _ _ _ _ run.served in
+    let held : c.serve_one-served.new.meter.held ≡ c.loop-word.meter.held =
+    one_holds g.F.FileSource.gives g.F.FileSource.closes g.F.File.Read.remaining g.I.Input g.O.Output g.E.Output _ _ _ _ _ now next c.serve_one-served.result.0 run.served in
     record {
       room = record { room = omega (arith, i.room.room, held); held = omega arith; countable = go.memory };
       in_failures = go.reads;

@@ -1,7 +1,6 @@
 -- What runs write that are served one after another.
-use Rattle.std.proofs.Common.{◌≡◌, ◌⊎◌, inl, inr, ℕ, List, [], ◌∷◌, ◌++◌, Option, None, Some, Result, Ok, Err, refl, sym, ap, subst, ◌∙◌, append_assoc, append-nil}
+use Rattle.std.proofs.Common.{inl, inr, ℕ, List, [], ◌∷◌, ◌++◌, Option, None, Some, Result, Ok, Err, sym, ap, subst, ◌∙◌, append_assoc, append-nil}
 use Rattle.std.specs.List.{concat}
-use Rattle.std.specs.Prelude.{max}
 use Rattle.clap.specs.Words.{Text}
 use Rattle.ion_meter.specs.Counts.{Counts}
 use Rattle.ion_meter.specs.Windows.{HasPrefix}
@@ -10,7 +9,7 @@ use Rattle.ion_meter.specs.declared.device.Output.{Ghosts as OutputOf}
 use Rattle.ion_meter.specs.declared.limits.Limits.{Limits}
 use Rattle.ion_symbols.specs.Table.{Shared}
 use Rattle.ion_tool.specs.Words.{file_for}
-use Rattle.ion_tool.specs.Serving.{file_input, label_of, Giving, Closing, Standing, IsServed, IsOpenServed, IsFileServed, IsFollowed, IsRunServed, ArePartsOf, AreServed, IsInTurn}
+use Rattle.ion_tool.specs.Serving.{file_input, label_of, Giving, Closing, Standing, IsServed, IsOpenServed, IsRunServed, AreServed, IsInTurn}
 use Rattle.ion_tool.specs.declared.words.Task.{Task}
 
 -- what is written after what was there before, where that can be observed
@@ -27,7 +26,7 @@ open_adds : {S F O E : Type 0} (closes : Closing S F) (remaining : F → Option 
     (limits : Limits) (name : List ℕ) (found : Result F (List ℕ)) (old new : Counts) (opened files_new : S) (out_old out_new : O) (err_old err_new : E) (status : ℕ)
     → IsOpenServed closes remaining output errors label catalog asked limits name found old new opened files_new out_old out_new err_old err_new status → Adds output out_old out_new
 open_adds {S} {F} {O} {E} closes remaining output errors label catalog asked limits name (Err reason) old new opened files_new out_old out_new err_old err_new status served =
-    λ o. subst (λ (d : O). output.observable d × HasPrefix (output.written d) (output.written out_old)) (sym served.output) (o, [], sym (append-nil _))
+    λ o. subst (λ (d : O). output.observable d × HasPrefix (output.written d) (output.written out_old)) (sym served.output) (o, ([], sym (append-nil _)))
 open_adds closes remaining output errors label catalog asked limits name (Ok file) old new opened files_new out_old out_new err_old err_new status served =
     run_adds (file_input remaining) output errors label catalog asked limits old new _ _ out_old out_new err_old err_new status served.2
 

@@ -9,7 +9,7 @@ use Rattle.ion_meter.specs.declared.device.Output.{Ghosts as OutputOf}
 use Rattle.ion_meter.specs.declared.limits.Limits.{Limits}
 use Rattle.ion_symbols.specs.Table.{Shared}
 use Rattle.ion_tool.specs.Words.{file_for}
-use Rattle.ion_tool.specs.Serving.{label_of, Giving, Closing, Standing, IsFollowed, IsOpenServed, IsRunServed, AreServed}
+use Rattle.ion_tool.specs.Serving.{label_of, Giving, Closing, Standing, IsOpenServed, IsRunServed, AreServed, AreAllServed, IsInTurn, MayGoOn}
 use Rattle.ion_tool.specs.declared.words.Task.{Task}
 
 -- whatever the runs for the words that are left come to, that is what all of them come to
@@ -35,31 +35,56 @@ pub leads_first : {S F I O E : Type 0} (gives : Giving S F) (closes : Closing S 
 leads_first {S} {F} {I} {O} {E} gives closes remaining input output errors catalog asked limits words start = λ end own rest.
     subst (λ (n : ℕ). AreServed gives closes remaining input output errors catalog asked limits words start end n) (max_first own) rest
 
+-- a run for a word that is spelled so
+run_of : {S F I O E : Type 0} (gives : Giving S F) (closes : Closing S F) (remaining : F → Option (List ℕ)) (input : InputOf I) (output : OutputOf O) (errors : OutputOf E)
+    (catalog : List Shared) (asked : Task) (limits : Limits) (word spelled : Text) (name : Option Text) (now next : Standing S I O E) (own : ℕ) → spelled ≡ word → name ≡ file_for spelled
+    → IsRunServed gives closes remaining input output errors (label_of (Some spelled)) catalog asked limits name now next own
+    → IsRunServed gives closes remaining input output errors (label_of (Some word)) catalog asked limits (file_for word) now next own
+run_of gives closes remaining input output errors catalog asked limits word spelled name now next own e is run =
+    subst (λ (w : Text). IsRunServed gives closes remaining input output errors (label_of (Some w)) catalog asked limits (file_for w) now next own) e
+    (subst (λ (n : Option Text). IsRunServed gives closes remaining input output errors (label_of (Some spelled)) catalog asked limits n now next own) is run)
+
 -- after one more
 pub leads_next : {S F I O E : Type 0} (gives : Giving S F) (closes : Closing S F) (remaining : F → Option (List ℕ)) (input : InputOf I) (output : OutputOf O) (errors : OutputOf E)
-    (catalog : List Shared) (asked : Task) (limits : Limits) (words left more : List Text) (word : Text) (start now next : Standing S I O E) (status own : ℕ) → left ≡ word ∷ more
+    (catalog : List Shared) (asked : Task) (limits : Limits) (words left more : List Text) (word spelled : Text) (name : Option Text) (start now next : Standing S I O E) (status own total failed : ℕ)
+    → left ≡ word ∷ more → spelled ≡ word → name ≡ file_for spelled → total ≡ max status own → failed ≡ output.failure_count now.output
     → LeadsOn gives closes remaining input output errors catalog asked limits words left start now status
-    → IsRunServed gives closes remaining input output errors (label_of (Some word)) catalog asked limits (file_for word) now next own
-    → IsFollowed input output errors now next
-    → LeadsOn gives closes remaining input output errors catalog asked limits words more start next (max status own)
-leads_next {S} {F} {I} {O} {E} gives closes remaining input output errors catalog asked limits words left more word start now next status own e onward run followed = λ end others rest.
-    subst (λ (n : ℕ). AreServed gives closes remaining input output errors catalog asked limits words start end n) (max_turned status own others)
+    → IsRunServed gives closes remaining input output errors (label_of (Some spelled)) catalog asked limits name now next own
+    → MayGoOn input output errors failed next.counts next.input next.output next.errors
+    → LeadsOn gives closes remaining input output errors catalog asked limits words more start next total
+leads_next {S} {F} {I} {O} {E} gives closes remaining input output errors catalog asked limits words left more word spelled name start now next status own total failed
+    e spells named greatest count onward run followed = λ end others rest.
+    subst (λ (n : ℕ). AreServed gives closes remaining input output errors catalog asked limits words start end n) (max_turned status own others ∙ ap (λ (n : ℕ). max n others) (sym greatest))
     (onward end (max own others)
-    (subst (λ (l : List Text). AreServed gives closes remaining input output errors catalog asked limits l now end (max own others)) (sym e)
-    (next, own, others, refl, run, inl (followed, rest))))
+    (subst (λ (l : List Text). AreServed gives closes remaining input output errors catalog asked limits l now end (max own others)) (sym e) (
+      next,
+      own,
+      others,
+      refl,
+      run_of gives closes remaining input output errors catalog asked limits word spelled name now next own spells named run,
+      inl (subst (λ (n : ℕ). MayGoOn input output errors n next.counts next.input next.output next.errors) count followed, rest),
+    )))
 
 -- after one that is the last
 pub leads_last : {S F I O E : Type 0} (gives : Giving S F) (closes : Closing S F) (remaining : F → Option (List ℕ)) (input : InputOf I) (output : OutputOf O) (errors : OutputOf E)
-    (catalog : List Shared) (asked : Task) (limits : Limits) (words left more : List Text) (word : Text) (start now next : Standing S I O E) (status own : ℕ) → left ≡ word ∷ more
+    (catalog : List Shared) (asked : Task) (limits : Limits) (words left more : List Text) (word spelled : Text) (name : Option Text) (start now next : Standing S I O E) (status own total failed : ℕ)
+    → left ≡ word ∷ more → spelled ≡ word → name ≡ file_for spelled → total ≡ max status own → failed ≡ output.failure_count now.output
     → LeadsOn gives closes remaining input output errors catalog asked limits words left start now status
-    → IsRunServed gives closes remaining input output errors (label_of (Some word)) catalog asked limits (file_for word) now next own
-    → (¬ IsFollowed input output errors now next)
-    → AreServed gives closes remaining input output errors catalog asked limits words start next (max status own)
-leads_last {S} {F} {I} {O} {E} gives closes remaining input output errors catalog asked limits words left more word start now next status own e onward run alone =
-    subst (λ (n : ℕ). AreServed gives closes remaining input output errors catalog asked limits words start next n) (ap (max status) (max_none own))
+    → IsRunServed gives closes remaining input output errors (label_of (Some spelled)) catalog asked limits name now next own
+    → (¬ MayGoOn input output errors failed next.counts next.input next.output next.errors)
+    → AreServed gives closes remaining input output errors catalog asked limits words start next total
+leads_last {S} {F} {I} {O} {E} gives closes remaining input output errors catalog asked limits words left more word spelled name start now next status own total failed
+    e spells named greatest count onward run alone =
+    subst (λ (n : ℕ). AreServed gives closes remaining input output errors catalog asked limits words start next n) (ap (max status) (max_none own) ∙ sym greatest)
     (onward next (max own 0)
-    (subst (λ (l : List Text). AreServed gives closes remaining input output errors catalog asked limits l now next (max own 0)) (sym e)
-    (next, own, 0, refl, run, inr (alone, refl, refl))))
+    (subst (λ (l : List Text). AreServed gives closes remaining input output errors catalog asked limits l now next (max own 0)) (sym e) (
+      next,
+      own,
+      0,
+      refl,
+      run_of gives closes remaining input output errors catalog asked limits word spelled name now next own spells named run,
+      inr (subst (λ (n : ℕ). ¬ MayGoOn input output errors n next.counts next.input next.output next.errors) count alone, refl, refl),
+    )))
 
 -- after all of them
 pub leads_out : {S F I O E : Type 0} (gives : Giving S F) (closes : Closing S F) (remaining : F → Option (List ℕ)) (input : InputOf I) (output : OutputOf O) (errors : OutputOf E)
@@ -77,15 +102,21 @@ drop_mapped f [] (suc i) = refl
 drop_mapped f (y ∷ ys) zero = refl
 drop_mapped f (y ∷ ys) (suc i) = drop_mapped f ys i
 
-pub left_from : {T : Type 0} (f : T → Text) (xs : List T) (i : ℕ) (x : T) → i < length xs → x ≡ get_or xs i x → drop i (map f xs) ≡ f x ∷ drop (i + 1) (map f xs)
-left_from f xs i x lt e =
+from_one : {T : Type 0} (f : T → Text) (xs : List T) (i : ℕ) (x : T) → i < length xs → x ≡ get_or xs i x → drop i (map f xs) ≡ f x ∷ drop (i + 1) (map f xs)
+from_one f xs i x lt e =
     drop_mapped f xs i ∙ (ap (map f) (drop_more xs i x lt ∙ ap (λ y. y ∷ drop (i + 1) xs) (sym e)) ∙ ap (λ l. f x ∷ l) (sym (drop_mapped f xs (i + 1))))
 
-pub left_past : {T : Type 0} (f : T → Text) (xs : List T) (i : ℕ) → length xs ≤ i → drop i (map f xs) ≡ []
-left_past f [] zero le = refl
-left_past f [] (suc i) le = refl
-left_past f (y ∷ ys) zero le = absurd (omega arith)
-left_past f (y ∷ ys) (suc i) le = left_past f ys i (omega arith)
+past_all : {T : Type 0} (f : T → Text) (xs : List T) (i : ℕ) → length xs ≤ i → drop i (map f xs) ≡ []
+past_all f [] zero le = refl
+past_all f [] (suc i) le = refl
+past_all f (y ∷ ys) zero le = absurd (omega arith)
+past_all f (y ∷ ys) (suc i) le = past_all f ys i (omega arith)
+
+pub left_from : {T : Type 0} (f : T → Text) (items xs : List T) (i : ℕ) (x : T) → xs ≡ items → i < length xs → x ≡ get_or xs i x → drop i (map f items) ≡ f x ∷ drop (i + 1) (map f items)
+left_from {T} f items xs i x same lt e = subst (λ (l : List T). drop i (map f l) ≡ f x ∷ drop (i + 1) (map f l)) same (from_one f xs i x lt e)
+
+pub left_past : {T : Type 0} (f : T → Text) (items xs : List T) (i : ℕ) → xs ≡ items → length xs ≤ i → drop i (map f items) ≡ []
+left_past {T} f items xs i same le = subst (λ (l : List T). drop i (map f l) ≡ []) same (past_all f xs i le)
 
 -- the greatest of two statuses is one
 abbrev IsStatus : ℕ → Type 0
@@ -97,13 +128,16 @@ first_is a b le is = subst (λ (n : ℕ). IsStatus n) (let e : a ≡ max a b = o
 second_is : (a b : ℕ) → a ≤ b → IsStatus b → IsStatus (max a b)
 second_is a b le is = subst (λ (n : ℕ). IsStatus n) (let e : b ≡ max a b = omega arith in e) is
 
-pub greatest_status : (a b : ℕ) → (a ≡ 0) ⊎ ((a ≡ 1) ⊎ (a ≡ 3)) → (b ≡ 0) ⊎ ((b ≡ 1) ⊎ (b ≡ 3)) → (max a b ≡ 0) ⊎ ((max a b ≡ 1) ⊎ (max a b ≡ 3))
-greatest_status a b (inl e) other = second_is a b (omega arith) other
-greatest_status a b (inr is) (inl e) = first_is a b (omega arith) (inr is)
-greatest_status a b (inr (inl d)) (inr (inl e)) = first_is a b (omega arith) (inr (inl d))
-greatest_status a b (inr (inl d)) (inr (inr e)) = second_is a b (omega arith) (inr (inr e))
-greatest_status a b (inr (inr d)) (inr (inl e)) = first_is a b (omega arith) (inr (inr d))
-greatest_status a b (inr (inr d)) (inr (inr e)) = first_is a b (omega arith) (inr (inr d))
+greatest : (a b : ℕ) → IsStatus a → IsStatus b → IsStatus (max a b)
+greatest a b (inl e) other = second_is a b (omega arith) other
+greatest a b (inr is) (inl e) = first_is a b (omega arith) (inr is)
+greatest a b (inr (inl d)) (inr (inl e)) = first_is a b (omega arith) (inr (inl d))
+greatest a b (inr (inl d)) (inr (inr e)) = second_is a b (omega arith) (inr (inr e))
+greatest a b (inr (inr d)) (inr (inl e)) = first_is a b (omega arith) (inr (inr d))
+greatest a b (inr (inr d)) (inr (inr e)) = first_is a b (omega arith) (inr (inr d))
+
+pub greatest_status : (a b n : ℕ) → n ≡ max a b → (a ≡ 0) ⊎ ((a ≡ 1) ⊎ (a ≡ 3)) → (b ≡ 0) ⊎ ((b ≡ 1) ⊎ (b ≡ 3)) → (n ≡ 0) ⊎ ((n ≡ 1) ⊎ (n ≡ 3))
+greatest_status a b n e first second = subst (λ (m : ℕ). IsStatus m) (sym e) (greatest a b first second)
 
 -- a run leaves what is held as it was
 open_holds : {S F O E : Type 0} (closes : Closing S F) (remaining : F → Option (List ℕ)) (output : OutputOf O) (errors : OutputOf E) (label : List ℕ) (catalog : List Shared) (asked : Task)
@@ -119,3 +153,56 @@ pub one_holds : {S F I O E : Type 0} (gives : Giving S F) (closes : Closing S F)
 one_holds gives closes remaining input output errors label catalog asked limits None old new status run = run.1.kept.held
 one_holds gives closes remaining input output errors label catalog asked limits (Some name) old new status run =
     open_holds closes remaining output errors label catalog asked limits name run.1.0 old.counts new.counts run.1.1 new.files old.output new.output old.errors new.errors status run.1.3
+
+-- ---- by how many words there are
+
+of_none : {T S F I O E : Type 0} (gives : Giving S F) (closes : Closing S F) (remaining : F → Option (List ℕ)) (input : InputOf I) (output : OutputOf O) (errors : OutputOf E)
+    (catalog : List Shared) (asked : Task) (limits : Limits) (f : T → Text) (xs : List T) (old new : Standing S I O E) (status : ℕ) → length xs < 1
+    → IsRunServed gives closes remaining input output errors [] catalog asked limits None old new status
+    → AreAllServed gives closes remaining input output errors catalog asked limits (map f xs) old new status
+of_none gives closes remaining input output errors catalog asked limits f [] old new status few run = run
+of_none gives closes remaining input output errors catalog asked limits f (x ∷ xs) old new status few run = absurd (omega arith)
+
+pub all_of_none : {T S F I O E : Type 0} (gives : Giving S F) (closes : Closing S F) (remaining : F → Option (List ℕ)) (input : InputOf I) (output : OutputOf O) (errors : OutputOf E)
+    (catalog : List Shared) (asked : Task) (limits : Limits) (f : T → Text) (items xs : List T) (old new : Standing S I O E) (status : ℕ) → xs ≡ items → length xs < 1
+    → IsRunServed gives closes remaining input output errors [] catalog asked limits None old new status
+    → AreAllServed gives closes remaining input output errors catalog asked limits (map f items) old new status
+all_of_none {T} gives closes remaining input output errors catalog asked limits f items xs old new status same few run =
+    subst (λ (l : List T). AreAllServed gives closes remaining input output errors catalog asked limits (map f l) old new status) same
+    (of_none gives closes remaining input output errors catalog asked limits f xs old new status few run)
+
+of_one : {T S F I O E : Type 0} (gives : Giving S F) (closes : Closing S F) (remaining : F → Option (List ℕ)) (input : InputOf I) (output : OutputOf O) (errors : OutputOf E)
+    (catalog : List Shared) (asked : Task) (limits : Limits) (f : T → Text) (xs : List T) (x : T) (old new : Standing S I O E) (status : ℕ) → length xs ≡ 1 → x ≡ get_or xs 0 x
+    → IsRunServed gives closes remaining input output errors [] catalog asked limits (file_for (f x)) old new status
+    → AreAllServed gives closes remaining input output errors catalog asked limits (map f xs) old new status
+of_one gives closes remaining input output errors catalog asked limits f [] x old new status one is run = absurd (omega arith)
+of_one {T} gives closes remaining input output errors catalog asked limits f (y ∷ []) x old new status one is run =
+    subst (λ (z : T). IsRunServed gives closes remaining input output errors [] catalog asked limits (file_for (f z)) old new status) is run
+of_one gives closes remaining input output errors catalog asked limits f (y ∷ z ∷ zs) x old new status one is run = absurd (omega arith)
+
+pub all_of_one : {T S F I O E : Type 0} (gives : Giving S F) (closes : Closing S F) (remaining : F → Option (List ℕ)) (input : InputOf I) (output : OutputOf O) (errors : OutputOf E)
+    (catalog : List Shared) (asked : Task) (limits : Limits) (f : T → Text) (items xs : List T) (x : T) (spelled : Text) (name : Option Text) (old new : Standing S I O E) (status : ℕ)
+    → xs ≡ items → length xs ≡ 1 → x ≡ get_or xs 0 x → spelled ≡ f x → name ≡ file_for spelled
+    → IsRunServed gives closes remaining input output errors [] catalog asked limits name old new status
+    → AreAllServed gives closes remaining input output errors catalog asked limits (map f items) old new status
+all_of_one {T} gives closes remaining input output errors catalog asked limits f items xs x spelled name old new status same one is spells named run =
+    subst (λ (l : List T). AreAllServed gives closes remaining input output errors catalog asked limits (map f l) old new status) same
+    (of_one gives closes remaining input output errors catalog asked limits f xs x old new status one is
+    (subst (λ (n : Option Text). IsRunServed gives closes remaining input output errors [] catalog asked limits n old new status) (named ∙ ap file_for spells) run))
+
+several : {T S F I O E : Type 0} (gives : Giving S F) (closes : Closing S F) (remaining : F → Option (List ℕ)) (input : InputOf I) (output : OutputOf O) (errors : OutputOf E)
+    (catalog : List Shared) (asked : Task) (limits : Limits) (f : T → Text) (xs : List T) (old new : Standing S I O E) (status : ℕ) → 2 ≤ length xs
+    → AreServed gives closes remaining input output errors catalog asked limits (map f xs) old new status
+    → (output.observable old.output → IsInTurn gives closes remaining input output errors catalog asked limits (map f xs) old.output new.output)
+    → AreAllServed gives closes remaining input output errors catalog asked limits (map f xs) old new status
+several gives closes remaining input output errors catalog asked limits f [] old new status many served parts = absurd (omega arith)
+several gives closes remaining input output errors catalog asked limits f (x ∷ []) old new status many served parts = absurd (omega arith)
+several gives closes remaining input output errors catalog asked limits f (x ∷ y ∷ zs) old new status many served parts = (served, parts)
+
+pub all_of_several : {T S F I O E : Type 0} (gives : Giving S F) (closes : Closing S F) (remaining : F → Option (List ℕ)) (input : InputOf I) (output : OutputOf O) (errors : OutputOf E)
+    (catalog : List Shared) (asked : Task) (limits : Limits) (f : T → Text) (items xs : List T) (old new : Standing S I O E) (status : ℕ) → xs ≡ items → 2 ≤ length xs
+    → AreServed gives closes remaining input output errors catalog asked limits (map f items) old new status
+    → (output.observable old.output → IsInTurn gives closes remaining input output errors catalog asked limits (map f items) old.output new.output)
+    → AreAllServed gives closes remaining input output errors catalog asked limits (map f items) old new status
+all_of_several {T} gives closes remaining input output errors catalog asked limits f items xs old new status same many served parts =
+    several gives closes remaining input output errors catalog asked limits f items old new status (subst (λ (l : List T). 2 ≤ length l) same many) served parts

@@ -209,7 +209,7 @@ fn serve_each<F: FileSource, I: Input, O: Output, E: Output>(
         out result.2 }
     ensures status { (result.0 ≡ 0) ⊎ ((result.0 ≡ 1) ⊎ (result.0 ≡ 3)) }
 {
-    let mut status = 0;
+    let mut status: u8 = 0;
     let words = job.files.as_slice();
     for word in words {
         let word = word.as_str();
@@ -259,12 +259,12 @@ fn serve_job<F: FileSource, I: Input, O: Output, E: Output>(
         label: None,
     };
     match job.files.as_slice() {
-        [] => serve_input(meter, catalog, manner, input, out, err),
+        [] => serve_one(meter, catalog, manner, files, None, input, out, err),
         [word] => {
             let name = file_of(word.as_str());
             serve_one(meter, catalog, manner, files, name, input, out, err)
         }
-        _ => serve_each(meter, catalog, &job, files, input, out, err),
+        [_, _, ..] => serve_each(meter, catalog, &job, files, input, out, err),
     }
 }
 
@@ -416,9 +416,9 @@ pub fn serve<F: FileSource, I: Input + Drop, O: Output + Drop, E: Output + Drop>
     // Words that ask for runs without a catalogue. Where they name no file it is one run over the
     // input, and the source of files is left as it was; where they name one it is a run over what
     // that opens to, which is handed back as the run leaves it, and the input is not read; where
-    // they name several, such a run for each in turn, with its word before its lines. The status,
-    // both outputs, the failures and the memory of a run are those of some answer. Or the words
-    // could not be read.
+    // they name several, such a run for each in turn, with its word before its lines, and what is
+    // written is what the runs alone write, one after another. The status, both outputs, the
+    // failures and the memory of a run are those of some answer. Or the words could not be read.
     ensures ran { (task : Task) (limits : Limits) (names : List (List ℕ))
         → IsRun (map string_bytes words.items) task limits None names
         → IsJobServed F.gives F.closes F.File.remaining I.Input O.Output E.Output []

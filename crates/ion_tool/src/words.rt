@@ -1,6 +1,6 @@
 //! The words of the command line.
 ghost use Rattle.std.specs.Prelude.{◌≡◌, ◌≢◌, ◌≤◌, false, true, IfOk, IfSome, OnErr, None, List, [], Some, codes, map, option_map, string_bytes};
-ghost use Rattle.clap.specs.Words.{Row, app_of, first_of, found_of, kind_of, rows_of, rule_of, fault_of, FailsBy, new_app, new_rule, subcommand_of, subcommand_rows_of, with_rule, with_subcommand};
+ghost use Rattle.clap.specs.Words.{Row, app_of, first_of, found_of, kind_of, rows_of, rule_of, fault_of, FailsBy, new_app, subcommand_of, subcommand_rows_of, with_rule, with_subcommand};
 ghost use Rattle.clap.specs.declared.builder.command.Command.TheViews.{out-Command};
 ghost use Rattle.ion_meter.specs.Limits.{AreChecked};
 ghost use Rattle.ion_tool.specs.Words.{action_app, with_limits, action_name, all_named, bare_app, catalog_in, catalog_rule, file_for, files_in, files_rule, form_in, has_one_form, form_rule, form_word, ion_app, limit_in, limit_rule, limits_in, floats_rule, is_pretty, is_rewritten, is_set, pretty_in, pretty_rule, profile_in, rewrite_in, rewrite_rule, Asks, AnswersError, IsRequestFor};

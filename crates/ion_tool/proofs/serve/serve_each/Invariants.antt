@@ -13,6 +13,6 @@ invariant-loop-word g l = record {
   err_failures : g.E.Output.failure_count l.err < 2 ^ 64 - 1;
   status : (l.status ≡ 0) ⊎ ((l.status ≡ 1) ⊎ (l.status ≡ 3));
   onward : LeadsOn g.F.FileSource.gives g.F.FileSource.closes g.F.File.Read.remaining g.I.Input g.O.Output g.E.Output l.catalog l.job.task l.job.limits
-      (map string_bytes l.words) (drop l.word-index (map string_bytes l.words))
+      (map string_bytes l.job.files.items) (drop l.word-index (map string_bytes l.job.files.items))
       (standing l.initial.meter l.initial.files l.initial.input l.initial.out l.initial.err) (standing l.meter l.files l.input l.out l.err) l.status;
 }

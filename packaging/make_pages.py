@@ -33,8 +33,7 @@ stream then has a name:
   make-tables | ion show --catalog /dev/stdin data.10n
 
 A stream is binary if its first byte is E0, whatever the file is called. A script that may run twice says --to, since convert
-alone would turn everything back. Binary is refused as SameForm at 0 where
---to binary stands, unless --rewrite asks for canonical binary of it.
+alone would turn everything back. Without --rewrite binary is not written again as binary: that is refused as SameForm at 0.
 
 --pretty goes with show, and with convert --to text; --rewrite with convert --to binary.
 

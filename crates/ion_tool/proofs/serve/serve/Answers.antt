@@ -30,6 +30,12 @@ returns-in-Ok-Run-clause-catalog g c task limits name names run =
     let same = one_run _ task job.task limits job.limits (Some name) (option_map string_bytes catalog) names (map string_bytes job.files.items) run asks.0 in
     inl (rw (same.0, same.1, same.3) (c.serve_run.ensures.named name (sym same.2)))
 
+pub returns-in-Ok-Run-clause-unread : goal.returns-in-Ok-Run-clause-unread
+returns-in-Ok-Run-clause-unread g c none =
+    let job = c.in-Ok-Run.job in
+    let asks = rw (c.in-Ok-Run.field-0-is, c.as_slice.ensures.value) at c.in-Ok-Run.ensures.asks in
+    absurd (none (job.task, job.limits, option_map string_bytes c.in-Ok-Run.catalog, map string_bytes job.files.items, asks.0))
+
 pub returns-clause-ran : goal.returns-clause-ran
 returns-clause-ran g c task limits names run =
     elim c.match-read_words.branch [

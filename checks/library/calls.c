@@ -21,7 +21,8 @@ static void judge(int right, const char *what) {
 #define TABLE "$ion_shared_symbol_table::{name:\"x\",version:1,symbols:[\"p\",\"q\"]}"
 
 /* A NOP pad, an int with a zero octet before it, a struct with its fields in order, and the symbol of a table that has one more. */
-#define STORED "\xE0\x01\x00\xEA\x01\xFF\x22\x00\x05\xD1\x82\x84\x11\xE9\x81\x83\xD6\x87\xB4\x81\x61\x81\x62\x71\x0B"
+#define STORED                                                                                                                 \
+    "\xE0\x01\x00\xEA\x01\xFF\x22\x00\x05\xD1\x82\x84\x11\xE9\x81\x83\xD6\x87\xB4\x81\x61\x81\x62\x71\x0B"
 #define REWRITTEN "\xE0\x01\x00\xEA\x21\x05\xD2\x84\x11\xEA\x81\x83\xD7\x86\x71\x03\x87\xB2\x81\x62\x71\x0A"
 
 #define FLOATS "[1.50e0, -0e0, 0.1e0, nan, +inf, 0e0] 602214076e15 4.94e-324"

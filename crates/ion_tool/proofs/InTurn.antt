@@ -1,5 +1,5 @@
 -- What runs write that are served one after another.
-use Rattle.std.proofs.Common.{inl, inr, ℕ, List, [], ◌∷◌, ◌++◌, Option, None, Some, Result, Ok, Err, sym, ap, subst, ◌∙◌, append_assoc, append-nil}
+use Rattle.std.proofs.Common.{arith, ◌≡◌, inl, inr, ℕ, length, List, [], ◌∷◌, ◌++◌, Option, None, Some, Result, Ok, Err, refl, sym, ap, subst, ◌∙◌, append_assoc, append-nil}
 use Rattle.std.specs.List.{concat}
 use Rattle.clap.specs.Words.{Text}
 use Rattle.ion_meter.specs.Counts.{Counts}
@@ -9,7 +9,7 @@ use Rattle.ion_meter.specs.declared.device.Output.{Ghosts as OutputOf}
 use Rattle.ion_meter.specs.declared.limits.Limits.{Limits}
 use Rattle.ion_symbols.specs.Table.{Shared}
 use Rattle.ion_tool.specs.Words.{file_for}
-use Rattle.ion_tool.specs.Serving.{file_input, label_of, Giving, Closing, Standing, IsServed, IsOpenServed, IsRunServed, AreServed, IsInTurn}
+use Rattle.ion_tool.specs.Serving.{file_input, label_of, Giving, Closing, Standing, IsServed, IsOpenServed, IsFollowed, IsRunServed, AreServed, IsInTurn}
 use Rattle.ion_tool.specs.declared.words.Task.{Task}
 
 -- what is written after what was there before, where that can be observed
@@ -38,23 +38,33 @@ one_adds gives closes remaining input output errors label catalog asked limits N
 one_adds gives closes remaining input output errors label catalog asked limits (Some name) old new status run =
     open_adds closes remaining output errors label catalog asked limits name run.1.0 old.counts new.counts run.1.1 new.files old.output new.output old.errors new.errors status run.1.3
 
+-- where another run could follow after all, it could after the first too
+still_followed : {S I O E : Type 0} (input : InputOf I) (output : OutputOf O) (errors : OutputOf E) (old middle new : Standing S I O E)
+    → IsFollowed input output errors old middle → IsFollowed input output errors old new → IsFollowed input output errors middle new
+still_followed input output errors old middle new first all = record { unbroken = all.unbroken ∙ sym first.unbroken; memory = all.memory; reads = all.reads; lines = all.lines }
+
+one_more : (part : List ℕ) (parts : List (List ℕ)) (word : Text) (words : List Text) → length parts ≡ length words → length (part ∷ parts) ≡ length (word ∷ words)
+one_more part parts word words e = omega arith
+
 -- the parts of all of them
 pub in_turn : {S F I O E : Type 0} (gives : Giving S F) (closes : Closing S F) (remaining : F → Option (List ℕ)) (input : InputOf I) (output : OutputOf O) (errors : OutputOf E)
     (catalog : List Shared) (asked : Task) (limits : Limits) (words : List Text) (old new : Standing S I O E) (status : ℕ)
     → AreServed gives closes remaining input output errors catalog asked limits words old new status → output.observable old.output
-    → IsInTurn gives closes remaining input output errors catalog asked limits words old.output new.output
+    → IsInTurn gives closes remaining input output errors catalog asked limits words old new
 in_turn {S} {F} {I} {O} {E} gives closes remaining input output errors catalog asked limits [] old new status served o =
-    subst (λ (d : Standing S I O E). IsInTurn gives closes remaining input output errors catalog asked limits [] old.output d.output) (sym served.0) ([], tt, sym (append-nil _))
+    subst (λ (d : Standing S I O E). IsInTurn gives closes remaining input output errors catalog asked limits [] old d) (sym served.0) ([], tt, sym (append-nil _), λ f. refl)
 in_turn {S} {F} {I} {O} {E} gives closes remaining input output errors catalog asked limits (word ∷ rest) old new status (middle, own, others, is, run, inl (followed, more)) o =
     let adds = one_adds gives closes remaining input output errors (label_of (Some word)) catalog asked limits (file_for word) old middle own run o in
     let left = in_turn gives closes remaining input output errors catalog asked limits rest middle new others more adds.0 in (
       adds.1.0 ∷ left.0,
       ((old, middle, own, o, run, adds.1.1), left.1),
       left.2 ∙ (ap (λ (l : List ℕ). l ++ concat left.0) adds.1.1 ∙ append_assoc (output.written old.output) adds.1.0 (concat left.0)),
+      λ f. one_more adds.1.0 left.0 word rest (left.3 (still_followed input output errors old middle new followed f)),
     )
 in_turn {S} {F} {I} {O} {E} gives closes remaining input output errors catalog asked limits (word ∷ rest) old new status (middle, own, others, is, run, inr (alone, same, none)) o =
     let adds = one_adds gives closes remaining input output errors (label_of (Some word)) catalog asked limits (file_for word) old middle own run o in (
       adds.1.0 ∷ [],
       ((old, middle, own, o, run, adds.1.1), tt),
       ap (λ (d : Standing S I O E). output.written d.output) same ∙ (adds.1.1 ∙ ap (λ (l : List ℕ). output.written old.output ++ l) (sym (append-nil adds.1.0))),
+      λ f. absurd (alone (subst (λ (d : Standing S I O E). IsFollowed input output errors old d) same f)),
     )

@@ -193,7 +193,7 @@ all_of_one {T} gives closes remaining input output errors catalog asked limits f
 several : {T S F I O E : Type 0} (gives : Giving S F) (closes : Closing S F) (remaining : F → Option (List ℕ)) (input : InputOf I) (output : OutputOf O) (errors : OutputOf E)
     (catalog : List Shared) (asked : Task) (limits : Limits) (f : T → Text) (xs : List T) (old new : Standing S I O E) (status : ℕ) → 2 ≤ length xs
     → AreServed gives closes remaining input output errors catalog asked limits (map f xs) old new status
-    → (output.observable old.output → IsInTurn gives closes remaining input output errors catalog asked limits (map f xs) old.output new.output)
+    → (output.observable old.output → IsInTurn gives closes remaining input output errors catalog asked limits (map f xs) old new)
     → AreAllServed gives closes remaining input output errors catalog asked limits (map f xs) old new status
 several gives closes remaining input output errors catalog asked limits f [] old new status many served parts = absurd (omega arith)
 several gives closes remaining input output errors catalog asked limits f (x ∷ []) old new status many served parts = absurd (omega arith)
@@ -202,7 +202,7 @@ several gives closes remaining input output errors catalog asked limits f (x ∷
 pub all_of_several : {T S F I O E : Type 0} (gives : Giving S F) (closes : Closing S F) (remaining : F → Option (List ℕ)) (input : InputOf I) (output : OutputOf O) (errors : OutputOf E)
     (catalog : List Shared) (asked : Task) (limits : Limits) (f : T → Text) (items xs : List T) (old new : Standing S I O E) (status : ℕ) → xs ≡ items → 2 ≤ length xs
     → AreServed gives closes remaining input output errors catalog asked limits (map f items) old new status
-    → (output.observable old.output → IsInTurn gives closes remaining input output errors catalog asked limits (map f items) old.output new.output)
+    → (output.observable old.output → IsInTurn gives closes remaining input output errors catalog asked limits (map f items) old new)
     → AreAllServed gives closes remaining input output errors catalog asked limits (map f items) old new status
 all_of_several {T} gives closes remaining input output errors catalog asked limits f items xs old new status same many served parts =
     several gives closes remaining input output errors catalog asked limits f items old new status (subst (λ (l : List T). 2 ≤ length l) same many) served parts

@@ -206,7 +206,8 @@ fn serve_each<F: FileSource, I: Input, O: Output, E: Output>(
     ensures in_turn { O.observable out
         → IsInTurn F.gives F.closes F.File.remaining I.Input O.Output E.Output
         catalog.now job.now.task job.now.limits (map string_bytes job.now.files.items)
-        out result.2 }
+        (standing meter.old files.old input out err)
+        (standing meter.new files.new result.1 result.2 result.3) }
     ensures status { (result.0 ≡ 0) ⊎ ((result.0 ≡ 1) ⊎ (result.0 ≡ 3)) }
 {
     let mut status: u8 = 0;

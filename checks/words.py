@@ -53,6 +53,7 @@ FILES = {
     "notables.ion": b"$ion_shared_symbol_table::{name:5}",
     "limits.ion": b'[1,"abc"] a',
     "-dashed": b"7",
+    "of\x1b[2Jdots": b"10",
     "ends in a blank ": b"8",
     "ends in a line\n": b"9",
     "\ttables ": b'$ion_shared_symbol_table::{name:"x",version:1,symbols:["r","s"]}',
@@ -61,8 +62,11 @@ ALL_FOUR = ["--depth", "1", "--scalar", "3", "--symbols", "17", "--value", "7"]
 # [1,"abc"] in binary; then the declaration of `a` and its symbol
 WITHIN = MARKER + bytes.fromhex("B6 21 01 83 61 62 63 EA 81 83 D7 86 71 03 87 B2 81 61 71 0A")
 TRY = b"\nFor more information, try '--help'.\n"
+WRONG = b"error: '--to <FORM>' takes text or binary; several files need it, '--pretty' text, '--rewrite' binary\n" + TRY
 FLOATS = b"[1e0, 1.0e0, -0e0, 6.02214076e23, 5e-324, 1.7976931348623157e308, nan, +inf, -inf, 0.1e0, 1e400]"
 SHOWN_FLOATS = b"[1e0,1e0,-0e0,6.02214076e23,5e-324,1.7976931348623157e308,nan,+inf,-inf,1e-1"
+# After a NOP pad an int with a zero octet before it, and a struct with its fields in order.
+PADDED = MARKER + bytes.fromhex("01 FF 22 00 05 D1 82 84 11")
 # Seconds that a row may take, which takes some milliseconds.
 PATIENCE = 60
 
@@ -77,7 +81,7 @@ ROWS = [
     ("a name that ends in a blank", ["show", "ends in a blank "], b"", 0, b"8\n", b""),
     ("a name that ends in a line's end", ["show", "ends in a line\n"], b"", 0, b"9\n", b""),
     ("a catalogue's name in blanks", ["show", "--catalog", "\ttables ", "imports.ion"], b"", 0, b"r\ns\n", b""),
-    ("a name that is not there with a blank", ["show", "five.10n "], b"", 3, b"", b"cannot open five.10n \n"),
+    ("a name that is not there with a blank", ["show", "five.10n "], b"", 3, b"", b"cannot open five.10n : No such file or directory\n"),
     ("check, standard input", "check", b"1 2", 0, b"ok 2 values\n", b""),
     ("check -", "check -", SIX, 0, b"ok 6 values\n", b""),
     ("check, a file", "check six.10n", b"", 0, b"ok 6 values\n", b""),
@@ -90,6 +94,12 @@ ROWS = [
     ("to binary, of text", "convert --to binary six.ion", b"", 0, SIX, b""),
     ("to binary, of binary", "convert --to binary six.10n", b"", 1, b"", b"refused SameForm at 0\n"),
     ("the same, by =", "convert --to=binary", SIX + b"\xff", 1, b"", b"refused SameForm at 0\n"),
+    ("to binary, of binary, written again", "convert --to binary --rewrite six.10n", b"", 0, SIX, b""),
+    ("canonical binary of other binary", "convert --rewrite --to=binary", PADDED, 0, MARKER + b"\x21\x05\xD2\x84\x11", b""),
+    ("to binary, of text, by the same words", "convert --to binary --rewrite -", LINES, 0, SIX, b""),
+    ("binary written again, to its fault", "convert --to binary --rewrite", PADDED + b"\x31\x00", 1, MARKER + b"\x21\x05\xD2\x84\x11",
+     b"refused BadNumber at 13\n"),
+    ("floats in binary, written again", "convert --floats --to binary --rewrite", MARKER + b"\x40", 0, MARKER + b"\x40", b""),
     ("to binary, of nothing", "convert --to binary empty", b"", 0, MARKER, b""),
     ("to text, with a catalogue", "convert --catalog tables.ion --to text imports.ion", b"", 0, b"p\nq\n", b""),
     ("show with a catalogue", "show --catalog tables.ion imports.ion", b"", 0, b"p\nq\n", b""),
@@ -107,7 +117,7 @@ ROWS = [
     ("show without a catalogue", "show imports.ion", b"", 1, b"", b"refused UnknownSymbol at 61\n"),
     ("a catalogue that is none", "show --catalog notables.ion six.ion", b"", 1, b"", b"catalog refused CatalogEntry at 0\n"),
     ("a catalogue past its limit", "show --symbols 33 --catalog tables.ion six.ion", b"", 1, b"", b"catalog refused SymbolLimit at 55\n"),
-    ("a catalogue that is not there", "check --catalog nowhere.ion six.ion", b"", 3, b"", b"cannot open nowhere.ion\n"),
+    ("a catalogue that is not there", "check --catalog nowhere.ion six.ion", b"", 3, b"", b"cannot open nowhere.ion: No such file or directory\n"),
     ("all four limits, ten words", "convert --depth 1 --scalar 3 --symbols 17 --value 7 limits.ion", b"", 0, WITHIN, b""),
     ("the same, by =", "convert --depth=1 --scalar=3 --symbols=17 --value=7", FILES["limits.ion"], 0, WITHIN, b""),
     ("all four limits, to text", ["show", *ALL_FOUR], FILES["limits.ion"], 0, b'[1,"abc"]\na\n', b""),
@@ -123,7 +133,7 @@ ROWS = [
     ("a refusal, checked", "check", FILES["bad.ion"], 1, b"", b"refused Float at 9\n"),
     ("a refusal, converted", "convert -", FILES["bad.ion"], 1, MARKER + bytes.fromhex("21 01 B4 21 02 21 03"), b"refused Float at 9\n"),
     ("a refusal in a container", "show", b"[1, 2", 1, b"[1,2", b"refused Truncated at 5\n"),
-    ("no such file", "show nowhere.ion", b"1", 3, b"", b"cannot open nowhere.ion\n"),
+    ("no such file", "show nowhere.ion", b"1", 3, b"", b"cannot open nowhere.ion: No such file or directory\n"),
     ("a folder", "check .", b"", 3, b"", b"read fault\n"),
     ("a folder as a catalogue", "show --catalog . five.10n", b"", 3, b"", b"read fault\n"),
     ("a folder, with a catalogue", "check --catalog empty .", b"", 3, b"", b"read fault\n"),
@@ -131,32 +141,32 @@ ROWS = [
     ("--version", "--version", b"", 0, b"ion 0.2.0, canonical text 2\n", b""),
     ("--version, over an input", "--version", IMPORT_AND_A, 0, b"ion 0.2.0, canonical text 2\n", b""),
     ("no such command", "frobnicate", b"1", 2, b"",
-     b"error: unrecognized subcommand 'frobnicate'\n\n  tip: to show a file, use 'ion show frobnicate'\n\nUsage: ion <show|check|convert> [OPTIONS] [FILE]\n"
+     b"error: unrecognized subcommand 'frobnicate'\n\n  tip: to show a file, use 'ion show frobnicate'\n\nUsage: ion <show|check|convert> [OPTIONS] [FILE]...\n"
      b"       as in: ion show data.ion\n" + TRY),
     ("a file in the place of a command", "six.ion", b"1", 2, b"",
      b"error: unrecognized subcommand 'six.ion'\n\n  tip: to show a file, use 'ion show six.ion'\n\n"
-     b"Usage: ion <show|check|convert> [OPTIONS] [FILE]\n       as in: ion show data.ion\n" + TRY),
-    ("two files", "show six.ion six.10n", b"", 2, b"",
-     b"error: unexpected argument 'six.10n' found\n\nUsage: ion show [OPTIONS] [FILE]\n" + TRY),
+     b"Usage: ion <show|check|convert> [OPTIONS] [FILE]...\n       as in: ion show data.ion\n" + TRY),
+    ("several files to their other forms", "convert six.ion six.10n", b"", 2, b"", WRONG),
+    ("one file twice to its other form", "convert six.ion six.ion", b"", 2, b"", WRONG),
     ("a limit without a number", "check --depth", b"1", 2, b"",
      b"error: a value is required for '--depth <N>' but none was supplied\n" + TRY),
     ("a limit that is no number", "check --scalar x", b"1", 2, b"",
      b"error: invalid value 'x' for '--scalar <N>': invalid digit found in string\n" + TRY),
     ("a limit past its maximum", "show --depth 65536", b"1", 2, b"",
      b"error: invalid value '65536' for '--depth <N>': 65536 is not in 0..=65535\n" + TRY),
-    ("a form that is none", "convert --to ion six.ion", b"", 2, b"", b"error: '--to <FORM>' takes text or binary; '--pretty' needs '--to text'\n" + TRY),
+    ("a form that is none", "convert --to ion six.ion", b"", 2, b"", WRONG),
     ("no form", "convert --to", b"", 2, b"", b"error: a value is required for '--to <FORM>' but none was supplied\n" + TRY),
     ("a form to show", "show --to text six.ion", b"", 2, b"",
      b"error: unexpected argument '--to' found\n\n  tip: to pass '--to' as a value, use '-- --to'\n\n"
-     b"Usage: ion show [OPTIONS] [FILE]\n" + TRY),
+     b"Usage: ion show [OPTIONS] [FILE]...\n" + TRY),
     ("a form to check", "check --to binary", b"1", 2, b"",
      b"error: unexpected argument '--to' found\n\n  tip: to pass '--to' as a value, use '-- --to'\n\n"
-     b"Usage: ion check [OPTIONS] [FILE]\n" + TRY),
+     b"Usage: ion check [OPTIONS] [FILE]...\n" + TRY),
     ("a limit twice", "show --depth 1 --depth 2", b"1", 2, b"",
-     b"error: the argument '--depth <N>' cannot be used multiple times\n\nUsage: ion show [OPTIONS] [FILE]\n" + TRY),
+     b"error: the argument '--depth <N>' cannot be used multiple times\n\nUsage: ion show [OPTIONS] [FILE]...\n" + TRY),
     ("no such option", "convert --xyz six.ion", b"", 2, b"",
      b"error: unexpected argument '--xyz' found\n\n  tip: to pass '--xyz' as a value, use '-- --xyz'\n\n"
-     b"Usage: ion convert [OPTIONS] [FILE]\n" + TRY),
+     b"Usage: ion convert [OPTIONS] [FILE]...\n" + TRY),
 ]
 
 # A stream, and what no words and `show` answer to it: status and both streams; then what `check` writes.
@@ -198,6 +208,7 @@ FORMED = [
     ("convert --to=text -", STRUCT, 0, LINE, b""),
     ("convert --to=binary", STRUCT, 1, b"", b"refused SameForm at 0\n"),
     ("convert --to binary nested.10n", LINE, 1, b"", b"refused SameForm at 0\n"),
+    ("convert --to binary --rewrite", STRUCT, 0, STRUCT, b""),
     ("convert --catalog tables.ion --to text", IMPORT_AND_A, 0, b"a\np\n", b""),
     ("convert --to binary", CUT, 1, FIVE, b"refused Truncated at 7\n"),
 ]
@@ -211,8 +222,36 @@ FILED = [
     ("check --depth=0 nested.10n", b"", 1, b"", b"refused DepthLimit at 4\n"),
     ("show --scalar 0 nested.10n", b"", 1, b"[[", b"refused ScalarLimit at 6\n"),
     ("show cut.10n", b"\xE0", 1, b"5\n", b"refused Truncated at 6\n"),
-    ("show other", b"", 3, b"", b"cannot open other\n"),
-    ("show other.10n", b"\xE0", 3, b"", b"cannot open other.10n\n"),
+    ("show other", b"", 3, b"", b"cannot open other: No such file or directory\n"),
+    ("show other.10n", b"\xE0", 3, b"", b"cannot open other.10n: No such file or directory\n"),
+]
+# Words that name several files: what each has alone, one after another, with its name before its lines; the status is the greatest.
+NOWHERE = b"cannot open nowhere.ion: No such file or directory\n"
+SEVERAL = [
+    ("show five.10n six.ion", b"not read", 0, b"5\n" + LINES, b""),
+    ("show five.10n bad.ion six.ion", b"", 1, b"5\n1\n[2,3]\n" + LINES, b"bad.ion: refused Float at 9\n"),
+    ("show cut.10n nowhere.ion five.10n", b"", 3, b"5\n5\n", b"cut.10n: refused Truncated at 6\n" + NOWHERE),
+    ("show nowhere.ion bad.ion", b"", 3, b"1\n[2,3]\n", NOWHERE + b"bad.ion: refused Float at 9\n"),
+    ("show --depth 1 nested.10n five.10n", b"", 1, b"[5\n", b"nested.10n: refused DepthLimit at 5\n"),
+    ("check five.10n six.ion", b"", 0, b"five.10n: ok 1 values\nsix.ion: ok 6 values\n", b""),
+    ("check six.ion --floats bad.ion -", b"1 2 3", 0, b"six.ion: ok 6 values\nbad.ion: ok 3 values\n-: ok 3 values\n", b""),
+    ("check six.ion bad.ion empty", b"", 1, b"six.ion: ok 6 values\nempty: ok 0 values\n", b"bad.ion: refused Float at 9\n"),
+    ("check nowhere.ion nowhere.ion", b"", 3, b"", NOWHERE + NOWHERE),
+    ("check five.10n five.10n", b"", 0, b"five.10n: ok 1 values\n" * 2, b""),
+    ("check - -", b"1", 0, b"-: ok 1 values\n-: ok 0 values\n", b""),
+    ("check . five.10n", b"", 3, b"five.10n: ok 1 values\n", b".: read fault\n"),
+    ("check -- -dashed five.10n", b"", 0, b"-dashed: ok 1 values\nfive.10n: ok 1 values\n", b""),
+    ("convert --to text five.10n - six.ion", b"[7, x]", 0, b"5\n[7,x]\n" + LINES, b""),
+    ("show --pretty nested.10n bad.ion five.10n", b"", 1, b"[\n  [\n    5\n  ]\n]\n1\n[\n  2,\n  3\n]\n5\n", b"bad.ion: refused Float at 9\n"),
+    ("convert --to text --pretty five.10n nested.10n", b"", 0, b"5\n[\n  [\n    5\n  ]\n]\n", b""),
+    ("convert --to binary six.ion - empty", b"5", 0, SIX + FIVE + MARKER, b""),
+    ("convert --to binary --rewrite six.ion five.10n", b"", 0, SIX + FIVE, b""),
+    ("convert --to binary six.ion five.10n -", b"[1, 2", 1, SIX + MARKER, b"five.10n: refused SameForm at 0\n-: refused Truncated at 5\n"),
+    ("show -", SIX + FIVE + MARKER, 0, LINES + b"5\n", b""),
+    ("show --catalog tables.ion imports.ion imports.ion", b"", 0, b"p\nq\np\nq\n", b""),
+    ("show --catalog nowhere.ion six.ion five.10n", b"", 3, b"", NOWHERE),
+    ("show --catalog notables.ion six.ion five.10n", b"", 1, b"", b"catalog refused CatalogEntry at 0\n"),
+    (["check", "five.10n", "of\x1b[2Jdots"], b"", 0, b"five.10n: ok 1 values\nof\\x1b[2Jdots: ok 1 values\n", b""),
 ]
 # Words that name a catalogue, and the same stream without one.
 CATALOGUED = [
@@ -221,8 +260,8 @@ CATALOGUED = [
     ("show --catalog tables.ion nested.10n", IMPORT_AND_A, 0, b"[[5]]\n", b""),
     ("show", IMPORT_AND_A, 1, b"a\n", b"refused UnknownSymbol at 79\n"),
     ("show --catalog twice.ion nested.10n", IMPORT_AND_A, 1, b"", b"catalog refused CatalogEntry at 47\n"),
-    ("show --catalog other nested.10n", IMPORT_AND_A, 3, b"", b"cannot open other\n"),
-    ("show --catalog tables.ion other", IMPORT_AND_A, 3, b"", b"cannot open other\n"),
+    ("show --catalog other nested.10n", IMPORT_AND_A, 3, b"", b"cannot open other: No such file or directory\n"),
+    ("show --catalog tables.ion other", IMPORT_AND_A, 3, b"", b"cannot open other: No such file or directory\n"),
     ("show --catalog empty five.10n", b"", 0, b"5\n", b""),
 ]
 # Words that ask for help, how it begins, and an example that it has.
@@ -254,6 +293,10 @@ USAGE = [
     "check --pretty six.ion",
     "convert --pretty six.ion",
     "convert --pretty --to binary six.ion",
+    "show --rewrite six.10n",
+    "convert --rewrite six.10n",
+    "convert --rewrite --to text six.10n",
+    "convert --rewrite --pretty --to binary six.10n",
     "convert --to other",
     "convert --to text --to text",
 ]
@@ -307,6 +350,8 @@ def compared_whole():
         yield "a form that is named", *row
     for row in FILED:
         yield "a file", *row
+    for row in SEVERAL:
+        yield "several files", *row
     for row in CATALOGUED:
         yield "a catalogue", *row
 
@@ -503,6 +548,15 @@ def run_on_a_full_device(program):
     return None if got == (3, b"write fault\n") else f"FAILED show to /dev/full: {got}"
 
 
+def run_several_on_a_full_device(program):
+    """The first of several files that cannot be written is the last that is read."""
+    with open("/dev/full", "wb") as full, folder_of_files() as folder:
+        words = [program, "show", "empty", "five.10n", "nowhere.ion"]
+        done = subprocess.run(words, cwd=folder, stdout=full, stderr=subprocess.PIPE, timeout=PATIENCE)
+    got, wanted = (done.returncode, done.stderr), (3, b"five.10n: write fault\n")
+    return told(got == wanted, "a full device", " ".join(words[1:]), wanted, got)
+
+
 def main():
     program = os.path.abspath(sys.argv[1])
     wrong = [run_row(program, row) for row in compared_whole()]
@@ -524,7 +578,7 @@ def main():
     else:
         print("skipped: /proc/self/mem")
     if os.path.exists("/dev/full"):
-        wrong.append(run_on_a_full_device(program))
+        wrong += [run_on_a_full_device(program), run_several_on_a_full_device(program)]
     else:
         print("skipped: /dev/full")
     failed = sum(line is not None for line in wrong)

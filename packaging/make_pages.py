@@ -24,16 +24,18 @@ WORDS = {FORMS: ("text", "binary")}
 
 # What the page says beside the help. Lines that begin with a blank are shown as they stand.
 NOTES = """\
-With FILE - or without FILE standard input is read. After --catalog a - is a file of that name in the present folder,
+With FILE - or without FILE standard input is read. The outputs of several files follow one another, as with cat; a line of
+check, or on standard error, then begins with its FILE, and the status is the greatest. What several files are converted to is
+named by --to. After --catalog a - is a file of that name in the present folder,
 since standard input is most often the stream itself. A catalogue that comes by a pipe is read from /dev/stdin, and the
 stream then has a name:
 
   make-tables | ion show --catalog /dev/stdin data.10n
 
 A stream is binary if its first byte is E0, whatever the file is called. A script that may run twice says --to, since convert
-alone would turn everything back. Binary is not written again as binary: that is refused as SameForm at 0.
+alone would turn everything back. Without --rewrite binary is not written again as binary: that is refused as SameForm at 0.
 
---pretty goes with show, and with convert --to text.
+--pretty goes with show, and with convert --to text; --rewrite with convert --to binary.
 
 Without --floats a float other than null.float is refused, as Float, and so is a number of JSON with an exponent, which is one.
 
@@ -49,12 +51,12 @@ DIAGNOSTICS = (
     ("refused REASON at OFFSET",
      "The stream is not valid, passes a limit or, without --floats, has a float. OFFSET is the number of bytes before the faulty part. Status 1."),
     ("catalog refused REASON at OFFSET", "So of --catalog's file, with any float. Status 1."),
-    ("cannot open FILE", "The file is not there, or may not be read. Status 3."),
+    ("cannot open FILE: WHY", "The file is not there, or may not be read. Status 3."),
     ("no memory, read fault, write fault", "The system failed; nothing is said of the stream. Status 3."),
 )
 
 BUGS = """\
-A file whose name is not UTF-8 is read by standard input alone. What is said of a stream names neither the file nor the line:
+A file whose name is not UTF-8 is read by standard input alone. What is said of one stream names neither file nor line:
 
   head -c OFFSET FILE | wc -l
 
@@ -263,7 +265,7 @@ def for_zsh(said_by):
     for name, listed in said_by.options.items():
         lines += [f"        {name}) _arguments \\"]
         lines += [f"            {spec} \\" for option in listed for spec in zsh_specs(*option)]
-        lines += ["            '1:file:_files' ;;"]
+        lines += ["            '*:file:_files' ;;"]
     return lines + [f"        help) _values command {commands} ;;", "      esac ;;", "  esac", "}", '_ion "$@"']
 
 

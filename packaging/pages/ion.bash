@@ -17,7 +17,7 @@ _ion() {
         case ${COMP_WORDS[1]} in
             show) COMPREPLY=($(compgen -W '--pretty --floats --catalog --depth --scalar --symbols -h --help' -- "$cur")) ;;
             check) COMPREPLY=($(compgen -W '--floats --catalog --depth --scalar --symbols -h --help' -- "$cur")) ;;
-            convert) COMPREPLY=($(compgen -W '--to --pretty --floats --catalog --depth --scalar --symbols --value -h --help' -- "$cur")) ;;
+            convert) COMPREPLY=($(compgen -W '--to --pretty --rewrite --floats --catalog --depth --scalar --symbols --value -h --help' -- "$cur")) ;;
         esac
         return
     fi

@@ -21,6 +21,7 @@ complete -c ion -n '__fish_seen_subcommand_from check' -l symbols -x -d 'Bytes o
 complete -c ion -n '__fish_seen_subcommand_from check' -s h -l help -f -d 'Print help'
 complete -c ion -n '__fish_seen_subcommand_from convert' -l to -x -a 'text binary' -d 'Form to write, text or binary [default: the other one]'
 complete -c ion -n '__fish_seen_subcommand_from convert' -l pretty -f -d 'Write each member of a container on a line of its own'
+complete -c ion -n '__fish_seen_subcommand_from convert' -l rewrite -f -d 'Write binary also of a stream that is binary'
 complete -c ion -n '__fish_seen_subcommand_from convert' -l floats -f -d 'Accept floats, as 1.5e0, which are refused without it'
 complete -c ion -n '__fish_seen_subcommand_from convert' -l catalog -r -F -d 'File of shared symbol tables, in either form, without floats'
 complete -c ion -n '__fish_seen_subcommand_from convert' -l depth -x -d 'Containers open at once, up to 65535 [default: 64]'

@@ -22,10 +22,10 @@ some_kind [] k is none = is
 some_kind (x ∷ xs) k is none = cc none
 
 -- words at which a fault is found ask for no run
-no_run : (words : List Text) → words ≢ [] → fault_of ion_app words ≢ [] → (task : Task) (limits : Limits) (catalog file : Option Text)
-    → IsRun words task limits catalog file → ⊥
-no_run words some fault task limits catalog file (inl none) = some none.0
-no_run words some fault task limits catalog file (inr names) = fault names.faultless
+no_run : (words : List Text) → words ≢ [] → fault_of ion_app words ≢ [] → (task : Task) (limits : Limits) (catalog : Option Text) (files : List Text)
+    → IsRun words task limits catalog files → ⊥
+no_run words some fault task limits catalog files (inl none) = some none.0
+no_run words some fault task limits catalog files (inr names) = fault names.faultless
 
 help_kind : (k : ErrorKind) → (k ≡ DisplayHelp) ⊎ (k ≡ DisplayVersion) → k ≢ OutOfMemory
 help_kind k (inl help) memory = cc (sym help ∙ memory)

@@ -1,11 +1,11 @@
 -- Bytes that were written to a device, all or a prefix of them.
-use Rattle.std.proofs.Common.{arith, ◌≡◌, ◌↔◌, ◌⊎◌, inl, inr, ◌+◌, ◌++◌, ℕ, List, Result, Ok, Err, OnOk, MatchResult, take, drop, sym, ap, subst, ◌∙◌, append_assoc, append-nil}
-use Rattle.std.specs.Prelude.{true, false}
-use Rattle.std.specs.Result.{is_err}
+use Rattle.std.proofs.Common.{arith, ◌≡◌, ◌↔◌, ◌⊎◌, inl, inr, ◌+◌, ◌++◌, ℕ, List, [], ◌∷◌, length, Result, Ok, Err, OnOk, MatchResult, take, drop, refl, sym, ap, subst, ◌∙◌, append_assoc, append-nil}
+use Rattle.std.specs.Prelude.{◌==◌, Bool, true, false, codes}
+use Rattle.std.specs.Result.{is_ok}
 use Rattle.ion_meter.proofs.Written.{rest_of_prefix}
 use Rattle.ion_meter.specs.declared.device.Output.{Ghosts as OutputOf}
 use Rattle.ion_value.proofs.Outcomes.{prefix-then}
-use Rattle.ion_tool.specs.Serving.{Gets}
+use Rattle.ion_tool.specs.Serving.{reason_text, Gets, Puts}
 
 -- a call after which the count of failures is as it was has succeeded
 where_unfailed : {T F : Type 0} (r : Result T F) (old new : ℕ) (P : Type 0)
@@ -59,10 +59,60 @@ gets_cut device first second old new count a = record {
 }
 
 -- the count of failures after a call that failed, and after one that succeeded
-pub failed : {T F : Type 0} (r : Result T F) (old new : ℕ) → is_err r ≡ true → MatchResult r (λ _. new ≡ old) (λ _. new ≡ old + 1) → new ≡ old + 1
+failed : {T F : Type 0} (r : Result T F) (old new : ℕ) → is_ok r ≡ false → MatchResult r (λ _. new ≡ old) (λ _. new ≡ old + 1) → new ≡ old + 1
 failed (Ok x) old new e count = absurd (cc e)
 failed (Err x) old new e count = count
 
-pub worked : {T F : Type 0} (r : Result T F) (old new : ℕ) → is_err r ≡ false → MatchResult r (λ _. new ≡ old) (λ _. new ≡ old + 1) → new ≡ old
+worked : {T F : Type 0} (r : Result T F) (old new : ℕ) → is_ok r ≡ true → MatchResult r (λ _. new ≡ old) (λ _. new ≡ old + 1) → new ≡ old
 worked (Ok x) old new e count = count
 worked (Err x) old new e count = absurd (cc e)
+
+-- what a write of bytes says, and whether it was done
+pub puts : {D T F : Type 0} (device : OutputOf D) (bytes : List ℕ) (old new : D) (r : Result T F) (done : Bool) → done ≡ is_ok r
+    → (device.observable new ↔ device.observable old)
+    → MatchResult r (λ _. device.failure_count new ≡ device.failure_count old) (λ _. device.failure_count new ≡ device.failure_count old + 1)
+    → (device.observable old → OnOk r (device.written new ≡ device.written old ++ bytes))
+    → (device.observable old → (n : ℕ) × (device.written new ≡ device.written old ++ take n bytes))
+    → Puts device bytes old new done
+puts device bytes old new r done e same count all prefix = record {
+  gets = gets device bytes old new r same count all prefix;
+  all = λ t. worked r _ _ (sym e ∙ t) count;
+  cut = λ f. failed r _ _ (sym e ∙ f) count;
+}
+
+-- no bytes, and nothing is written
+pub puts_nothing : {D : Type 0} (device : OutputOf D) (old : D) → Puts device [] old old true
+puts_nothing device old = record {
+  gets = record {
+    prefix = λ t. ([], refl);
+    grown = λ t. ([], sym (append-nil _));
+    whole = λ t e. sym (append-nil _);
+    once = inl refl;
+    still_observable = (λ t. t, λ t. t);
+  };
+  all = λ t. refl;
+  cut = λ f. absurd (cc f);
+}
+
+-- bytes that were written, and then others
+pub puts_then : {D : Type 0} (device : OutputOf D) (first second : List ℕ) (old middle new : D) (begun done : Bool) → begun ≡ true
+    → Puts device first old middle begun → Puts device second middle new done → Puts device (first ++ second) old new done
+puts_then device first second old middle new begun done is a b = record {
+  gets = gets_then device first second old middle new (a.all is) a.gets b.gets;
+  all = λ t. b.all t ∙ a.all is;
+  cut = λ f. b.cut f ∙ ap (λ n. n + 1) (a.all is);
+}
+
+-- bytes of which not all were written, and no others
+pub puts_cut : {D : Type 0} (device : OutputOf D) (first second : List ℕ) (old new : D) (begun : Bool) → begun ≡ false
+    → Puts device first old new begun → Puts device (first ++ second) old new false
+puts_cut device first second old new begun is a = record {
+  gets = gets_cut device first second old new (a.cut is) a.gets;
+  all = λ t. absurd (cc t);
+  cut = λ f. a.cut is;
+}
+
+-- a reason that is there stands after two characters
+pub some_reason : (reason : List ℕ) → (length reason == 0) ≡ false → reason_text reason ≡ codes ": " ++ reason
+some_reason [] e = absurd (cc e)
+some_reason (first ∷ rest) e = refl

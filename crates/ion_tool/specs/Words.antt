@@ -1,12 +1,13 @@
 -- The words after the program's name, as `clap` reads them.
-use Rattle.std.specs.Prelude.{◌≡◌, ◌≢◌, ◌⊎◌, ℕ, List, [], Option, Some, None, Bool, true, false, codes, string_bytes, if◌then◌else◌}
-use Rattle.std.specs.Prelude.{option_map, option_and_then, bytes_eq}
+use Rattle.std.specs.Prelude.{◌≡◌, ◌≢◌, ◌⊎◌, ℕ, List, [], ◌∷◌, Option, Some, None, Bool, true, false, codes, string_bytes, if◌then◌else◌}
+use Rattle.std.specs.Prelude.{map, unwrap_or, option_map, option_and_then, bytes_eq}
+use Rattle.std.specs.Borrow.{Bor}
 use Rattle.std.specs.Option.{option_map_or}
 use Rattle.std.specs.Str.Parse.{digits_value, without_leading_plus}
 use Rattle.clap.specs.ValueTests.{accepts}
 use Rattle.clap.specs.Words.{App, Row, Rule, Text, new_app, new_rule, with_rule, with_subcommand}
-use Rattle.clap.specs.Words.{subcommand_of, fault_of, first_of, one_of, IsAmong}
-use Rattle.clap.specs.declared.builder.action.ArgAction.TheVariants.{SetTrue}
+use Rattle.clap.specs.Words.{subcommand_of, fault_of, all_of, first_of, one_of, IsAmong}
+use Rattle.clap.specs.declared.builder.action.ArgAction.TheVariants.{Append, SetTrue}
 use Rattle.clap.specs.declared.builder.value_parser.ValueParser.TheVariants.{Unsigned}
 use Rattle.clap.specs.declared.error.kind.ErrorKind.{ErrorKind}
 use Rattle.clap.specs.declared.error.kind.ErrorKind.TheVariants.{DisplayHelp, DisplayVersion, OutOfMemory}
@@ -17,7 +18,7 @@ use Rattle.ion_meter.specs.Rules.{strict}
 use Rattle.ion_transcode.specs.declared.to.Form.{Form}
 use Rattle.ion_transcode.specs.declared.to.Form.TheVariants as form
 use Rattle.ion_tool.specs.declared.words.Action.{Action}
-use Rattle.ion_tool.specs.declared.words.Action.TheVariants.{Show, ShowPretty, Check, Convert, ConvertPretty}
+use Rattle.ion_tool.specs.declared.words.Action.TheVariants.{Show, ShowPretty, Check, Convert, ConvertPretty, Rewrite}
 use Rattle.ion_tool.specs.declared.words.Task.{Task}
 use Rattle.ion_tool.specs.declared.words.Request.{Request}
 use Rattle.ion_tool.specs.declared.words.Request.TheVariants.{Run, Help, Usage}
@@ -38,9 +39,17 @@ catalog_rule = record (new_rule (codes "catalog")) { long = Some (codes "catalog
 abbrev pub pretty_rule : Rule
 pretty_rule = record (new_rule (codes "pretty")) { long = Some (codes "pretty"); action = Some SetTrue }
 
+-- `--rewrite`
+abbrev pub rewrite_rule : Rule
+rewrite_rule = record (new_rule (codes "rewrite")) { long = Some (codes "rewrite"); action = Some SetTrue }
+
 -- `--floats`
 abbrev pub floats_rule : Rule
 floats_rule = record (new_rule (codes "floats")) { long = Some (codes "floats"); action = Some SetTrue }
+
+-- `[FILE]..`
+abbrev pub files_rule : Rule
+files_rule = record (new_rule (codes "FILE")) { action = Some Append }
 
 -- the options for the limits after what a subcommand has already
 abbrev pub with_limits : App → App
@@ -51,19 +60,19 @@ with_limits app =
     (limit_rule (codes "symbols") 1073741824))
     (limit_rule (codes "value") 1073741824)
 
--- a subcommand after what it has of its own: `[--floats] [--catalog FILE] [--depth N] [--scalar N] [--symbols N] [--value N] [FILE]`
+-- a subcommand after what it has of its own: `[--floats] [--catalog FILE] [--depth N] [--scalar N] [--symbols N] [--value N] [FILE]..`
 abbrev pub action_app : App → App
-action_app app = with_rule (with_limits (with_rule (with_rule app floats_rule) catalog_rule)) (new_rule (codes "FILE"))
+action_app app = with_rule (with_limits (with_rule (with_rule app floats_rule) catalog_rule)) files_rule
 
 -- the program's name, before its subcommands, of which one has to be named; it has a version
 abbrev pub bare_app : App
 bare_app = let a = new_app (codes "ion") in record a { top = record a.top { no_binary_name = true; subcommand_required = true; has_version = true } }
 
--- `ion show [--pretty]`, `ion check`, `ion convert [--to FORM] [--pretty]`
+-- `ion show [--pretty]`, `ion check`, `ion convert [--to FORM] [--pretty] [--rewrite]`
 abbrev pub ion_app : App
 ion_app =
     with_subcommand (with_subcommand (with_subcommand bare_app (action_app (with_rule (new_app (codes "show")) pretty_rule)).top) (action_app (new_app (codes "check"))).top)
-    (action_app (with_rule (with_rule (new_app (codes "convert")) form_rule) pretty_rule)).top
+    (action_app (with_rule (with_rule (with_rule (new_app (codes "convert")) form_rule) pretty_rule) rewrite_rule)).top
 
 -- the subcommand for an action
 abbrev pub action_name : Action → Text
@@ -72,6 +81,7 @@ action_name ShowPretty = codes "show"
 action_name Check = codes "check"
 action_name (Convert to) = codes "convert"
 action_name ConvertPretty = codes "convert"
+action_name Rewrite = codes "convert"
 
 -- the word for a form
 abbrev pub form_name : Form → Text
@@ -85,6 +95,7 @@ form_word ShowPretty = None
 form_word Check = None
 form_word (Convert to) = option_map form_name to
 form_word ConvertPretty = Some (form_name form.Text)
+form_word Rewrite = Some (form_name form.Binary)
 
 -- whether `--pretty` stands for an action
 abbrev pub is_pretty : Action → Bool
@@ -93,6 +104,16 @@ is_pretty ShowPretty = true
 is_pretty Check = false
 is_pretty (Convert to) = false
 is_pretty ConvertPretty = true
+is_pretty Rewrite = false
+
+-- whether `--rewrite` stands for an action
+abbrev pub is_rewritten : Action → Bool
+is_rewritten Show = false
+is_rewritten ShowPretty = false
+is_rewritten Check = false
+is_rewritten (Convert to) = false
+is_rewritten ConvertPretty = false
+is_rewritten Rewrite = true
 
 -- the number of a text that the option takes: digits, of a number that is at most this one
 abbrev pub number_in : ℕ → Text → Option ℕ
@@ -125,6 +146,10 @@ profile_in rows = record { floats = is_set (first_of (codes "floats") rows) }
 abbrev pub pretty_in : List Row → Bool
 pretty_in rows = is_set (first_of (codes "pretty") rows)
 
+-- whether a subcommand is given `--rewrite`
+abbrev pub rewrite_in : List Row → Bool
+rewrite_in rows = is_set (first_of (codes "rewrite") rows)
+
 -- the word of `--to`, where a subcommand is given one
 abbrev pub form_in : List Row → Option Text
 form_in rows = first_of (codes "to") rows
@@ -134,40 +159,59 @@ abbrev pub catalog_in : List Row → Option Text
 catalog_in rows = first_of (codes "catalog") rows
 
 -- the file for a word: the word `-` names none, but standard input
-abbrev pub file_for : Option Text → Option Text
-file_for None = None
-file_for (Some word) = if bytes_eq word (codes "-") then None else Some word
+abbrev pub file_for : Text → Option Text
+file_for word = if bytes_eq word (codes "-") then None else Some word
 
--- the name of the file that a subcommand is given
-abbrev pub file_in : List Row → Option Text
-file_in rows = file_for (first_of (codes "FILE") rows)
+-- the words for files that a subcommand is given
+abbrev pub files_in : List Row → List Text
+files_in rows = unwrap_or (all_of (codes "FILE") rows) []
 
--- `clap` finds no fault in the words, and they name the subcommand, the form and the layout for the task's action, and its profile, with these limits, this catalogue and this file
-pub record Names (words : List Text) (task : Task) (limits : Limits) (catalog file : Option Text) : Type 0 where
+-- the texts of such words, if there are any
+abbrev pub all_named : Option (Bor (List (Bor Text))) → List Text
+all_named words = unwrap_or (option_map (λ s. map (λ t. t.now) s.now) words) []
+
+-- several files are converted to one form: each to its other one would be no stream
+abbrev pub has_one_form : Action → List Text → Bool
+has_one_form (Convert None) (first ∷ second ∷ rest) = false
+has_one_form (Convert None) (first ∷ []) = true
+has_one_form (Convert None) [] = true
+has_one_form (Convert (Some form)) files = true
+has_one_form ConvertPretty files = true
+has_one_form Rewrite files = true
+has_one_form Show files = true
+has_one_form ShowPretty files = true
+has_one_form Check files = true
+
+-- `clap` finds no fault in the words, and they name the subcommand, the form and the layout for the task's action, and its profile, with these limits, this catalogue and
+-- these words for files
+pub record Names (words : List Text) (task : Task) (limits : Limits) (catalog : Option Text) (files : List Text) : Type 0 where
   pub rows : List Row
   pub faultless : fault_of ion_app words ≡ []
   pub named : subcommand_of ion_app words ≡ Some (action_name task.action, rows)
   pub formed : form_in rows ≡ form_word task.action
   pub laid_out : pretty_in rows ≡ is_pretty task.action
+  pub rewritten : rewrite_in rows ≡ is_rewritten task.action
   pub profiled : profile_in rows ≡ task.profile
   pub limited : limits_in rows ≡ Some limits
   pub catalogued : catalog_in rows ≡ catalog
-  pub filed : file_in rows ≡ file
+  pub filed : files_in rows ≡ files
+  pub joined : has_one_form task.action files ≡ true
 
 -- the words ask for this run: there are none, for standard input to be shown with the usual limits and no tables, or they name it
-abbrev pub IsRun : List Text → Task → Limits → Option Text → Option Text → Type 0
-IsRun words task limits catalog file =
-    ((words ≡ []) × (task ≡ record { action = Show; profile = strict }) × (limits ≡ default_limits) × (catalog ≡ None) × (file ≡ None)) ⊎ Names words task limits catalog file
+abbrev pub IsRun : List Text → Task → Limits → Option Text → List Text → Type 0
+IsRun words task limits catalog files =
+    ((words ≡ []) × (task ≡ record { action = Show; profile = strict }) × (limits ≡ default_limits) × (catalog ≡ None) × (files ≡ [])) ⊎ Names words task limits catalog files
 
 -- the words ask for some run
 abbrev pub AsksRun : List Text → Type 0
-AsksRun words = (task : Task) × (limits : Limits) × (catalog : Option Text) × (file : Option Text) × IsRun words task limits catalog file
+AsksRun words = (task : Task) × (limits : Limits) × (catalog : Option Text) × (files : List Text) × IsRun words task limits catalog files
 
 -- the words may ask `clap` for its help or its version
 abbrev pub IsHelp : List Text → Type 0
 IsHelp words = IsAmong DisplayHelp (fault_of ion_app words) ⊎ IsAmong DisplayVersion (fault_of ion_app words)
 
--- the words are wrong: `clap` may find a fault in them that asks for neither, or it finds none and `--to` names no form, or not text with `--pretty`
+-- the words are wrong: `clap` may find a fault in them that asks for neither, or it finds none and `--to` names no form, or is not there for several files, or not text with `--pretty`, or not binary
+-- with `--rewrite`
 abbrev pub IsUsage : List Text → Type 0
 IsUsage words =
     (fault_of ion_app words ≡ []) ⊎ ((kind : ErrorKind) × IsAmong kind (fault_of ion_app words) × (kind ≢ DisplayHelp) × (kind ≢ DisplayVersion))
@@ -175,7 +219,7 @@ IsUsage words =
 -- what the words ask for
 abbrev pub Asks : List Text → Request → Type 0
 Asks words (Run catalog job) =
-    IsRun words job.task job.limits (option_map string_bytes catalog) (option_map string_bytes job.file) × AreChecked job.limits
+    IsRun words job.task job.limits (option_map string_bytes catalog) (map string_bytes job.files.items) × AreChecked job.limits
 Asks words (Help text) = (¬ AsksRun words) × IsHelp words × (string_bytes text ≢ [])
 Asks words (Usage text) = (¬ AsksRun words) × IsUsage words × (string_bytes text ≢ [])
 
@@ -185,9 +229,9 @@ AnswersError kind (Run catalog job) = ⊥
 AnswersError kind (Help text) = ((kind ≡ DisplayHelp) ⊎ (kind ≡ DisplayVersion)) × (string_bytes text ≢ [])
 AnswersError kind (Usage text) = (kind ≢ OutOfMemory) × (kind ≢ DisplayHelp) × (kind ≢ DisplayVersion) × (string_bytes text ≢ [])
 
--- a request for the run with this task, these limits, this catalogue and this file
-abbrev pub IsRequestFor : Task → Limits → Option Text → Option Text → Request → Type 0
-IsRequestFor task limits catalog file (Run own job) =
-    (job.task ≡ task) × (job.limits ≡ limits) × (option_map string_bytes own ≡ catalog) × (option_map string_bytes job.file ≡ file)
-IsRequestFor task limits catalog file (Help text) = ⊥
-IsRequestFor task limits catalog file (Usage text) = ⊥
+-- a request for the run with this task, these limits, this catalogue and these words for files
+abbrev pub IsRequestFor : Task → Limits → Option Text → List Text → Request → Type 0
+IsRequestFor task limits catalog files (Run own job) =
+    (job.task ≡ task) × (job.limits ≡ limits) × (option_map string_bytes own ≡ catalog) × (map string_bytes job.files.items ≡ files)
+IsRequestFor task limits catalog files (Help text) = ⊥
+IsRequestFor task limits catalog files (Usage text) = ⊥

@@ -1,5 +1,6 @@
 //! Where the files come from that the words name.
-ghost use Rattle.std.specs.Prelude.{◌≡◌, ℕ, List, Option};
+ghost use Rattle.std.specs.Prelude.{◌≡◌, ℕ, List, Result, string_bytes};
+ghost use Rattle.std.specs.Result.{result_map_both};
 ghost use Rattle.ion_meter.specs.Devices.{Counted};
 
 use ion_meter::device::Input;
@@ -41,15 +42,16 @@ impl<F: Read> UsedFile<F> {
 pub trait FileSource {
     type File: Read + Drop;
 
-    /// It may give this for a name, and be so then.
-    ghost gives: { Self → List ℕ → Option Self.File → Self → Type 0 };
+    /// It may give this for a name, a file or why there is none, and be so then.
+    ghost gives: { Self → List ℕ → Result Self.File (List ℕ) → Self → Type 0 };
 
     /// It may be so when this file is handed back to it.
     ghost closes: { Self → Counted Self.File → Self → Type 0 };
 
-    /// The file of this name, where it can be read.
-    fn open_named(&mut self, name: &str) -> Option<Self::File>
-        ensures { gives self.old name.now result self.new };
+    /// The file of this name, where it can be read, or why it cannot, which may be an empty text.
+    fn open_named(&mut self, name: &str) -> Result<Self::File, String>
+        ensures { gives self.old name.now
+            (result_map_both (λ file. file) string_bytes result) self.new };
 
     /// Takes back a file that it gave, as the run leaves it.
     fn close(&mut self, file: UsedFile<Self::File>)

@@ -5,6 +5,7 @@ ghost use Rattle.std.specs.Prelude.{⊤};
 
 mod act;
 mod files;
+mod lines;
 mod serve;
 mod streams;
 mod words;
@@ -13,7 +14,9 @@ use files::{FileSource, UsedFile};
 use ion_meter::fault::Fault;
 use ion_meter::meter::Meter;
 use ion_meter::stream::{FromRead, ToWrite};
-use serve::{give_usage, report, serve};
+use lines::report;
+use serve::{give_usage, serve};
+use std::alloc::{AllocError, Global};
 use std::cell::Cell;
 use std::fs::File;
 use std::io::{BufReader, IsTerminal};
@@ -24,6 +27,25 @@ use streams::{Escaped, Lines, OwnLine, Retried};
 
 /// How many bytes are read at a time, where there is memory for so many.
 const AHEAD: usize = 65_536;
+
+/// Opens a file of the system.
+fn open(rt: &HostRuntime, name: &str) -> io::Result<BufReader<Retried<File>>> {
+    let file = Retried::new(fs::open(rt, name)?);
+    if let Ok(file) = BufReader::with_capacity(rt.alloc(), AHEAD, file) {
+        return Ok(file);
+    }
+    let file = Retried::new(fs::open(rt, name)?);
+    BufReader::with_capacity(rt.alloc(), 0, file)
+}
+
+/// The words of the system for an error, where there is memory for them.
+fn reason_of(alloc: Global, error: &io::Error) -> Result<String, AllocError> {
+    let text = error.to_string(alloc)?;
+    match text.as_str().split_once(" (os error ") {
+        Some((words, _)) => String::from_str(alloc, words),
+        None => Ok(text),
+    }
+}
 
 /// The files of the system.
 #[derive(Drop)]
@@ -38,18 +60,27 @@ impl FileSource for RealFiles {
 
     ghost closes = { λ files file after. ⊤ };
 
-    fn open_named(&mut self, name: &str) -> Option<BufReader<Retried<File>>> {
-        let file = Retried::new(fs::open(&self.rt, name).ok()?);
-        if let Ok(file) = BufReader::with_capacity(self.rt.alloc(), AHEAD, file) {
-            return Some(file);
+    fn open_named(&mut self, name: &str) -> Result<BufReader<Retried<File>>, String> {
+        match open(&self.rt, name) {
+            Ok(file) => Ok(file),
+            Err(error) => match reason_of(self.rt.alloc(), &error) {
+                Ok(reason) => Err(reason),
+                Err(AllocError) => Err(String::new(self.rt.alloc())),
+            },
         }
-        let file = Retried::new(fs::open(&self.rt, name).ok()?);
-        BufReader::with_capacity(self.rt.alloc(), 0, file).ok()
     }
 
     fn close(&mut self, _file: UsedFile<BufReader<Retried<File>>>)
         ensures { ⊤ }
     {}
+}
+
+/// Whether the words ask for a count of values, which stands on a line with the file's name.
+fn is_check(words: &[String]) -> bool {
+    match words {
+        [word, ..] => word.as_str() == "check",
+        [] => false,
+    }
 }
 
 fn main(rt: HostRuntime) -> io::Result<ExitCode> {
@@ -59,11 +90,10 @@ fn main(rt: HostRuntime) -> io::Result<ExitCode> {
         Err(_) => FromRead::new(BufReader::with_capacity(alloc, 0, Retried::new(rt.stdin()))?),
     };
     let is_open = Cell::new(false);
-    let out = ToWrite::new(Lines::new(Retried::new(rt.stdout()), &is_open));
     let shared = rt.stdout().is_terminal() && rt.stderr().is_terminal();
     let messages = OwnLine::new(Retried::new(rt.stderr()), shared.then_some(&is_open));
-    let mut err = ToWrite::new(Escaped::new(messages));
-    let words = match env::args(&rt) {
+    let mut err = ToWrite::new(Escaped::new(messages, true));
+    let words: Option<Vec<String>> = match env::args(&rt) {
         Ok(mut words) => {
             let _program = words.next();
             words.collect(alloc).ok()
@@ -75,8 +105,10 @@ fn main(rt: HostRuntime) -> io::Result<ExitCode> {
         Err(_) => None,
     };
     let Some(words) = words else {
-        return Ok(ExitCode::from(report(Err(Fault::Memory), &mut err)));
+        return Ok(ExitCode::from(report(None, Err(Fault::Memory), &mut err)));
     };
+    let lines = Lines::new(Retried::new(rt.stdout()), &is_open);
+    let out = ToWrite::new(Escaped::new(lines, is_check(words.as_slice())));
     let mut meter = Meter::new(alloc);
     let mut tables = Meter::new(alloc);
     let mut files = RealFiles { rt };

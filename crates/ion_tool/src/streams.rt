@@ -56,17 +56,18 @@ impl<D: Write> Write for Retried<D> {
     }
 }
 
-/// A writer to which control characters, but for ends of lines, go by their numbers, as `\x1b`: on a
-/// terminal they would be followed.
+/// A writer to which control characters, but for ends of lines, go by their numbers, as `\x1b`,
+/// where it has lines with names: on a terminal they would be followed.
 #[derive(Drop)]
 pub struct Escaped<W> {
     writer: W,
+    has_names: bool,
 }
 
 impl<W> Escaped<W> {
     /// This writer.
-    pub fn new(writer: W) -> Escaped<W> {
-        Escaped { writer }
+    pub fn new(writer: W, has_names: bool) -> Escaped<W> {
+        Escaped { writer, has_names }
     }
 }
 
@@ -93,6 +94,9 @@ fn plain_length(bytes: &[u8]) -> usize
 
 impl<W: Write> Write for Escaped<W> {
     fn write(&mut self, bytes: &[u8]) -> io::Result<usize> {
+        if !self.has_names {
+            return self.writer.write(bytes);
+        }
         let plain = plain_length(bytes);
         if plain > 0 || bytes.is_empty() {
             return self.writer.write(&bytes[..plain]);

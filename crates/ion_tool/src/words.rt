@@ -1,9 +1,9 @@
 //! The words of the command line.
-ghost use Rattle.std.specs.Prelude.{◌≡◌, ◌≢◌, ◌≤◌, false, IfOk, IfSome, OnErr, None, List, [], Some, codes, map, option_map, string_bytes};
-ghost use Rattle.clap.specs.Words.{Row, app_of, first_of, found_of, kind_of, rows_of, rule_of, fault_of, FailsBy, new_app, new_rule, subcommand_of, subcommand_rows_of, with_rule, with_subcommand};
+ghost use Rattle.std.specs.Prelude.{◌≡◌, ◌≢◌, ◌≤◌, false, true, IfOk, IfSome, OnErr, None, List, [], Some, codes, map, option_map, string_bytes};
+ghost use Rattle.clap.specs.Words.{Row, app_of, first_of, found_of, kind_of, rows_of, rule_of, fault_of, FailsBy, new_app, subcommand_of, subcommand_rows_of, with_rule, with_subcommand};
 ghost use Rattle.clap.specs.declared.builder.command.Command.TheViews.{out-Command};
 ghost use Rattle.ion_meter.specs.Limits.{AreChecked};
-ghost use Rattle.ion_tool.specs.Words.{action_app, with_limits, action_name, bare_app, catalog_in, catalog_rule, file_for, file_in, form_in, form_rule, form_word, ion_app, limit_in, limit_rule, limits_in, floats_rule, is_pretty, is_set, pretty_in, pretty_rule, profile_in, Asks, AnswersError, IsRequestFor};
+ghost use Rattle.ion_tool.specs.Words.{action_app, with_limits, action_name, all_named, bare_app, catalog_in, catalog_rule, file_for, files_in, files_rule, form_in, has_one_form, form_rule, form_word, ion_app, limit_in, limit_rule, limits_in, floats_rule, is_pretty, is_rewritten, is_set, pretty_in, pretty_rule, profile_in, rewrite_in, rewrite_rule, Asks, AnswersError, IsRequestFor};
 
 use clap::builder::ValueParser;
 use clap::error::ErrorKind;
@@ -27,6 +27,8 @@ pub enum Action {
     Convert(Option<Form>),
     /// It is written in the form that is named, text, as text for people.
     ConvertPretty,
+    /// It is written in the form that is named, binary, also where it is binary.
+    Rewrite,
 }
 
 /// What is done with the stream, and which values of Ion it may have.
@@ -41,8 +43,8 @@ pub struct Task {
 pub struct Job {
     pub task: Task,
     pub limits: Limits,
-    /// The name of the file that is read. Without one it is standard input.
-    pub file: Option<String>,
+    /// The words for the files that are read. Without one it is standard input.
+    pub files: Vec<String>,
 }
 
 /// What the words ask for.
@@ -58,11 +60,11 @@ pub enum Request {
 
 /// A run as `clap` has read it.
 #[derive(Clone, Copy)]
-struct Asked<'a> {
+struct Asked<'m, 'a> {
     task: Task,
     limits: Limits,
     catalog: Option<&'a str>,
-    file: Option<&'a str>,
+    files: Option<&'m [&'a str]>,
 }
 
 const ABOUT: &str = "Shows, checks and converts Amazon Ion 1.0, a data format like JSON with more
@@ -74,12 +76,13 @@ which byte offset. JSON is read too; its numbers with an exponent, as 1e3, are
 floats.";
 
 /// How the program is called, which `clap` also says of wrong words.
-const USAGE: &str = "ion <show|check|convert> [OPTIONS] [FILE]
+const USAGE: &str = "ion <show|check|convert> [OPTIONS] [FILE]...
        as in: ion show data.ion";
 
 /// What is said of wrong words of which `clap` says nothing: it takes any word after `--to`, and
-/// `--pretty` without that option.
-const WRONG: &str = "error: '--to <FORM>' takes text or binary; '--pretty' needs '--to text'
+/// several files, `--pretty` or `--rewrite` without that option.
+const WRONG: &str =
+    "error: '--to <FORM>' takes text or binary; several files need it, '--pretty' text, '--rewrite' binary
 
 For more information, try '--help'.
 ";
@@ -137,6 +140,17 @@ fn pretty_arg<'a>(alloc: Global) -> Arg<'a>
         .help("Write each member of a container on a line of its own")
 }
 
+/// The option `--rewrite`.
+fn rewrite_arg<'a>(alloc: Global) -> Arg<'a>
+    ensures rule { rule_of result ≡ rewrite_rule }
+    ensures own { result.global ≡ false }
+{
+    Arg::new(alloc, "rewrite")
+        .long("rewrite")
+        .action(ArgAction::SetTrue)
+        .help("Write binary also of a stream that is binary")
+}
+
 /// The option `--catalog FILE`.
 fn catalog_arg<'a>(alloc: Global) -> Arg<'a>
     ensures rule { rule_of result ≡ catalog_rule }
@@ -159,12 +173,14 @@ fn floats_arg<'a>(alloc: Global) -> Arg<'a>
         .help("Accept floats, as 1.5e0, which are refused without it")
 }
 
-/// The argument FILE.
-fn file_arg<'a>(alloc: Global) -> Arg<'a>
-    ensures rule { rule_of result ≡ new_rule (codes "FILE") }
+/// The argument FILE, which may be there more than once.
+fn files_arg<'a>(alloc: Global) -> Arg<'a>
+    ensures rule { rule_of result ≡ files_rule }
     ensures own { result.global ≡ false }
 {
-    Arg::new(alloc, "FILE").help("File to read; - or none is standard input")
+    Arg::new(alloc, "FILE")
+        .action(ArgAction::Append)
+        .help("Files to read; - or none is standard input")
 }
 
 /// A command with the options for the limits. The one for values in binary is taken by each, but
@@ -204,7 +220,7 @@ fn action_command<'a>(
 {
     let command = command.about(about).after_help(example);
     let command = command.arg(floats_arg(alloc))?.arg(catalog_arg(alloc))?;
-    with_limits(alloc, command, writes_binary)?.arg(file_arg(alloc))
+    with_limits(alloc, command, writes_binary)?.arg(files_arg(alloc))
 }
 
 /// The program's name, with its texts.
@@ -248,12 +264,14 @@ fn show_command<'a>(alloc: Global) -> Result<Command<'a>, AllocError>
 /// The subcommand that converts, with the options of its own.
 fn convert_command<'a>(alloc: Global) -> Result<Command<'a>, AllocError>
     ensures app { IfOk result (λ c. app_of c
-        ≡ with_rule (with_rule (new_app (codes "convert")) form_rule) pretty_rule) }
+        ≡ with_rule (with_rule (with_rule (new_app (codes "convert")) form_rule) pretty_rule)
+        rewrite_rule) }
     ensures own { IfOk result (λ c. (out-Command c).has_globals ≡ false) }
 {
     Command::new(alloc, "convert")
         .arg(form_arg(alloc))?
-        .arg(pretty_arg(alloc))
+        .arg(pretty_arg(alloc))?
+        .arg(rewrite_arg(alloc))
 }
 
 /// The whole command.
@@ -394,56 +412,77 @@ fn is_set(options: &ArgMatches<'_>, name: &str) -> bool
 }
 
 /// The action that a subcommand stands for, with the word that `--to` gives it, and where `--pretty`
-/// stands.
-fn action_of(name: &str, form: Option<&str>, pretty: bool) -> Option<Action>
+/// and `--rewrite` stand.
+fn action_of(name: &str, form: Option<&str>, pretty: bool, rewrite: bool) -> Option<Action>
     ensures some { IfSome result (λ a. (name.now ≡ action_name a)
-        × (option_map (λ s. s.now) form.entry ≡ form_word a) × (pretty ≡ is_pretty a)) }
+        × (option_map (λ s. s.now) form.entry ≡ form_word a) × (pretty ≡ is_pretty a)
+        × (rewrite ≡ is_rewritten a)) }
     ensures none { result ≡ None → (a : Action) → name.now ≡ action_name a
-        → option_map (λ s. s.now) form.entry ≡ form_word a → pretty ≢ is_pretty a }
+        → option_map (λ s. s.now) form.entry ≡ form_word a → pretty ≡ is_pretty a
+        → rewrite ≢ is_rewritten a }
 {
-    match (name, form, pretty) {
-        ("show", None, false) => Some(Action::Show),
-        ("show", None, true) => Some(Action::ShowPretty),
-        ("check", None, false) => Some(Action::Check),
-        ("convert", None, false) => Some(Action::Convert(None)),
-        ("convert", Some("text"), false) => Some(Action::Convert(Some(Form::Text))),
-        ("convert", Some("text"), true) => Some(Action::ConvertPretty),
-        ("convert", Some("binary"), false) => Some(Action::Convert(Some(Form::Binary))),
+    match (name, form, pretty, rewrite) {
+        ("show", None, false, false) => Some(Action::Show),
+        ("show", None, true, false) => Some(Action::ShowPretty),
+        ("check", None, false, false) => Some(Action::Check),
+        ("convert", None, false, false) => Some(Action::Convert(None)),
+        ("convert", Some("text"), false, false) => Some(Action::Convert(Some(Form::Text))),
+        ("convert", Some("text"), true, false) => Some(Action::ConvertPretty),
+        ("convert", Some("binary"), false, false) => Some(Action::Convert(Some(Form::Binary))),
+        ("convert", Some("binary"), false, true) => Some(Action::Rewrite),
         _ => None,
     }
 }
 
 /// The file that this word names: `-` names none, but standard input.
-fn file_of<'a>(word: Option<&'a str>) -> Option<&'a str>
-    ensures { option_map (λ s. s.now) result ≡ file_for (option_map (λ s. s.now) word.entry) }
+pub fn file_of(word: &str) -> Option<&str>
+    ensures { option_map (λ s. s.now) result ≡ file_for word.now }
 {
-    let name = word?;
-    if name == "-" {
+    if word == "-" {
         return None;
     }
-    Some(name)
+    Some(word)
+}
+
+/// Whether this is done with so many files: several are converted to one form alone.
+fn has_one_form(action: Action, files: Option<&[&str]>) -> bool
+    ensures { result ≡ has_one_form action (all_named files.entry) }
+{
+    match (action, files) {
+        (Action::Convert(None), Some([_, _, ..])) => false,
+        _ => true,
+    }
 }
 
 /// The run that the matches name.
-fn asked_by<'a>(matches: &ArgMatches<'a>) -> Option<Asked<'a>>
+fn asked_by<'m, 'a>(matches: &'m ArgMatches<'a>) -> Option<Asked<'m, 'a>>
     ensures some { IfSome result (λ a. (rows : List Row)
         × (subcommand_rows_of matches.now ≡ Some (action_name a.task.action, rows))
         × (form_in rows ≡ form_word a.task.action)
         × (pretty_in rows ≡ is_pretty a.task.action)
+        × (rewrite_in rows ≡ is_rewritten a.task.action)
         × (profile_in rows ≡ a.task.profile)
         × (limits_in rows ≡ Some a.limits) × AreChecked a.limits
         × (catalog_in rows ≡ option_map (λ s. s.now) a.catalog)
-        × (file_in rows ≡ option_map (λ s. s.now) a.file)) }
+        × (files_in rows ≡ all_named a.files)
+        × (has_one_form a.task.action (files_in rows) ≡ true)) }
     ensures none { result ≡ None → (action : Action) (rows : List Row)
         → subcommand_rows_of matches.now ≡ Some (action_name action, rows)
         → form_in rows ≡ form_word action
         → pretty_in rows ≡ is_pretty action
+        → rewrite_in rows ≡ is_rewritten action
+        → has_one_form action (files_in rows) ≡ true
         → limits_in rows ≡ None }
 {
     let (name, options) = matches.subcommand()?;
     let pretty = is_set(options, "pretty");
-    let action = action_of(name, options.get_str("to"), pretty)?;
+    let rewrite = is_set(options, "rewrite");
+    let action = action_of(name, options.get_str("to"), pretty, rewrite)?;
     let limits = limits_of(options)?;
+    let files = options.get_strs("FILE");
+    if !has_one_form(action, files) {
+        return None;
+    }
     let task = Task {
         action,
         profile: Profile {
@@ -451,12 +490,11 @@ fn asked_by<'a>(matches: &ArgMatches<'a>) -> Option<Asked<'a>>
         },
     };
     let catalog = options.get_str("catalog");
-    let file = file_of(options.get_str("FILE"));
     Some(Asked {
         task,
         limits,
         catalog,
-        file,
+        files,
     })
 }
 
@@ -471,18 +509,40 @@ fn owned(alloc: Global, name: Option<&str>) -> Result<Option<String>, AllocError
     }
 }
 
+/// Copies of names, which need their words no more.
+fn copies(alloc: Global, names: &[&str]) -> Result<Vec<String>, AllocError>
+    ensures { IfOk result
+        (λ own. map string_bytes own.items ≡ map (λ s. s.now) names.now) }
+{
+    let mut own = Vec::new(alloc);
+    for name in names {
+        own.push(String::from_str(alloc, name)?)?;
+    }
+    Ok(own)
+}
+
+/// Copies of names, if there are any, which need their words no more.
+fn all_owned(alloc: Global, names: Option<&[&str]>) -> Result<Vec<String>, AllocError>
+    ensures { IfOk result (λ own. map string_bytes own.items ≡ all_named names.entry) }
+{
+    match names {
+        Some(names) => copies(alloc, names),
+        None => Ok(Vec::new(alloc)),
+    }
+}
+
 /// The request for a run, which needs its words no more.
-fn request_for(alloc: Global, asked: Asked<'_>) -> Result<Request, AllocError>
+fn request_for(alloc: Global, asked: Asked<'_, '_>) -> Result<Request, AllocError>
     ensures { IfOk result (IsRequestFor asked.entry.task asked.entry.limits
         (option_map (λ s. s.now) asked.entry.catalog)
-        (option_map (λ s. s.now) asked.entry.file)) }
+        (all_named asked.entry.files)) }
 {
     let catalog = owned(alloc, asked.catalog)?;
-    let file = owned(alloc, asked.file)?;
+    let files = all_owned(alloc, asked.files)?;
     let job = Job {
         task: asked.task,
         limits: asked.limits,
-        file,
+        files,
     };
     Ok(Request::Run(catalog, job))
 }
@@ -500,7 +560,7 @@ pub fn read_words(alloc: Global, words: &[String]) -> Result<Request, AllocError
         let job = Job {
             task,
             limits: Limits::default(),
-            file: None,
+            files: Vec::new(alloc),
         };
         return Ok(Request::Run(None, job));
     }
@@ -510,8 +570,9 @@ pub fn read_words(alloc: Global, words: &[String]) -> Result<Request, AllocError
     };
     match asked_by(&matches) {
         Some(asked) => request_for(alloc, asked),
-        // `--to` names no form. No other words lead here: `clap` answers its own subcommand, `help`,
-        // by an error, and so numbers that are past a limit.
+        // `--to` names no form, not text with `--pretty` or binary with `--rewrite`, or is not there
+        // for several files. No other words lead here: `clap` answers its own subcommand, `help`, by
+        // an error, and so numbers that are past a limit.
         None => Ok(Request::Usage(String::from_str(alloc, WRONG)?)),
     }
 }

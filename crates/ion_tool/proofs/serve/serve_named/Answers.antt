@@ -1,38 +1,24 @@
-use Rattle.std.proofs.Common.{rules, Some, Ok, Err}
-use Rattle.ion_tool.proofs.Loading.{file_loaded, nothing_back}
+use Rattle.std.proofs.Common.{rules, Ok, Err}
+use Rattle.std.specs.Prelude.{string_bytes}
 use Rattle.ion_tool.proofs.serve.serve_named.Goals as goal
 
 pub returns-in-Ok-clause-served : goal.returns-in-Ok-clause-served
-returns-in-Ok-clause-served g c =
-    let load = c.load_file.ensures in (
-      Some c.in-Some.file,
-      c.open_named.new.self,
-      c.in-Some.ensures,
-      (
-        Ok c.in-Ok.catalog,
-        c.load_file.new.files,
-        file_loaded _ _ _ _ _ _ load.0 _ c.load_file.new.meter c.release.new.meter _ _ c.in-Ok.is load.1 load.2 c.release.ensures,
-        c.serve_job-served.ensures.served,
-      ),
-    )
+returns-in-Ok-clause-served g c = (Ok c.in-Ok.file, c.open_named.new.self, c.in-Ok.ensures, c.serve_loaded.ensures.served)
 
 pub returns-in-Err-clause-served : goal.returns-in-Err-clause-served
-returns-in-Err-clause-served g c =
-    let load = c.load_file.ensures in (
-      Some c.in-Some.file,
-      c.open_named.new.self,
-      c.in-Some.ensures,
-      (
-        Err c.in-Err.fault,
-        c.load_file.new.files,
-        file_loaded _ _ _ _ _ _ load.0 _ c.load_file.new.meter _ _ _ c.in-Err.is load.1 load.2 (nothing_back c.load_file.new.meter),
-        record {
-          status_is = search rules;
-          memory = search rules;
-          files = search rules;
-          input = search rules;
-          output = search rules;
-          said = search rules;
-        },
-      ),
-    )
+returns-in-Err-clause-served g c = (
+  Err (string_bytes c.in-Err.reason),
+  c.open_named.new.self,
+  c.in-Err.ensures,
+  (
+    search rules,
+    record {
+      status_is = search rules;
+      memory = search rules;
+      files = search rules;
+      input = search rules;
+      output = search rules;
+      said = rw c.as_str.ensures.value at c.say_unopened.ensures;
+    },
+  ),
+)

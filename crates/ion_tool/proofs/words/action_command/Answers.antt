@@ -12,7 +12,7 @@ returns-clause-app c =
     let a0 = c.in_ok-arg.ensures.shape c.floats_arg.ensures.own ∙ ap₂ with_rule bare c.floats_arg.ensures.rule in
     let a1 = c.in_ok-command.ensures.shape c.catalog_arg.ensures.own ∙ ap₂ with_rule a0 c.catalog_arg.ensures.rule in
     let a2 = c.in_ok-with_limits.ensures.app ∙ ap with_limits a1 in
-    IfOk-weaker c.arg-3.result _ _ (λ x h. h.shape c.file_arg.ensures.own ∙ ap₂ with_rule a2 c.file_arg.ensures.rule) c.arg-3.ensures
+    IfOk-weaker c.arg-3.result _ _ (λ x h. h.shape c.files_arg.ensures.own ∙ ap₂ with_rule a2 c.files_arg.ensures.rule) c.arg-3.ensures
 
 -- and none is global
 pub returns-clause-own : goal.returns-clause-own
@@ -21,4 +21,4 @@ returns-clause-own c =
     let g0 = c.in_ok-arg.ensures.globals ∙ ap₂ ◌||◌ bare c.floats_arg.ensures.own in
     let g1 = c.in_ok-command.ensures.globals ∙ ap₂ ◌||◌ g0 c.catalog_arg.ensures.own in
     let g2 = c.in_ok-with_limits.ensures.own g1 in
-    IfOk-weaker c.arg-3.result _ _ (λ x h. h.globals ∙ ap₂ ◌||◌ g2 c.file_arg.ensures.own) c.arg-3.ensures
+    IfOk-weaker c.arg-3.result _ _ (λ x h. h.globals ∙ ap₂ ◌||◌ g2 c.files_arg.ensures.own) c.arg-3.ensures

@@ -1,6 +1,6 @@
 use Rattle.std.proofs.Common.{arith}
 use Rattle.std.proofs.lemmas.Grind.{common_steps}
-use Rattle.ion_tool.proofs.serve.refusal.Goals as goal
+use Rattle.ion_tool.proofs.lines.refusal.Goals as goal
 
 pub returns-clause-text : goal.returns-clause-text
 returns-clause-text c = grind (arith, common_steps) steps 400000

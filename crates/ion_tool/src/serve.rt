@@ -357,6 +357,8 @@ fn serve_named<F: FileSource, I: Input, O: Output, E: Output>(
 }
 
 /// Runs with the tables of the catalogue that was named, or with none.
+// In line its 6 KB of stack would be there while the words are read.
+#[inline(never)]
 fn serve_run<F: FileSource, I: Input, O: Output, E: Output>(
     meter: &mut Meter<Global>,
     tables: &mut Meter<Global>,

@@ -548,6 +548,8 @@ fn request_for(alloc: Global, asked: Asked<'_, '_>) -> Result<Request, AllocErro
 }
 
 /// Reads the words after the program's name. It fails only where it is out of memory.
+// In line its 12 KB of stack would be there during the run.
+#[inline(never)]
 pub fn read_words(alloc: Global, words: &[String]) -> Result<Request, AllocError>
     ensures asks { IfOk result (Asks (map string_bytes words.now)) }
     ensures some_words { OnErr result (map string_bytes words.now ≢ []) }

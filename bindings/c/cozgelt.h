@@ -12,10 +12,11 @@
  *  - the CPU is an x86-64-v2 (SSE4.2), and the stack has 24 KB left;
  *  - no call is made from a signal handler, nor in a forked child of a process that had threads.
  *
- * A call keeps nothing. It takes memory by malloc, for as much output as the room has too, and gives all of it back before it
+ * A call keeps nothing. It takes memory by malloc, for output too, at most the room's length, and gives all of it back before it
  * returns. There is no state, so any number of threads may call at once.
  *
- * The statuses 2 and 4 come where malloc gave nothing; no proof sees malloc, so that this is only tested.
+ * The statuses 2 and 4 come where malloc gave nothing, 4 also for a room above 2^47 bytes; no proof sees malloc: this is only
+ * tested.
  *
  * libcozgelt.a is linked with libgcc too (-lgcc), which a compiler adds by itself.
  *
@@ -63,7 +64,7 @@ enum {
     COZGELT_REFUSED = 1,          /* the same of what stands before the faulty part */
     COZGELT_NO_MEMORY = 2,        /* malloc gave nothing. Here, and with all statuses below, room is as it was */
     COZGELT_INPUT_LIMIT = 3,      /* stream or catalogue are longer than limits->input */
-    COZGELT_NO_OUTPUT_MEMORY = 4, /* malloc gave nothing for the output */
+    COZGELT_NO_OUTPUT_MEMORY = 4, /* malloc gave nothing for the output, or room_len is above 2^47 */
     COZGELT_INVALID = 5,          /* structs of another size, limits above their maxima, or a number of no profile */
     COZGELT_CATALOG_REFUSED = 6   /* the catalogue is refused: reason and place are of it */
 };

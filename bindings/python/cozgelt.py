@@ -174,7 +174,7 @@ def to_binary(stream: _Bytes, *, catalog: _Bytes = b"", depth: int = 64, scalar:
 def rewrite(stream: _Bytes, *, catalog: _Bytes = b"", depth: int = 64, scalar: int = 1 << 20, symbols: int = 1 << 20,
             value: int = 1 << 24, input: int = 1 << 48, floats: bool = False) -> bytes:
     """The stream, text or binary, as canonical binary."""
-    return _call("cozgelt_rewrite_with", floats, stream, catalog, (depth, scalar, symbols, value, input), 1)[0]
+    return _call("cozgelt_rewrite_with", floats, stream, catalog, (depth, scalar, symbols, value, input))[0]
 
 
 def check(stream: _Bytes, *, catalog: _Bytes = b"", depth: int = 64, scalar: int = 1 << 20, symbols: int = 1 << 20,

@@ -422,7 +422,7 @@ pub fn rewrite_with(
         stream,
         catalog,
         limits,
-        stream.len().saturating_add(64),
+        first_room(stream),
     )?
     .0)
 }

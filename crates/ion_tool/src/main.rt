@@ -92,7 +92,7 @@ fn main(rt: HostRuntime) -> io::Result<ExitCode> {
     let is_open = Cell::new(false);
     let shared = rt.stdout().is_terminal() && rt.stderr().is_terminal();
     let messages = OwnLine::new(Retried::new(rt.stderr()), shared.then_some(&is_open));
-    let mut err = ToWrite::new(Escaped::new(messages, true));
+    let mut err = ToWrite::new(Escaped::new(alloc, messages, true));
     let words: Option<Vec<String>> = match env::args(&rt) {
         Ok(mut words) => {
             let _program = words.next();
@@ -108,7 +108,7 @@ fn main(rt: HostRuntime) -> io::Result<ExitCode> {
         return Ok(ExitCode::from(report(None, Err(Fault::Memory), &mut err)));
     };
     let lines = Lines::new(Retried::new(rt.stdout()), &is_open);
-    let out = ToWrite::new(Escaped::new(lines, is_check(words.as_slice())));
+    let out = ToWrite::new(Escaped::new(alloc, lines, is_check(words.as_slice())));
     let mut meter = Meter::new(alloc);
     let mut tables = Meter::new(alloc);
     let mut files = RealFiles { rt };

@@ -2,6 +2,7 @@
 
 ghost use Rattle.std.specs.Prelude.{◌<◌, ◌≤◌, length};
 
+use std::alloc::Global;
 use std::cell::Cell;
 use std::io;
 use std::io::{ErrorKind, Read, Write};
@@ -57,17 +58,23 @@ impl<D: Write> Write for Retried<D> {
 }
 
 /// A writer to which control characters, but for ends of lines, go by their numbers, as `\x1b`,
-/// where it has lines with names: on a terminal they would be followed.
+/// where it has lines with names: on a terminal they would be followed. Such a line is held until
+/// its end, since what other processes write at the same time would stand between its parts.
 #[derive(Drop)]
 pub struct Escaped<W> {
     writer: W,
     has_names: bool,
+    held: Vec<u8>,
 }
 
 impl<W> Escaped<W> {
-    /// This writer.
-    pub fn new(writer: W, has_names: bool) -> Escaped<W> {
-        Escaped { writer, has_names }
+    /// This writer, which takes memory for a line from this allocator.
+    pub fn new(alloc: Global, writer: W, has_names: bool) -> Escaped<W> {
+        Escaped {
+            writer,
+            has_names,
+            held: Vec::new(alloc),
+        }
     }
 }
 
@@ -92,6 +99,24 @@ fn plain_length(bytes: &[u8]) -> usize
     found.unwrap_or(bytes.len()).min(bytes.len())
 }
 
+impl<W: Write> Escaped<W> {
+    // Writes what is held.
+    fn put_held(&mut self) -> io::Result<()> {
+        let done = self.writer.write_all(self.held.as_slice());
+        self.held.clear();
+        done
+    }
+
+    // Holds a part of a line, or writes it where there is no memory for it.
+    fn hold(&mut self, part: &[u8]) -> io::Result<()> {
+        if self.held.extend_from_slice(part).is_err() {
+            self.put_held()?;
+            self.writer.write_all(part)?;
+        }
+        Ok(())
+    }
+}
+
 impl<W: Write> Write for Escaped<W> {
     fn write(&mut self, bytes: &[u8]) -> io::Result<usize> {
         if !self.has_names {
@@ -99,14 +124,19 @@ impl<W: Write> Write for Escaped<W> {
         }
         let plain = plain_length(bytes);
         if plain > 0 || bytes.is_empty() {
-            return self.writer.write(&bytes[..plain]);
+            self.hold(&bytes[..plain])?;
+            if bytes[..plain].ends_with(b"\n") {
+                self.put_held()?;
+            }
+            return Ok(plain);
         }
         let number = [b'\\', b'x', digit(bytes[0] / 16), digit(bytes[0] % 16)];
-        self.writer.write_all(&number)?;
+        self.hold(&number)?;
         Ok(1)
     }
 
     fn flush(&mut self) -> io::Result<()> {
+        self.put_held()?;
         self.writer.flush()
     }
 }

@@ -557,6 +557,28 @@ def run_several_on_a_full_device(program):
     return told(got == wanted, "a full device", " ".join(words[1:]), wanted, got)
 
 
+def packets_of(pipe):
+    """What was written into a pipe that keeps writes apart, one by one."""
+    with open(pipe, "rb", buffering=0) as file:
+        return list(iter(lambda: file.read(65536), b""))
+
+
+def run_line_by_line(program):
+    """Lines with names are written at once, so that those of other processes do not stand between their parts."""
+    words = [program, "check", "five.10n", "nowhere.ion", "empty", "here.ion"]
+    pipes = [os.pipe2(os.O_DIRECT), os.pipe2(os.O_DIRECT)]
+    with folder_of_files() as folder:
+        with open(os.path.join(folder, "here.ion"), "wb") as file:
+            file.write(b"1 ]")
+        subprocess.run(words, cwd=folder, stdin=subprocess.DEVNULL, stdout=pipes[0][1], stderr=pipes[1][1], timeout=PATIENCE)
+    for _, end in pipes:
+        os.close(end)
+    got = [packets_of(begin) for begin, _ in pipes]
+    wanted = [[b"five.10n: ok 1 values\n", b"empty: ok 0 values\n"],
+              [b"cannot open nowhere.ion: No such file or directory\n", b"here.ion: refused BadToken at 2\n"]]
+    return told(got == wanted, "lines written at once", " ".join(words[1:]), wanted, got)
+
+
 def main():
     program = os.path.abspath(sys.argv[1])
     wrong = [run_row(program, row) for row in compared_whole()]
@@ -577,6 +599,10 @@ def main():
         wrong += [run_not_read(program, words) for words in NOT_READ]
     else:
         print("skipped: /proc/self/mem")
+    if hasattr(os, "O_DIRECT"):
+        wrong.append(run_line_by_line(program))
+    else:
+        print("skipped: O_DIRECT")
     if os.path.exists("/dev/full"):
         wrong += [run_on_a_full_device(program), run_several_on_a_full_device(program)]
     else:

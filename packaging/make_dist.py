@@ -110,7 +110,7 @@ def library_files(prefix):
 
 
 def licences(kit):
-    """Name and bytes of each licence that goes with a package that has no such place of its own."""
+    """Name and bytes of each licence: of this project, and of the crates that are linked."""
     for name in ("LICENSE", "NOTICE"):
         yield name, read(f"{ROOT}/{name}")
     for name, path in linked.licence_texts(kit):

@@ -11,6 +11,7 @@ import hashlib
 import math
 import os
 import random
+import re
 import runpy
 import shutil
 import struct
@@ -24,6 +25,8 @@ sys.path.insert(0, os.path.join(ROOT, 'bench'))
 from unproved import kit
 
 SHOWN = 20
+# What `build` needs.
+LINKS = ('cc', 'ld', 'ar', 'objcopy')
 CASES = runpy.run_path(os.path.join(ROOT, 'tests', 'cases', 'run'))
 bytes_of = CASES['answers'].bytes_of
 
@@ -64,10 +67,16 @@ def missing(*tools):
     return False
 
 
-def build(counts, library, folder, *more):
-    """Makes libcozgelt.a and libcozgelt.so of the proved static library in this folder, or what more words ask for."""
-    of_kit = [f'KIT={kit()}'] if shutil.which('rt') else []
-    return counts.run('make', ['make', '-s', '-C', C, f'OUT={folder}', f'PROVED={library}', *of_kit, *more])
+def home():
+    """The kit's folder, as the Makefile has it where rt is not there to say."""
+    return kit() if shutil.which('rt') else '/opt/rattle'
+
+
+def build(counts, library, folder):
+    """Makes libcozgelt.a and libcozgelt.so of the proved static library in this folder."""
+    with open(C + '/Makefile', encoding='utf-8') as file:
+        name = re.search(r'^SONAME = (\S+)$', file.read(), re.M)[1]
+    counts.run('link.sh', [C + '/link.sh', folder, library, home() + '/c/liblibc_c.a', name])
 
 
 def text_of(number):

@@ -1,7 +1,7 @@
 -- How names stand in lines: some worked out, and a name character by character.
-use Rattle.std.proofs.Common.{◌≡◌, ℕ, ◌+◌, ◌<◌, ◌≤◌, List, [], ◌∷◌, ◌++◌, length, get_or, drop, flat_map, chars, encode_utf8, IsUtf8, codes, refl, sym, ap, ◌∙◌}
-use Rattle.std.specs.Str.{chars_after}
-use Rattle.std.proofs.lemmas.List.{drop_more, drop_all, get_or_read, nil_from_length}
+use Rattle.std.proofs.Common.{◌≡◌, ℕ, ◌+◌, ◌<◌, List, [], ◌∷◌, ◌++◌, length, get_or, drop, flat_map, encode_utf8, IsUtf8, codes, refl, ap, ◌∙◌}
+use Rattle.std.specs.Str.{chars}
+use Rattle.std.proofs.lemmas.List.{at_drop_more, nil_from_length}
 use Rattle.std.proofs.lemmas.Str.{chars-nil, chars_past_char}
 use Rattle.ion_tool.specs.Serving.{char_in_name, escape, name_in_line}
 
@@ -43,8 +43,5 @@ unfolding name_in_line
 no_char name none = ap (λ (l : List ℕ). flat_map char_in_name l) (ap chars (nil_from_length name none) ∙ chars-nil)
 
 -- a byte and those after it
-pub one_byte : (bytes : List ℕ) (i b : ℕ) → i < length bytes → b ≡ get_or bytes i b → flat_map escape (drop i bytes) ≡ escape b ++ flat_map escape (drop (i + 1) bytes)
-one_byte bytes i b lt is = ap (λ (l : List ℕ). flat_map escape l) (drop_more bytes i b lt ∙ ap (λ (x : ℕ). x ∷ drop (i + 1) bytes) (sym is))
-
-pub no_byte : (bytes : List ℕ) (i : ℕ) → length bytes ≤ i → flat_map escape (drop i bytes) ≡ []
-no_byte bytes i le = ap (λ (l : List ℕ). flat_map escape l) (drop_all i bytes le)
+pub one_byte : (bytes : List ℕ) (i d : ℕ) → i < length bytes → flat_map escape (drop i bytes) ≡ escape (get_or bytes i d) ++ flat_map escape (drop (i + 1) bytes)
+one_byte bytes i d lt = at_drop_more (flat_map escape) bytes i d lt

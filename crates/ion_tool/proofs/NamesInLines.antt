@@ -7,30 +7,30 @@ use Rattle.ion_tool.specs.Serving.{char_in_name, escape, name_in_line}
 
 -- blanks, quotes and colons stand for themselves, as do other characters than ASCII: U+00A0, U+00E9, U+1F600
 pub plain_name : name_in_line (codes "a b's: c.ion") ≡ codes "a b's: c.ion"
-unfolding name_in_line chars
+unfolding name_in_line chars lib.Utf8.encode
 plain_name = refl
 
 pub other_characters : name_in_line (194 ∷ 160 ∷ 195 ∷ 169 ∷ 240 ∷ 159 ∷ 152 ∷ 128 ∷ []) ≡ 194 ∷ 160 ∷ 195 ∷ 169 ∷ 240 ∷ 159 ∷ 152 ∷ 128 ∷ []
-unfolding name_in_line chars
+unfolding name_in_line chars lib.Utf8.encode
 other_characters = refl
 
 -- what ends a line, or moves on in it, has a letter
 pub line_end : name_in_line (codes "a.ion: ok 3 values\nb") ≡ codes "a.ion: ok 3 values\\nb"
-unfolding name_in_line chars
+unfolding name_in_line chars lib.Utf8.encode
 line_end = refl
 
 pub tab_and_return : name_in_line (9 ∷ 13 ∷ []) ≡ codes "\\t\\r"
-unfolding name_in_line chars
+unfolding name_in_line chars lib.Utf8.encode
 tab_and_return = refl
 
 -- other control characters have their bytes: U+001B, U+007F, U+0080, U+009F
 pub controls : name_in_line (27 ∷ 127 ∷ 194 ∷ 128 ∷ 194 ∷ 159 ∷ []) ≡ codes "\\x1b\\x7f\\xc2\\x80\\xc2\\x9f"
-unfolding name_in_line chars
+unfolding name_in_line chars lib.Utf8.encode
 controls = refl
 
 -- a backslash is two, so that a name with an escape in it is another one
 pub backslash : name_in_line (codes "a\\nb") ≡ codes "a\\\\nb"
-unfolding name_in_line chars
+unfolding name_in_line chars lib.Utf8.encode
 backslash = refl
 
 -- a character and what comes after it

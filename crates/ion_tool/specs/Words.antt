@@ -186,7 +186,7 @@ has_one_form Check files = true
 abbrev pub reads_input_once : List Text → Bool
 reads_input_once files = nat_le (count_by (λ word. is_none (file_for word)) files) 1
 
--- files that are read one after another
+-- these files can be read one after another
 abbrev pub go_together : Action → List Text → Bool
 go_together action files = has_one_form action files && reads_input_once files
 

@@ -3,7 +3,8 @@ ghost use Rattle.std.specs.Prelude.{◌≡◌, ◌≢◌, ◌≤◌, false, true
 ghost use Rattle.clap.specs.Words.{Row, app_of, first_of, found_of, kind_of, rows_of, rule_of, fault_of, FailsBy, new_app, subcommand_of, subcommand_rows_of, with_rule, with_subcommand};
 ghost use Rattle.clap.specs.declared.builder.command.Command.TheViews.{out-Command};
 ghost use Rattle.ion_meter.specs.Limits.{AreChecked};
-ghost use Rattle.ion_tool.specs.Words.{action_app, with_limits, action_name, all_named, bare_app, catalog_in, catalog_rule, file_for, files_in, files_rule, form_in, go_together, has_one_form, form_rule, form_word, ion_app, limit_in, limit_rule, limits_in, floats_rule, is_pretty, is_rewritten, is_set, pretty_in, pretty_rule, profile_in, reads_input_once, rewrite_in, rewrite_rule, Asks, AnswersError, IsRequestFor};
+ghost use Rattle.ion_tool.specs.Words.{action_app, with_limits, action_name, all_named, bare_app, catalog_in, catalog_rule, file_for, files_in, files_rule, form_in, has_one_form, form_rule, form_word, ion_app, limit_in, limit_rule, limits_in, floats_rule, is_pretty, is_rewritten, is_set, pretty_in, pretty_rule, profile_in, rewrite_in, rewrite_rule, Asks, AnswersError, IsRequestFor};
+ghost use Rattle.ion_tool.specs.Words.{go_together, reads_input_once};
 
 use clap::builder::ValueParser;
 use clap::error::ErrorKind;
@@ -78,30 +79,6 @@ floats.";
 /// How the program is called, which `clap` also says of wrong words.
 const USAGE: &str = "ion <show|check|convert> [OPTIONS] [FILE]...
        as in: ion show data.ion";
-
-/// What is said of wrong words of which `clap` says nothing: it takes any word after `--to`,
-/// `--pretty` and `--rewrite` after or without another, several files without that option, and any
-/// number of `-`.
-const NO_FORM: &str = "error: '--to <FORM>' takes text or binary
-
-For more information, try '--help'.
-";
-const PRETTY_ALONE: &str = "error: '--pretty' needs '--to text'
-
-For more information, try '--help'.
-";
-const REWRITE_ALONE: &str = "error: '--rewrite' needs '--to binary'
-
-For more information, try '--help'.
-";
-const NO_ONE_FORM: &str = "error: several files need '--to <FORM>'
-
-For more information, try '--help'.
-";
-const INPUT_TWICE: &str = "error: the file '-', standard input, cannot be used multiple times
-
-For more information, try '--help'.
-";
 
 /// What stands in an error of `clap` before how the program is called.
 const BEFORE_USAGE: &str = "\n\nUsage: ";
@@ -360,7 +337,7 @@ fn with_tip(alloc: Global, text: &str, word: &str) -> Result<String, AllocError>
 fn usage_of(alloc: Global, error: &Error, words: &[String]) -> Result<String, AllocError>
     ensures { IfOk result (λ text. string_bytes text ≢ []) }
 {
-    let text = text_of(alloc, error, NO_FORM)?;
+    let text = text_of(alloc, error, USAGE)?;
     match (error.kind(), words) {
         (ErrorKind::InvalidSubcommand, [word, ..]) if word.as_str() != "help" => {
             with_tip(alloc, text.as_str(), word.as_str())
@@ -531,33 +508,42 @@ fn asked_by<'m, 'a>(matches: &'m ArgMatches<'a>) -> Option<Asked<'m, 'a>>
     })
 }
 
-/// What is said of a form and flags that no action has.
-fn wrong_form(form: Option<&str>, pretty: bool) -> &'static str
-    ensures { result.now ≢ [] }
-{
+/// What is wrong with a form and flags that no action has.
+fn wrong_form(form: Option<&str>, pretty: bool) -> &'static str {
     match (form, pretty) {
-        (Some("text"), _) => REWRITE_ALONE,
-        (Some("binary"), _) | (None, true) => PRETTY_ALONE,
-        (None, false) => REWRITE_ALONE,
-        (Some(_), _) => NO_FORM,
+        (Some("text"), _) | (None, false) => "'--rewrite' needs '--to binary'",
+        (Some("binary"), _) | (None, true) => "'--pretty' needs '--to text'",
+        (Some(_), _) => "'--to <FORM>' takes text or binary",
     }
 }
 
-/// What is said of words in which `clap` finds no fault, and which name no run. No other words lead
-/// here: `clap` answers its own subcommand, `help`, by an error, and so numbers that are past a limit.
-fn mistake_in(matches: &ArgMatches<'_>) -> &'static str
-    ensures { result.now ≢ [] }
-{
+/// What is wrong with words that name no run, though `clap` finds no fault in them: it takes any word
+/// after `--to`, `--pretty` and `--rewrite` with any form, several files without one, and any number
+/// of `-`. No other words lead here: `clap` answers its own subcommand, `help`, by an error, and so
+/// numbers that are past a limit.
+fn mistake_in(matches: &ArgMatches<'_>) -> &'static str {
     let Some((name, options)) = matches.subcommand() else {
-        return NO_FORM;
+        return "there is no command";
     };
     let form = options.get_str("to");
     let pretty = is_set(options, "pretty");
     match action_of(name, form, pretty, is_set(options, "rewrite")) {
-        Some(action) if has_one_form(action, options.get_strs("FILE")) => INPUT_TWICE,
-        Some(_) => NO_ONE_FORM,
+        Some(action) if has_one_form(action, options.get_strs("FILE")) => {
+            "the file '-', standard input, cannot be used multiple times"
+        }
+        Some(_) => "several files need '--to <FORM>'",
         None => wrong_form(form, pretty),
     }
+}
+
+/// What is said of a mistake, in the manner of `clap`.
+fn error_text(alloc: Global, mistake: &str) -> Result<String, AllocError>
+    ensures { IfOk result (λ text. string_bytes text ≢ []) }
+{
+    let mut text = String::from_str(alloc, "error: ")?;
+    text.push_str(mistake)?;
+    text.push_str("\n\nFor more information, try '--help'.\n")?;
+    Ok(text)
 }
 
 /// A copy of a name, which needs its words no more.
@@ -634,6 +620,6 @@ pub fn read_words(alloc: Global, words: &[String]) -> Result<Request, AllocError
     };
     match asked_by(&matches) {
         Some(asked) => request_for(alloc, asked),
-        None => Ok(Request::Usage(String::from_str(alloc, mistake_in(&matches))?)),
+        None => Ok(Request::Usage(error_text(alloc, mistake_in(&matches))?)),
     }
 }

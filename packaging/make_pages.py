@@ -35,8 +35,6 @@ catalogue that comes by a pipe is read from /dev/stdin, and the stream then has 
 A stream is binary if its first byte is E0, whatever the file is called. A script that may run twice says --to, since convert
 alone would turn everything back. Without --rewrite binary is not written again as binary: that is refused as SameForm at 0.
 
---pretty goes with show, and with convert --to text; --rewrite with convert --to binary.
-
 Without --floats a float other than null.float is refused, as Float, and so is a number of JSON with an exponent, which is one.
 
 If the reader of a pipe ends before the output does, as head does, the next write fails, and ion ends with "write

@@ -1,6 +1,6 @@
 //! What stands between the program and the streams of the system.
 
-ghost use Rattle.std.specs.Prelude.{◌<◌, ◌≤◌, length};
+ghost use Rattle.std.specs.Prelude.{◌≤◌, length};
 
 use crate::lines::escape;
 use std::alloc::Global;

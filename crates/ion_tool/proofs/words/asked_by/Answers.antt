@@ -24,7 +24,7 @@ returns-clause-some c =
       ap (go_together c.in_ok-action.action) filed ∙ (sym c.go_together.ensures ∙ c.if-not-go_together.false),
     )
 
--- these files have no one form
+-- these files can't be read one after another
 pub returns-then-not-go_together-clause-none : goal.returns-then-not-go_together-clause-none
 returns-then-not-go_together-clause-none c none action rows named formed laid_out rewritten joined =
     let found = found_of c.in_ok-name.options.now in

@@ -20,6 +20,10 @@ read_on-then device a b c first then = record {
 pub read_on-not : {I : Type 0} (device : InputOf I) (a : I) → IsReadOn device a a
 read_on-not device a = record { bytes = []; reads = unread }
 
+-- and one that stays
+pub read_on-same : {I : Type 0} (device : InputOf I) (a b : I) → b ≡ a → IsReadOn device a b
+read_on-same device a b same = subst (λ d. IsReadOn device a d) (sym same) (read_on-not device a)
+
 -- a device that is read once
 pub read_on-once : {I : Type 0} (device : InputOf I) (a b : I) (bytes : List ℕ) → device.yields a bytes b → (device.observable b ↔ device.observable a)
     → (device.observable a → device.rest a ≡ bytes ++ device.rest b) → IsReadOn device a b

@@ -1,11 +1,10 @@
 -- Turns of a loop that passes over bytes in the window of a source, more of the device having been read.
-use Rattle.std.proofs.Common.{◌≡◌, ℕ, ◌+◌, ◌-◌, ◌≤◌, List, [], ◌++◌, length, take, drop, None, Ok, arith, refl, sym, ap, subst, ◌∙◌}
-use Rattle.std.proofs.lemmas.List.{append_assoc, take-append-drop, length-take-le, drop-append-le, length-append, append-nil}
+use Rattle.std.proofs.Common.{◌≡◌, ℕ, ◌+◌, ◌-◌, ◌≤◌, List, ◌++◌, length, take, drop, None, Ok, arith, refl, sym, ap, subst, ◌∙◌}
+use Rattle.std.proofs.lemmas.List.{take-append-drop, length-take-le, drop-append-le, length-append}
 use Rattle.ion_meter.specs.declared.device.Input.{Ghosts as InputOf}
 use Rattle.ion_meter.specs.Windows.{Incoming, left, lent, Extends, IsGiven, IsPassed}
 use Rattle.ion_meter.specs.Sources.{Cursor, cursor, Stands, Moves}
 use Rattle.ion_meter.proofs.Lent.{lent-CanPass, lent-take, lent-IsGiven, IsPassed-left}
-use Rattle.ion_meter.proofs.ReadOn.{read_on-not, read_on-then}
 use Rattle.ion_value.specs.Calls.{Reads}
 use Rattle.ion_value.proofs.Cursors.{moves-then}
 use Rattle.ion_value.proofs.Passing.{Passed-lent}
@@ -62,18 +61,6 @@ passed-cursor device s p t ahead stands kept well given passed h =
     let over = Passed-lent device s p t (ahead + 1) stands kept well (omega (arith, there)) passed in
     ap (λ (n : ℕ). at n (left device.rest t)) over.place ∙ ap (λ (l : List ℕ). at (s.place + (ahead + 1)) l) (over.after h)
 
--- more was read, and more again
-pub extends-then : {I : Type 0} (device : InputOf I) (s p q : Incoming I) → Extends device s p → Extends device p q
-    → Extends device s q
-extends-then device s p q a b = record {
-  prefix = (a.prefix.0 ++ b.prefix.0, b.prefix.1 ∙ ap (λ (l : List ℕ). l ++ b.prefix.0) a.prefix.1 ∙ append_assoc s.buffered a.prefix.0 b.prefix.0);
-  place = b.place ∙ a.place;
-  limit = b.limit ∙ a.limit;
-  read_on = read_on-then device s.device p.device q.device a.read_on b.read_on;
-  still_observable = (λ h. a.still_observable.0 (b.still_observable.0 h), λ h. b.still_observable.1 (a.still_observable.1 h));
-  same_left = λ h. b.same_left (a.still_observable.1 h) ∙ a.same_left h;
-}
-
 -- what stands after bytes of the window
 pub turn-after : {I : Type 0} (device : InputOf I) (p t : Incoming I) (bytes : List ℕ) (n : ℕ) → bytes ≡ lent p → n ≤ length bytes → IsPassed p t n
     → (more : List ℕ) × (left device.rest t ≡ drop n bytes ++ more)
@@ -92,17 +79,6 @@ pub given-kept : {I : Type 0} (device : InputOf I) (s p : Incoming I) (ahead : �
 given-kept device s p ahead kept given =
     let long = ap (λ (l : List ℕ). length l) kept.prefix.1 ∙ length-append s.buffered kept.prefix.0 in
     (omega (arith, given.0, long), omega (arith, given.1, kept.place, kept.limit))
-
--- nothing more was read
-pub extends-not : {I : Type 0} (device : InputOf I) (s : Incoming I) → Extends device s s
-extends-not device s = record {
-  prefix = ([], sym (append-nil s.buffered));
-  place = refl;
-  limit = refl;
-  read_on = read_on-not device s.device;
-  still_observable = (λ h. h, λ h. h);
-  same_left = λ h. refl;
-}
 
 -- a source after bytes of which the last was given
 pub gone-passed : {I : Type 0} (device : InputOf I) (s p t : Incoming I) (ahead : ℕ) → Stands s → Extends device s p → p.fault ≡ None

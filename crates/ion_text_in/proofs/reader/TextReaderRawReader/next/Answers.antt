@@ -1,6 +1,13 @@
 use Rattle.std.proofs.Common.{arith}
 use Rattle.std.proofs.lemmas.Grind.{common_steps}
+use Rattle.ion_meter.proofs.ReadOn.{read_on-not}
 use Rattle.ion_text_in.proofs.reader.TextReaderRawReader.next.Goals as goal
+
+pub returns-in-Some-clause-read_on : goal.returns-in-Some-clause-read_on
+returns-in-Some-clause-read_on g c = read_on-not g.I.Input c.args.self.now.source.device
+
+pub returns-then-self-clause-read_on : goal.returns-then-self-clause-read_on
+returns-then-self-clause-read_on g c = read_on-not g.I.Input c.args.self.now.source.device
 
 pub returns-in-Ok-clause-most : goal.returns-in-Ok-clause-most
 returns-in-Ok-clause-most g c = grind (arith, common_steps) steps 400000

@@ -1,7 +1,7 @@
 -- A device after reads alone: reads one after the other, and what was left before them.
 use Rattle.std.proofs.Common.{◌≡◌, ℕ, ◌↔◌, List, [], ◌++◌, refl, ap, sym, subst, ◌∙◌, append_assoc, append-nil}
 use Rattle.ion_meter.specs.declared.device.Input.{Ghosts as InputOf}
-use Rattle.ion_meter.specs.Devices.{AfterReads, unread, read_on, IsReadOn}
+use Rattle.ion_meter.specs.Devices.{AfterReads, unread, read_on, IsReadOn, ReadsOn}
 
 reads-then : {I : Type 0} (device : InputOf I) (a b c : I) (first then : List ℕ) → AfterReads device a first b → AfterReads device b then c → AfterReads device a (first ++ then) c
 reads-then {I} device a b c first then done unread = subst (λ l. AfterReads device a l b) (sym (append-nil first)) done
@@ -28,6 +28,13 @@ read_on-same device a b same = subst (λ d. IsReadOn device a d) (sym same) (rea
 pub read_on-once : {I : Type 0} (device : InputOf I) (a b : I) (bytes : List ℕ) → device.yields a bytes b → (device.observable b ↔ device.observable a)
     → (device.observable a → device.rest a ≡ bytes ++ device.rest b) → IsReadOn device a b
 read_on-once device a b bytes yields seen gave = record { bytes = bytes; reads = read_on [] bytes a b unread yields seen gave }
+
+-- the two forms of it
+pub reads_on-by : {I : Type 0} (device : InputOf I) (a b : I) → IsReadOn device a b → ReadsOn device a b
+reads_on-by device a b once = λ first before. read_on-then device first a b before once
+
+pub reads_on-is : {I : Type 0} (device : InputOf I) (a b : I) → ReadsOn device a b → IsReadOn device a b
+reads_on-is device a b on = on a (read_on-not device a)
 
 -- it is observable as it was
 pub reads-seen : {I : Type 0} (device : InputOf I) (first last : I) (bytes : List ℕ) → AfterReads device first bytes last → device.observable first → device.observable last

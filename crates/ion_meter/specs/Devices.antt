@@ -19,3 +19,7 @@ pub data AfterReads {I : Type 0} (device : InputOf I) (first : I) : List ℕ →
 pub record IsReadOn {I : Type 0} (device : InputOf I) (old new : I) : Type 0 where
   pub bytes : List ℕ
   pub reads : AfterReads device old bytes new
+
+-- the same of calls one after the other: whatever device was read on up to the old one was read on up to the new one
+abbrev pub ReadsOn : {I : Type 0} → InputOf I → I → I → Type 0
+ReadsOn {I} device old new = (first : I) → IsReadOn device first old → IsReadOn device first new

@@ -3,7 +3,7 @@ use Rattle.std.specs.Prelude.{◌≡◌, ℕ, ◌+◌, ◌^◌, ◌<◌, ◌≤�
 use Rattle.ion_meter.specs.declared.device.Input.{Ghosts as InputOf}
 use Rattle.ion_meter.specs.declared.fault.Fault.{Fault}
 use Rattle.ion_meter.specs.declared.fault.Fault.TheVariants.{Memory, ReadFault, WriteFault, InputLimit}
-use Rattle.ion_meter.specs.Devices.{IsReadOn}
+use Rattle.ion_meter.specs.Devices.{ReadsOn}
 use Rattle.ion_meter.specs.Windows.{AreBytes, Incoming, left, failures_in, Extends}
 
 -- the bytes that are still to be read, and the place of the first of them
@@ -35,7 +35,7 @@ pub record Stands {I : Type 0} (s : Incoming I) : Type 0 where
 
 -- octets were passed over, each of which is a byte, or more of the device was read
 pub record Moves {I : Type 0} (device : InputOf I) (old new : Incoming I) : Type 0 where
-  pub read_on : IsReadOn device old.device new.device
+  pub read_on : ReadsOn device old.device new.device
   pub still_observable : device.observable new.device ↔ device.observable old.device
   pub limit : new.limit ≡ old.limit
   pub further : old.place ≤ new.place

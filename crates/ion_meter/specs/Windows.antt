@@ -4,7 +4,7 @@ use Rattle.std.specs.List.{AllByRecursion}
 use Rattle.ion_meter.specs.declared.device.Input.{Ghosts as InputOf}
 use Rattle.ion_meter.specs.declared.fault.Fault.{Fault}
 use Rattle.ion_meter.specs.declared.fault.Fault.TheVariants.{ReadFault, WriteFault}
-use Rattle.ion_meter.specs.Devices.{IsReadOn}
+use Rattle.ion_meter.specs.Devices.{ReadsOn}
 
 -- numbers that a byte can be
 abbrev pub AreBytes : List ℕ → Type 0
@@ -46,7 +46,7 @@ pub record Extends {I : Type 0} (device : InputOf I) (old new : Incoming I) : Ty
   pub prefix : (more : List ℕ) × (new.buffered ≡ old.buffered ++ more)
   pub place : new.place ≡ old.place
   pub limit : new.limit ≡ old.limit
-  pub read_on : IsReadOn device old.device new.device
+  pub read_on : ReadsOn device old.device new.device
   pub still_observable : device.observable new.device ↔ device.observable old.device
   pub same_left : device.observable old.device → left device.rest new ≡ left device.rest old
 

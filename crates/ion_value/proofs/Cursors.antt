@@ -1,17 +1,16 @@
 -- Calls that read one after the other.
-use Rattle.std.proofs.Common.{arith, ap, refl, subst, ◌∙◌, ◌≡◌, ℕ, ◌+◌, List, length, Result, Err}
+use Rattle.std.proofs.Common.{arith, ap, refl, ◌∙◌, ◌≡◌, ℕ, List, Result, Err}
 use Rattle.ion_meter.specs.declared.device.Input.{Ghosts as InputOf}
 use Rattle.ion_meter.specs.declared.fault.Fault.{Fault}
 use Rattle.ion_meter.specs.declared.fault.Fault.TheVariants.{Refused, Memory, ReadFault, WriteFault, InputLimit}
 use Rattle.ion_meter.specs.declared.fault.Reason.{Reason}
-use Rattle.ion_meter.specs.Windows.{AreBytes, Incoming, left, Extends}
+use Rattle.ion_meter.specs.Windows.{Incoming, left, Extends}
 use Rattle.ion_meter.specs.Sources.{Cursor, cursor, Moves}
-use Rattle.ion_meter.proofs.ReadOn.{read_on-not, read_on-then}
 use Rattle.ion_value.specs.Answers.{Answers}
 
 pub moves-then : {I : Type 0} (device : InputOf I) (s t u : Incoming I) → Moves device s t → Moves device t u → Moves device s u
 moves-then device s t u a b = record {
-  read_on = read_on-then device s.device t.device u.device a.read_on b.read_on;
+  read_on = λ first h. b.read_on first (a.read_on first h);
   still_observable = (λ h. a.still_observable.0 (b.still_observable.0 h), λ h. b.still_observable.1 (a.still_observable.1 h));
   limit = b.limit ∙ a.limit;
   further = omega (arith, a.further, b.further);
@@ -22,23 +21,12 @@ moves-then device s t u a b = record {
 -- a source stays where it is
 pub moves-not : {I : Type 0} (device : InputOf I) (s : Incoming I) → Moves device s s
 moves-not device s = record {
-  read_on = read_on-not device s.device;
+  read_on = λ first h. h;
   still_observable = (λ h. h, λ h. h);
   limit = refl;
   further = omega arith;
   total = λ h. refl;
   bytes = λ h. h;
-}
-
--- more was read, and nothing passed over
-pub extends-moves : {I : Type 0} (device : InputOf I) (s t : Incoming I) → Extends device s t → Moves device s t
-extends-moves device s t x = record {
-  read_on = x.read_on;
-  still_observable = x.still_observable;
-  limit = x.limit;
-  further = omega (arith, x.place);
-  total = λ h. let same = ap (λ (l : List ℕ). length l) (x.same_left h) in omega (arith, x.place, same);
-  bytes = λ b h. subst AreBytes (x.same_left h) (b (x.still_observable.1 h));
 }
 
 -- the reason of one call as that of another

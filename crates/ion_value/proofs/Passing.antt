@@ -7,7 +7,6 @@ use Rattle.ion_meter.specs.declared.device.Input.{Ghosts as InputOf}
 use Rattle.ion_meter.specs.Devices.{IsReadOn}
 use Rattle.ion_meter.specs.Windows.{AreBytes, Incoming, left, lent, Extends, IsPassed}
 use Rattle.ion_meter.proofs.Lent.{lent-CanPass, IsPassed-left, IsPassed-total}
-use Rattle.ion_meter.proofs.ReadOn.{read_on-same}
 use Rattle.ion_meter.specs.Sources.{skip, cursor, Stands, Moves}
 use Rattle.ion_value.proofs.Cursors.{moves-then}
 
@@ -24,7 +23,7 @@ IsPassed-cursor device s t n h p =
 -- how it moves then
 pub IsPassed-moves : {I : Type 0} (device : InputOf I) (s t : Incoming I) (n : ℕ) → n ≤ length (lent s) → IsPassed s t n → Moves device s t
 IsPassed-moves device s t n h p = record {
-  read_on = read_on-same device s.device t.device p.device;
+  read_on = λ first h. subst (λ d. IsReadOn device first d) (sym p.device) h;
   still_observable = (subst device.observable p.device, subst device.observable (sym p.device));
   limit = p.limit;
   further = omega (arith, p.place);
@@ -55,7 +54,7 @@ Passed-lent device s p t n h kept well fits passed =
     record {
       stands = record { well = passed.fault ∙ well; within = omega (arith, w.1, passed.place, passed.limit, kept.place, kept.limit, h.within); small = omega (arith, passed.limit, kept.limit, h.small) };
       moves = record {
-        read_on = subst (λ d. IsReadOn device s.device d) (sym passed.device) kept.read_on;
+        read_on = λ first h. subst (λ d. IsReadOn device first d) (sym passed.device) (kept.read_on first h);
         still_observable = subst (λ d. device.observable d ↔ device.observable s.device) (sym passed.device) kept.still_observable;
         limit = passed.limit ∙ kept.limit;
         further = omega (arith, passed.place, kept.place);

@@ -1,8 +1,6 @@
-use Rattle.std.proofs.Common.{refl, arith}
-use Rattle.std.proofs.lemmas.Grind.{common_steps}
+use Rattle.std.proofs.Common.{refl}
 use Rattle.ion_meter.specs.Sources.{cursor}
 use Rattle.ion_binary.specs.Scanned.{as_around, itself_found, part_at}
-use Rattle.ion_value.proofs.Cursors.{moves-not, moves-then}
 use Rattle.ion_binary.proofs.ScannedParts.{scanned-cut, scanned-fault, scanned-whole}
 use Rattle.ion_binary.proofs.window.next_part.Goals as goal
 
@@ -19,18 +17,3 @@ pub returns-in-Err-clause-gives : goal.returns-in-Err-clause-gives
 returns-in-Err-clause-gives g c t =
     scanned-cut g.I.Input itself_found 10 c.args.place (part_at c.args.limits (as_around c.args.region)) c.args.source.now c.scans.source c.scans.invariant.same c.in-Err.fault _ (rw (c.buffer.ensures, c.place.ensures) at c.in-Cut.ensures.shows)
     (c.in-Err.ensures.cut (c.scans.invariant.moves.still_observable.1 t) c.in-Err.fault refl) t
-
-pub scans-init : goal.scans-init
-scans-init g c =
-    let moves = moves-not g.I.Input c.args.source.now in
-    grind (arith, common_steps, moves)
-
-pub scans-preserved : goal.scans-preserved
-scans-preserved g c =
-    let moves = moves-then g.I.Input c.args.source.now c.scans.source c.refill.new.source c.scans.invariant.moves c.refill.ensures.reads.moves in
-    grind (arith, common_steps, moves)
-
-pub returns-in-Err-clause-reads : goal.returns-in-Err-clause-reads
-returns-in-Err-clause-reads g c =
-    let moves = moves-then g.I.Input c.args.source.now c.scans.source c.refill.new.source c.scans.invariant.moves c.refill.ensures.reads.moves in
-    grind (arith, common_steps, moves)

@@ -1,10 +1,8 @@
 use Rattle.std.proofs.Common.{Some, refl, arith}
-use Rattle.std.proofs.lemmas.Grind.{common_steps}
 use Rattle.ion_meter.specs.Sources.{cursor}
 use Rattle.ion_meter.proofs.Lent.{lent-CanPass}
 use Rattle.ion_value.specs.Answers.{itself}
 use Rattle.ion_binary.specs.Descriptor.{var_uint_at}
-use Rattle.ion_value.proofs.Cursors.{moves-not, moves-then}
 use Rattle.ion_binary.proofs.ScannedParts.{reads-passed, scanned-cut, scanned-fault, scanned-whole}
 use Rattle.ion_binary.proofs.window.next_var_uint.Goals as goal
 
@@ -38,18 +36,3 @@ scans-smaller g c =
     let few = (rw (c.buffer.ensures, c.place.ensures) at (c.in-Cut.ensures.shows (Some c.args.end) refl)).0 in
     let more = c.in_default.ensures.more c.in_default.field-0 refl in
     omega (arith, few, more)
-
-pub scans-init : goal.scans-init
-scans-init g c =
-    let moves = moves-not g.I.Input c.args.source.now in
-    grind (arith, common_steps, moves)
-
-pub scans-preserved : goal.scans-preserved
-scans-preserved g c =
-    let moves = moves-then g.I.Input c.args.source.now c.scans.source c.refill.new.source c.scans.invariant.moves c.refill.ensures.reads.moves in
-    grind (arith, common_steps, moves)
-
-pub returns-in-Err-clause-reads : goal.returns-in-Err-clause-reads
-returns-in-Err-clause-reads g c =
-    let moves = moves-then g.I.Input c.args.source.now c.scans.source c.refill.new.source c.scans.invariant.moves c.refill.ensures.reads.moves in
-    grind (arith, common_steps, moves)

@@ -8,7 +8,7 @@ use Rattle.ion_value.specs.Answers.{itself}
 use Rattle.ion_binary.specs.Wrappers.{as_annotations}
 use Rattle.ion_value.specs.Calls.{passed_over}
 use Rattle.ion_value.specs.Shares.{GrowsWithin}
-use Rattle.ion_value.proofs.Cursors.{moves-not, moves-then}
+use Rattle.ion_value.proofs.Cursors.{moves-then}
 use Rattle.ion_value.proofs.GrowsWithin.{grows-then, passed-then}
 use Rattle.ion_binary.proofs.Annotations.{ids_at-ended, ids_at-refused, ids_at-limited, ids_at-one_more, answers_at-refused, charges-grown}
 use Rattle.ion_binary.proofs.wrapper.next_annotations.Goals as goal
@@ -87,14 +87,10 @@ loop-limits-preserved g c =
     }
 
 pub returns-in-Err-push : goal.returns-in-Err-push
-returns-in-Err-push g c =
-    let moves = moves-then g.I.Input c.args.source.now c.loop-limits.source c.next_var_uint.new.source c.loop-limits.invariant.moves c.next_var_uint.ensures.reads.moves in
-    grind (arith, common_steps, moves) steps 400000
+returns-in-Err-push g c = grind (arith, common_steps) steps 400000
 
 pub returns-then-limits-as_slice-clause-reads : goal.returns-then-limits-as_slice-clause-reads
-returns-then-limits-as_slice-clause-reads g c =
-    let moves = moves-then g.I.Input c.args.source.now c.loop-limits.source c.next_var_uint.new.source c.loop-limits.invariant.moves c.next_var_uint.ensures.reads.moves in
-    grind (arith, common_steps, moves) steps 400000
+returns-then-limits-as_slice-clause-reads g c = grind (arith, common_steps) steps 400000
 
 pub returns-clause-reads : goal.returns-clause-reads
 returns-clause-reads g c = grind (arith, common_steps) steps 400000
@@ -109,11 +105,4 @@ pub returns-in-Err-clause-goes : goal.returns-in-Err-clause-goes
 returns-in-Err-clause-goes g c = grind (arith, common_steps) steps 400000
 
 pub returns-in-Err-clause-reads : goal.returns-in-Err-clause-reads
-returns-in-Err-clause-reads g c =
-    let moves = moves-then g.I.Input c.args.source.now c.loop-limits.source c.next_var_uint.new.source c.loop-limits.invariant.moves c.next_var_uint.ensures.reads.moves in
-    grind (arith, common_steps, moves) steps 1200000
-
-pub loop-limits-init : goal.loop-limits-init
-loop-limits-init g c =
-    let moves = moves-not g.I.Input c.args.source.now in
-    grind (arith, common_steps, moves)
+returns-in-Err-clause-reads g c = grind (arith, common_steps) steps 1200000

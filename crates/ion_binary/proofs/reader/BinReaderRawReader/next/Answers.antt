@@ -1,8 +1,14 @@
 use Rattle.std.proofs.Common.{arith, ap, Ok}
 use Rattle.std.proofs.lemmas.Bool.{not-true}
 use Rattle.std.proofs.lemmas.Grind.{common_steps}
-use Rattle.ion_meter.proofs.ReadOn.{read_on-not}
+use Rattle.ion_meter.proofs.ReadOn.{read_on-not, reads_on-is}
 use Rattle.ion_binary.proofs.reader.BinReaderRawReader.next.Goals as goal
+
+pub returns-in-Ok-clause-read_on : goal.returns-in-Ok-clause-read_on
+returns-in-Ok-clause-read_on g c = reads_on-is g.I.Input c.args.self.now.source.device c.advance-outcome.new.self.source.device c.advance-outcome.ensures.stepped.moves.read_on
+
+pub returns-in-Err-clause-read_on : goal.returns-in-Err-clause-read_on
+returns-in-Err-clause-read_on g c = reads_on-is g.I.Input c.args.self.now.source.device c.advance-outcome.new.self.source.device c.advance-outcome.ensures.stepped.moves.read_on
 
 pub returns-in-Ok-clause-ended : goal.returns-in-Ok-clause-ended
 returns-in-Ok-clause-ended g c = grind (arith, common_steps) steps 400000

@@ -1,6 +1,5 @@
 use Rattle.std.proofs.Common.{arith}
 use Rattle.std.proofs.lemmas.Grind.{common_steps, elements}
-use Rattle.ion_meter.proofs.Extending.{extends-not}
 use Rattle.ion_meter.proofs.source.Source.peek.Goals as goal
 
 pub returns-then-at-self-clause-byte : goal.returns-then-at-self-clause-byte
@@ -16,7 +15,7 @@ pub returns-clause-there : goal.returns-clause-there
 returns-clause-there g c = grind (arith, elements) steps 400000
 
 pub returns-then-at-self-clause-kept : goal.returns-then-at-self-clause-kept
-returns-then-at-self-clause-kept g c = extends-not g.I.Input _
+returns-then-at-self-clause-kept g c = grind (arith, common_steps)
 
 pub returns-clause-past : goal.returns-clause-past
 returns-clause-past g c = grind (arith, common_steps)

@@ -1,6 +1,5 @@
 use Rattle.std.proofs.Common.{arith}
 use Rattle.std.proofs.lemmas.Grind.{common_steps, elements}
-use Rattle.ion_meter.proofs.Extending.{extends-not}
 use Rattle.ion_meter.proofs.source.Source.peek_slowly.Goals as goal
 
 pub returns-then-index-self-clause-byte : goal.returns-then-index-self-clause-byte
@@ -40,7 +39,7 @@ pub returns-then-self-index-clause-stays : goal.returns-then-self-index-clause-s
 returns-then-self-index-clause-stays g c = grind (arith, common_steps)
 
 pub returns-in-Some-clause-reads : goal.returns-in-Some-clause-reads
-returns-in-Some-clause-reads g c = let kept = extends-not g.I.Input c.args.self.now in grind (arith, common_steps, kept)
+returns-in-Some-clause-reads g c = grind (arith, common_steps)
 
 pub returns-then-index-self-clause-past : goal.returns-then-index-self-clause-past
 returns-then-index-self-clause-past g c = grind (arith, common_steps)

@@ -1,6 +1,6 @@
-use Rattle.std.proofs.Common.{refl, arith}
+use Rattle.std.proofs.Common.{arith}
 use Rattle.std.proofs.lemmas.Grind.{common_steps}
-use Rattle.ion_meter.proofs.Extending.{extends-not, extends-then}
+use Rattle.ion_meter.proofs.Extending.{extends-then}
 use Rattle.ion_meter.proofs.source.Source.reach.Goals as goal
 
 pub fill-requires-clause-short : goal.fill-requires-clause-short
@@ -9,13 +9,8 @@ fill-requires-clause-short g c = grind (arith, common_steps)
 pub loop-self-smaller : goal.loop-self-smaller
 loop-self-smaller g c = grind (arith, common_steps)
 
-pub loop-self-init : goal.loop-self-init
-loop-self-init g c = record { kept = extends-not g.I.Input c.args.self.now; stays = λ _. refl; well = c.requires.well; count = refl }
-
 pub loop-self-preserved : goal.loop-self-preserved
-loop-self-preserved g c =
-    let kept = extends-then g.I.Input c.args.self.now c.loop-self.self c.fill.new.self c.loop-self.invariant.kept c.fill.ensures.kept in
-    grind (arith, common_steps, kept)
+loop-self-preserved g c = grind (arith, common_steps)
 
 pub returns-in_err-fill-clause-kept : goal.returns-in_err-fill-clause-kept
 returns-in_err-fill-clause-kept g c = extends-then g.I.Input c.args.self.now c.loop-self.self c.fill.new.self c.loop-self.invariant.kept c.fill.ensures.kept

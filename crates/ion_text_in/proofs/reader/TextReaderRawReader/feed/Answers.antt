@@ -3,7 +3,7 @@ use Rattle.std.proofs.lemmas.Grind.{common_steps}
 use Rattle.ion_meter.specs.Devices.{IsReadOn}
 use Rattle.ion_meter.specs.Sources.{BytesAreLeft, Stands}
 use Rattle.ion_meter.specs.Windows.{Incoming}
-use Rattle.ion_meter.proofs.ReadOn.{read_on-not}
+use Rattle.ion_meter.proofs.ReadOn.{read_on-not, reads_on-is}
 use Rattle.ion_value.specs.Feeding.{nothing, Feeds, Joint}
 use Rattle.ion_value.specs.Items.{named_item}
 use Rattle.ion_value.proofs.Passing.{IsPassed-moves}
@@ -49,7 +49,8 @@ returns-clause-read_on g c =
     let n = c.feed_window-values.new.self in
     let p = c.feed_window-values.ensures.passed in
     let source : c.forget.new.self.source ≡ c.args.self.now.source = ap (λ (x : TextReader g.row.I.Denot g.row.A.Denot). x.source) c.forget.ensures.cleared in
-    subst (λ (s : Incoming g.row.I.Denot). IsReadOn g.I.Input s.device n.source.device) source (IsPassed-moves g.I.Input c.forget.new.self.source n.source p.count p.within p.passed).read_on
+    subst (λ (s : Incoming g.row.I.Denot). IsReadOn g.I.Input s.device n.source.device) source
+    (reads_on-is g.I.Input c.forget.new.self.source.device n.source.device (IsPassed-moves g.I.Input c.forget.new.self.source n.source p.count p.within p.passed).read_on)
 
 pub returns-clause-bytes_left : goal.returns-clause-bytes_left
 returns-clause-bytes_left g c =

@@ -1,0 +1,130 @@
+//! An input whose lines are counted as it is read.
+ghost use Rattle.std.specs.Prelude.{◌≡◌, ◌≢◌, ◌⊎◌, ◌+◌, ◌-◌, ◌^◌, ◌<◌, ◌≤◌, ◌↔◌, ◌++◌, ℕ, List, [], max, take, length, None, Some, Ok, Err, OnOk, IfOk, IfErr, IfSome, MatchResult};
+
+use crate::marks::{LineMarks, Position};
+use ion_meter::device::{Broken, Input};
+use ion_meter::fault::Fault;
+use ion_meter::meter::Meter;
+use ion_transcode::to::Summary;
+use std::alloc::Global;
+use std::marker::Model;
+
+/// An input, of which the lines are counted as it is read if that was asked for.
+#[derive(Drop)]
+pub struct LineCounter<I: Input> {
+    device: I,
+    marks: Option<LineMarks>,
+}
+
+impl<I: Input> Model for LineCounter<I> {
+    ghost use Rattle.ion_tool.specs.Counting.{Counting};
+
+    ghost Value = { Counting I };
+
+    ghost view = { λ c. record { device = c.device; marks = c.marks } };
+}
+
+impl<I: Input> LineCounter<I> {
+    /// This input, with its lines counted or not, or the input back where there is no memory for that.
+    pub fn new(meter: &mut Meter<Global>, lines: bool, device: I) -> Result<LineCounter<I>, I> {
+        if !lines {
+            return Ok(LineCounter {
+                device,
+                marks: None,
+            });
+        }
+        match LineMarks::new(meter) {
+            Some(marks) => Ok(LineCounter {
+                device,
+                marks: Some(marks),
+            }),
+            None => Err(device),
+        }
+    }
+
+    /// Reads once, and counts what was read.
+    fn read_once(&mut self, into: &mut [u8]) -> Result<usize, Broken> {
+        let count = match self.device.read(into) {
+            Ok(count) => count,
+            Err(Broken) => return Err(Broken),
+        };
+        if let Some(marks) = &mut self.marks {
+            marks.note(&into[..count]);
+        }
+        Ok(count)
+    }
+
+    /// Whether bytes are counted, and fewer than so many were.
+    fn is_short_of(&self, place: u64) -> bool {
+        match &self.marks {
+            Some(marks) => marks.count() < place,
+            None => false,
+        }
+    }
+
+    /// Reads on until so many bytes were counted, or the input has ended.
+    fn read_to(&mut self, place: u64) -> Result<(), Broken> {
+        let mut into = [0; 512];
+        while self.is_short_of(place) {
+            match self.read_once(&mut into) {
+                Ok(0) => return Ok(()),
+                Ok(_) => {}
+                Err(Broken) => return Err(Broken),
+            }
+        }
+        Ok(())
+    }
+
+    /// The position of a place, where it is known, after the input was read so far. Of the first byte
+    /// it is known whether the stream is a text.
+    fn locate(&mut self, place: u64) -> Result<Option<Position>, Broken> {
+        match self.read_to(place.max(1)) {
+            Ok(()) => {}
+            Err(Broken) => return Err(Broken),
+        }
+        match &self.marks {
+            Some(marks) => Ok(marks.find(place)),
+            None => Ok(None),
+        }
+    }
+
+    /// An answer of a run over this input, and the position of the place that it blames, where it is
+    /// known. An input that has to be read further for that and fails is to blame itself.
+    pub fn place(
+        &mut self,
+        answer: Result<Summary, Fault>,
+    ) -> (Result<Summary, Fault>, Option<Position>) {
+        let Err(Fault::Refused(_, place)) = answer else {
+            return (answer, None);
+        };
+        match self.locate(place) {
+            Ok(position) => (answer, position),
+            Err(Broken) => (Err(Fault::ReadFault), None),
+        }
+    }
+
+    /// The input, handed out.
+    pub fn release(self, meter: &mut Meter<Global>) -> I {
+        let LineCounter { device, marks } = self;
+        if let Some(marks) = marks {
+            marks.release(meter);
+        }
+        device
+    }
+}
+
+impl<I: Input> Input for LineCounter<I> {
+    ghost rest = { λ c. I.rest c.device };
+
+    ghost failure_count = { λ c. I.failure_count c.device };
+
+    ghost observable = { λ c. I.observable c.device };
+
+    fn read(&mut self, into: &mut [u8]) -> Result<usize, Broken> {
+        self.read_once(into)
+    }
+
+    fn failures(&self) -> u64 {
+        self.device.failures()
+    }
+}

@@ -6,10 +6,12 @@ use Rattle.ion_meter.specs.declared.fault.Fault.TheVariants.{Refused, Memory, Re
 use Rattle.ion_meter.specs.declared.fault.Reason.{Reason}
 use Rattle.ion_meter.specs.Windows.{Incoming, left, Extends}
 use Rattle.ion_meter.specs.Sources.{Cursor, cursor, Moves}
+use Rattle.ion_meter.proofs.ReadOn.{read_on-not, read_on-then}
 use Rattle.ion_value.specs.Answers.{Answers}
 
 pub moves-then : {I : Type 0} (device : InputOf I) (s t u : Incoming I) → Moves device s t → Moves device t u → Moves device s u
 moves-then device s t u a b = record {
+  read_on = read_on-then device s.device t.device u.device a.read_on b.read_on;
   still_observable = (λ h. a.still_observable.0 (b.still_observable.0 h), λ h. b.still_observable.1 (a.still_observable.1 h));
   limit = b.limit ∙ a.limit;
   further = omega (arith, a.further, b.further);
@@ -19,7 +21,14 @@ moves-then device s t u a b = record {
 
 -- a source stays where it is
 pub moves-not : {I : Type 0} (device : InputOf I) (s : Incoming I) → Moves device s s
-moves-not device s = record { still_observable = (λ h. h, λ h. h); limit = refl; further = omega arith; total = λ h. refl; bytes = λ h. h }
+moves-not device s = record {
+  read_on = read_on-not device s.device;
+  still_observable = (λ h. h, λ h. h);
+  limit = refl;
+  further = omega arith;
+  total = λ h. refl;
+  bytes = λ h. h;
+}
 
 -- the reason of one call as that of another
 pub answers-refused : {T U A B : Type 0} (view : T → A) (shown : U → B) (fault : Fault) (after next : Cursor) (place : ℕ) (one : Result (A × Cursor) Reason) (all : Result (B × Cursor) Reason)
@@ -31,5 +40,5 @@ answers-refused view shown WriteFault after next place one all h k = tt
 answers-refused view shown InputLimit after next place one all h k = tt
 
 -- more was read, and the source stands where it stood
-pub cursor-extends : {I : Type 0} (device : InputOf I) (s t : Incoming I) → Extends device.rest device.observable s t → device.observable s.device → cursor device t ≡ cursor device s
+pub cursor-extends : {I : Type 0} (device : InputOf I) (s t : Incoming I) → Extends device s t → device.observable s.device → cursor device t ≡ cursor device s
 cursor-extends device s t x h = ap (λ n. record { place = n; rest = left device.rest t }) x.place ∙ ap (λ (l : List ℕ). record { place = s.place; rest = l }) (x.same_left h)

@@ -1,5 +1,6 @@
 use Rattle.std.proofs.Common.{arith}
 use Rattle.std.proofs.lemmas.Grind.{common_steps}
+use Rattle.ion_meter.proofs.ReadOn.{read_on-then}
 use Rattle.ion_meter.proofs.source.Source.reach.Goals as goal
 
 pub fill-requires-clause-short : goal.fill-requires-clause-short
@@ -9,10 +10,10 @@ pub loop-self-smaller : goal.loop-self-smaller
 loop-self-smaller g c = grind (arith, common_steps)
 
 pub loop-self-preserved : goal.loop-self-preserved
-loop-self-preserved g c = grind (arith, common_steps)
+loop-self-preserved g c = grind (arith, common_steps, read_on-then g.I.Input)
 
 pub returns-in_err-fill-clause-kept : goal.returns-in_err-fill-clause-kept
-returns-in_err-fill-clause-kept g c = grind (arith, common_steps)
+returns-in_err-fill-clause-kept g c = grind (arith, common_steps, read_on-then g.I.Input)
 
 pub returns-after-loop-self-clause-reached : goal.returns-after-loop-self-clause-reached
 returns-after-loop-self-clause-reached g c = grind (arith, common_steps)

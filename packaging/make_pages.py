@@ -37,6 +37,10 @@ alone would turn everything back. Without --rewrite binary is not written again 
 
 --pretty goes with show, and with convert --to text; --rewrite with convert --to binary.
 
+With --lines a refusal of a text ends in the line and the column of OFFSET, both counted from 1, the column in bytes. A line
+ends with LF, so that CR LF ends one and CR alone none. They are left out where 65,536 lines or more ended from OFFSET on before
+the fault was known. A run holds 524,288 bytes more then.
+
 Without --floats a float other than null.float is refused, as Float, and so is a number of JSON with an exponent, which is one.
 
 If the reader of a pipe ends before the output does, as head does, the next write fails, and ion ends with "write
@@ -48,7 +52,7 @@ Check the status before you trust the output: values are written as they are rea
 stands before it. In a pipe "set -o pipefail" keeps the status."""
 
 DIAGNOSTICS = (
-    ("refused REASON at OFFSET",
+    ("refused REASON at OFFSET [(line L, column C)]",
      "The stream is not valid, passes a limit or, without --floats, has a float. OFFSET is the number of bytes before the faulty part. Status 1."),
     ("catalog refused REASON at OFFSET", "So of --catalog's file, with any float. Status 1."),
     ("cannot open FILE: WHY", "The file is not there, or may not be read. Status 3."),
@@ -56,11 +60,8 @@ DIAGNOSTICS = (
 )
 
 BUGS = """\
-A file whose name is not UTF-8 is read by standard input alone. What is said of one stream names neither file nor line:
-
-  head -c OFFSET FILE | wc -l
-
-counts the line ends before the fault. Controls from U+0080 to U+009F and marks of direction in a text are shown as they are."""
+A file whose name is not UTF-8 is read by standard input alone. What is said of one stream does not name its file. Controls from
+U+0080 to U+009F and marks of direction in a text are shown as they are."""
 SEE_ALSO = """\
 share/doc/cozgelt below /usr, or below the prefix of a tarball: REFUSALS.md has an input for each reason, DIFFERENCES.md what other
 readers of Ion do, LIBRARY.md the same calls from C, Rust and Python."""

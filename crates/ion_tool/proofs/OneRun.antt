@@ -85,7 +85,7 @@ one_run words a b l m c d f h (inr n) (inr o) =
     let both : (action_name a.action, n.rows) ≡ (action_name b.action, o.rows) = some_is (sym n.named ∙ o.named) in
     let same = ap (λ p. p.1) both in (
       task_is a b (action_is a.action b.action (ap (λ p. p.0) both) (sym n.formed ∙ (ap form_in same ∙ o.formed)) (sym n.laid_out ∙ (ap pretty_in same ∙ o.laid_out)) (sym n.rewritten ∙ (ap rewrite_in same ∙ o.rewritten))) (sym n.profiled ∙ (ap profile_in same ∙ o.profiled))
-      (sym n.lined ∙ (ap lines_in same ∙ o.lined)),
+          (sym n.lined ∙ (ap lines_in same ∙ o.lined)),
       same_limits l m n.rows o.rows same n.limited o.limited,
       same_part catalog_in c d n.rows o.rows same n.catalogued o.catalogued,
       same_part files_in f h n.rows o.rows same n.filed o.filed,

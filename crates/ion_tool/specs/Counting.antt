@@ -1,9 +1,13 @@
 -- What is kept of the lines of an input while it is read.
-use Rattle.std.specs.Prelude.{◌≡◌, ◌⊎◌, ℕ, ◌+◌, ◌-◌, ◌%◌, ◌^◌, ◌<◌, ◌≤◌, Bool, true, min, List, [], ◌++◌, length, take, drop, slice_index, slice_set, Option, None, Some}
+use Rattle.std.specs.Prelude.{◌≡◌, ◌⊎◌, ℕ, ◌+◌, ◌-◌, ◌%◌, ◌^◌, ◌<◌, ◌≤◌, Bool, true, false, max, List, [], ◌++◌, length, take, drop, slice_index, slice_set, Option, None, Some, Result, Ok, Err}
+use Rattle.ion_meter.specs.Devices.{IsReadOn}
 use Rattle.ion_meter.specs.Windows.{HasPrefix}
 use Rattle.ion_meter.specs.declared.device.Input.{Ghosts as InputOf}
+use Rattle.ion_meter.specs.declared.fault.Fault.{Fault}
+use Rattle.ion_meter.specs.declared.fault.Fault.TheVariants.{Refused, Memory, ReadFault, WriteFault, InputLimit}
 use Rattle.ion_transcode.specs.Forms.{form_by, form_of}
 use Rattle.ion_transcode.specs.declared.to.Form.TheVariants as form
+use Rattle.ion_transcode.specs.declared.to.Summary.{Summary}
 use Rattle.ion_tool.specs.LineNumbers.{is_line_end, line_ends, since_line_end}
 use Rattle.ion_tool.specs.declared.marks.Position.{Position}
 
@@ -60,7 +64,7 @@ CountsOn None more None = Unit {0}
 CountsOn None more (Some new) = ⊥
 CountsOn (Some old) more None = ⊥
 CountsOn (Some old) more (Some new) =
-    (new.count ≡ min (old.count + length more) (2 ^ 64 - 1)) × ((read : List ℕ) → HasCounted read old → HasCounted (read ++ more) new)
+    ((new.count ≡ old.count + length more) ⊎ (2 ^ 64 - 1 ≤ new.count)) × ((read : List ℕ) → HasCounted read old → HasCounted (read ++ more) new)
 
 -- an input of which the lines are counted as it is read
 abbrev pub counter_input : {I : Type 0} → InputOf I → InputOf (Counting I)
@@ -70,3 +74,46 @@ counter_input device = record {
   observable = λ c. device.observable c.device;
   yields = λ old more new. device.yields old.device more new.device × CountsOn old.marks more new.marks;
 }
+
+-- what is kept of an input before it is read: nothing where its lines are not counted
+abbrev pub StartsCount : Bool → Option Marks → Type 0
+StartsCount false None = Unit {0}
+StartsCount false (Some m) = ⊥
+StartsCount true None = ⊥
+StartsCount true (Some m) = HasCounted [] m
+
+-- where bytes are counted, so many were, or none are left
+abbrev pub IsReached : {I : Type 0} → InputOf I → ℕ → I → Option Marks → Type 0
+IsReached device place input None = Unit {0}
+IsReached device place input (Some m) = (place ≤ m.count) ⊎ (device.observable input → device.rest input ≡ [])
+
+-- what was found of a place: nothing where no bytes are counted
+abbrev pub Locates : ℕ → Option Marks → Option Position → Type 0
+Locates place None found = found ≡ None
+Locates place (Some m) found = (read : List ℕ) → HasCounted read m → Finds read place found
+
+-- an input was read on up to this place, and what was found of it
+pub record IsLocated {I : Type 0} (device : InputOf I) (place : ℕ) (new : Counting I) (found : Option Position) : Type 0 where
+  pub reached : IsReached device (max place 1) new.device new.marks
+  pub located : Locates place new.marks found
+
+-- an answer as it was, and nothing found
+pub record IsUnplaced {I : Type 0} (old new : Counting I) (answer result : Result Summary Fault) (found : Option Position) : Type 0 where
+  pub same : result ≡ answer
+  pub input : new ≡ old
+  pub nothing : found ≡ None
+
+-- a refusal, with what was found of its place; or the input failed that was read on for that
+pub record IsPlaced {I : Type 0} (device : InputOf I) (place : ℕ) (old new : Counting I) (answer result : Result Summary Fault) (found : Option Position) : Type 0 where
+  pub reads : IsReadOn (counter_input device) old new
+  pub placed : ((result ≡ answer) × (device.failure_count new.device ≡ device.failure_count old.device) × IsLocated device place new found)
+      ⊎ ((result ≡ Err ReadFault) × (device.failure_count new.device ≡ device.failure_count old.device + 1) × (found ≡ None))
+
+-- by the answer: what was found of the place that it blames
+abbrev pub Places : {I : Type 0} → InputOf I → Counting I → Counting I → Result Summary Fault → Result Summary Fault → Option Position → Type 0
+Places device old new (Ok summary) result found = IsUnplaced old new (Ok summary) result found
+Places device old new (Err (Refused reason place)) result found = IsPlaced device place old new (Err (Refused reason place)) result found
+Places device old new (Err InputLimit) result found = IsUnplaced old new (Err InputLimit) result found
+Places device old new (Err Memory) result found = IsUnplaced old new (Err Memory) result found
+Places device old new (Err ReadFault) result found = IsUnplaced old new (Err ReadFault) result found
+Places device old new (Err WriteFault) result found = IsUnplaced old new (Err WriteFault) result found

@@ -1,9 +1,6 @@
 -- The lines of a text. A line ends with the byte LF, as `awk` counts: CR alone ends none, and CR LF ends one by its LF.
-use Rattle.std.specs.Prelude.{◌≡◌, ℕ, ◌+◌, ◌-◌, ◌%◌, ◌^◌, ◌<◌, ◌≤◌, ◌==◌, ◌⊎◌, Bool, true, false, not, List, [], ◌++◌, length, take, drop, count_by, slice_index, slice_set, Option, None, Some, Result, Ok, Err, codes, decimal}
+use Rattle.std.specs.Prelude.{ℕ, ◌+◌, ◌==◌, Bool, not, List, [], ◌++◌, take, count_by, codes, decimal}
 use Rattle.std.specs.List.{suffix_len}
-use Rattle.ion_meter.specs.Windows.{HasPrefix}
-use Rattle.ion_meter.specs.declared.device.Input.{Ghosts as InputOf}
-use Rattle.ion_transcode.specs.Forms.{form_by, form_of}
 use Rattle.ion_transcode.specs.declared.to.Form.{Form}
 use Rattle.ion_transcode.specs.declared.to.Form.TheVariants as form
 
@@ -29,7 +26,7 @@ column_at bytes place = 1 + since_line_end (take place bytes)
 
 -- what is said of a place in a text
 abbrev pub position_text : ℕ → ℕ → List ℕ
-position_text line column = codes " (line " ++ (decimal line ++ (codes ", column " ++ (decimal column ++ codes ")")))
+position_text line column = codes " (line " ++ decimal line ++ codes ", column " ++ decimal column ++ codes ")"
 
 -- what is said of a place of a stream beside its offset: of a text its line and column
 abbrev pub place_text : Form → List ℕ → ℕ → List ℕ

@@ -1,7 +1,8 @@
 //! Where the lines of a text begin, kept as its bytes are counted.
-ghost use Rattle.std.specs.Prelude.{◌≡◌, ◌+◌, ◌%◌, ◌^◌, ◌<◌, ◌≤◌, ◌++◌, ℕ, List, [], length, min, slice_index, IfSome, MatchOption};
+ghost use Rattle.std.specs.Prelude.{◌≡◌, ◌≢◌, ◌+◌, ◌-◌, ◌%◌, ◌^◌, ◌<◌, ◌≤◌, ◌++◌, ℕ, List, [], length, take, drop, min, slice_index, IfSome, MatchOption};
 ghost use Rattle.ion_meter.specs.Counts.{Shrinks};
 ghost use Rattle.ion_value.specs.Shares.{Charges};
+ghost use Rattle.ion_transcode.specs.Forms.{form_by, form_of};
 ghost use Rattle.ion_tool.specs.Counting.{with_line, Finds, HasCounted, HasMarks};
 ghost use Rattle.ion_tool.specs.LineNumbers.{line_ends, since_line_end};
 
@@ -51,6 +52,16 @@ impl Model for LineMarks {
         × (m.ends ≤ m.count) };
 }
 
+/// Whether a stream of these bytes is binary.
+fn is_binary(bytes: &[u8]) -> bool
+    ensures { form_of bytes.now ≡ form_by result }
+{
+    match bytes {
+        [first, ..] => *first == 0xE0,
+        [] => false,
+    }
+}
+
 impl LineMarks {
     /// Marks of no bytes, where there is memory for them.
     pub fn new(meter: &mut Meter<Global>) -> Option<LineMarks>
@@ -63,7 +74,7 @@ impl LineMarks {
             (λ _. meter.new.refused ≡ meter.old.refused) }
     {
         let mut begins = Table::new(meter, 8);
-        for _ in 0..128 {
+        for _ in 0..128u64 {
             if begins.extend(meter, &[0; 512]).is_err() {
                 begins.release(meter);
                 return None;
@@ -88,7 +99,8 @@ impl LineMarks {
     fn end_line(&mut self, bytes: usize)
         requires some { 0 < bytes }
         requires countable { self.old.count + bytes < 2 ^ 64 }
-        ensures { self.new ≡ with_line self.old bytes }
+        ensures line { self.new ≡ with_line self.old bytes }
+        ensures room { length self.new.begins ≡ 65536 }
     {
         self.count += bytes as u64;
         self.ends += 1;
@@ -111,15 +123,24 @@ impl LineMarks {
         self.count += (bytes.len() - at) as u64;
     }
 
+    /// Notes of the first bytes that are counted whether they are binary.
+    fn note_form(&mut self, bytes: &[u8])
+        ensures same { self.new ≡ record self.old { is_binary = self.new.is_binary } }
+        ensures first { self.old.count ≡ 0 → form_of bytes.now ≡ form_by self.new.is_binary }
+        ensures known { self.old.count ≢ 0 → self.new.is_binary ≡ self.old.is_binary }
+    {
+        if self.count == 0 {
+            self.is_binary = is_binary(bytes);
+        }
+    }
+
     /// Counts bytes that were read, as many of them as can be.
     pub fn note(&mut self, bytes: &[u8])
         ensures counted { (read : List ℕ) → HasCounted read self.old
             → HasCounted (read ++ bytes.now) self.new }
         ensures count { self.new.count ≡ min (self.old.count + length bytes.now) (2 ^ 64 - 1) }
     {
-        if self.count == 0 {
-            self.is_binary = bytes.first() == Some(&0xE0);
-        }
+        self.note_form(bytes);
         let room = u64::MAX - self.count;
         let counted = room.min(bytes.len() as u64) as usize;
         self.count_lines(&bytes[..counted]);

@@ -1,8 +1,9 @@
 -- What is said of the place of a refusal, after a run over an input whose lines may be counted.
 use Rattle.std.proofs.Common.{arith, ◌≡◌, ◌⊎◌, inl, inr, ℕ, ◌+◌, ◌≤◌, Bool, true, false, List, [], ◌++◌, length, take, drop, Option, None, Some, Result, Ok, Err, refl, sym, ap, subst, ◌∙◌, append-nil}
 use Rattle.std.proofs.lemmas.List.{length-append, take-append-le}
-use Rattle.std.specs.Prelude.{max}
+use Rattle.std.specs.Prelude.{max, IfSome, MatchOption}
 use Rattle.ion_meter.proofs.ReadOn.{reads-left, reads-seen, read_on-same, read_on-then}
+use Rattle.ion_meter.specs.Counts.{Counts, Shrinks}
 use Rattle.ion_meter.specs.Devices.{AfterReads, IsReadOn}
 use Rattle.ion_meter.specs.Windows.{HasPrefix}
 use Rattle.ion_meter.specs.declared.device.Input.{Ghosts as InputOf}
@@ -13,7 +14,7 @@ use Rattle.ion_transcode.specs.Forms.{form_of}
 use Rattle.ion_transcode.specs.declared.to.Summary.{Summary}
 use Rattle.ion_tool.specs.Counting.{counter_input, Counting, CountsOn, Finds, HasCounted, IsLocated, IsReached, IsUnplaced, Locates, Marks, Places, StartsCount}
 use Rattle.ion_tool.specs.LineNumbers.{line_ends, place_text}
-use Rattle.ion_tool.specs.Serving.{found_text, HasSuffix, IsSuffix}
+use Rattle.ion_tool.specs.Serving.{found_text, marks_cost, HasSuffix, IsSuffix}
 use Rattle.ion_tool.specs.declared.marks.Position.{Position}
 use Rattle.ion_tool.proofs.Counted.{counts-reads, device-reads}
 use Rattle.ion_tool.proofs.MarksOf.{form-append}
@@ -150,7 +151,7 @@ onward input middle last (Err (Refused r p)) result found is = is.reads
 -- of an input whose lines are counted, or not, from its beginning on
 module _ {I : Type 0} (input : InputOf I) (lines : Bool) (first last : Counting I) (device : I) (is_first : first.device ≡ device) (starts : StartsCount lines first.marks)
     (on : IsReadOn (counter_input input) first last) where
-  count : CountsOn first.marks on.bytes last.marks
+  pub count : CountsOn first.marks on.bytes last.marks
   count = counts-reads input first last on.bytes on.reads
 
   -- an answer that blames no place
@@ -198,3 +199,23 @@ module _ {I : Type 0} (input : InputOf I) (lines : Bool) (first middle last : Co
             (subst (λ (f : Option Position). HasSuffix input lines device last.device (Err ReadFault) (found_text f)) (sym nothing)
             (suffix-none input lines first last device is_first starts on (Err ReadFault) (λ q p e. absurd (cc e))))
       ]
+
+-- ---- the memory for what is kept of the lines
+
+pub room : (lines : Bool) (first last : Option Marks) (read : List ℕ) (held : ℕ) → StartsCount lines first → CountsOn first read last → marks_cost lines ≤ held
+    → IfSome last (λ m. 524288 ≤ held)
+room lines None None read held starts on enough = tt
+room lines None (Some m) read held starts on enough = absurd on
+room lines (Some n) None read held starts on enough = absurd on
+room false (Some n) (Some m) read held starts on enough = absurd starts
+room true (Some n) (Some m) read held starts on enough = enough
+
+pub given_back : (lines : Bool) (first last : Option Marks) (read : List ℕ) (old new : Counts) → StartsCount lines first → CountsOn first read last
+    → MatchOption last (new ≡ old) (λ m. Shrinks old new 524288) → (new.held + marks_cost lines ≡ old.held) × (new.peak ≡ old.peak) × (new.refused ≡ old.refused)
+given_back false None None read old new starts on same =
+    (ap (λ (c : Counts). c.held + 0) same ∙ omega arith, ap (λ (c : Counts). c.peak) same, ap (λ (c : Counts). c.refused) same)
+given_back true None last read old new starts on gives = absurd starts
+given_back false (Some n) last read old new starts on gives = absurd starts
+given_back false None (Some m) read old new starts on gives = absurd on
+given_back true (Some n) None read old new starts on gives = absurd on
+given_back true (Some n) (Some m) read old new starts on gives = (gives.held, gives.peak, gives.refused)

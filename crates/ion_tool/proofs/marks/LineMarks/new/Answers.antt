@@ -1,4 +1,4 @@
-use Rattle.std.proofs.Common.{arith, ◌≡◌, ◌∙◌, ◌+◌, ap, false, length, sym}
+use Rattle.std.proofs.Common.{arith, ◌≡◌, ◌∙◌, ℕ, ap, false, length, sym}
 use Rattle.std.proofs.lemmas.List.{length-append, length-replicate}
 use Rattle.std.specs.Prelude.{is_err}
 use Rattle.ion_tool.proofs.MarksOf.{first-zero, on_ok}
@@ -13,7 +13,7 @@ loop-preserved c =
     let held = rw i.cost at grows.held in
     record {
       cost = c.extend.ensures.same_cost ∙ i.cost;
-      entries = ap length items ∙ omega (arith, length-append c.loop.begins.items _, i.entries);
+      entries = omega (arith, ap length items, length-append {A = ℕ}, length-replicate {A = ℕ}, i.entries);
       first = rw items (first-zero c.loop.begins.items 512 i.first);
       held = omega (arith, held, i.held);
       rises = omega (arith, held, grows.peak, i.rises);

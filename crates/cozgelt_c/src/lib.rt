@@ -32,6 +32,8 @@ use ion_transcode::to::{Summary, To};
 use std::alloc::Global;
 
 mod buffer;
+mod handle;
+mod loose;
 mod written;
 
 /// The limits of a call.

@@ -1,0 +1,34 @@
+-- A handle may go to another thread: one owner of an `Arc` may, and the right to free a block.
+use mathlib.Core.List.{[]}
+use Prim.Native.Nat.{ℕ}
+use mir.Raw.{raw}
+use base.Fraction.{full_share}
+use base.Shift.{Keyless}
+use Rattle.std.specs.Prelude.{List}
+use denote.Builtin.{u8, RawPtr}
+use denote.Memory.{lone}
+use denote.RattleType.{RattleType}
+use denote.RawPtr.{Ptr, block_ptr, null_ptr}
+use denote.Param.Send.{IsSend, AllSend, owning_send, struct_send, sendable}
+use denote.Struct.Struct.{exits_of}
+use denote.Struct.Owning.{shape, fields, to}
+use Rattle.libc.specs.Heap.{chunk-Keyless}
+use Rattle.std.proofs.Crossing.{crosses}
+use Rattle.std_alloc.proofs.SendSync.{quiet, lies}
+use Rattle.ion_symbols.specs.Table.{Shared}
+use Rattle.cozgelt_c.specs.Handles.{Owner, owns_tables}
+use Rattle.cozgelt_c.specs.contracts.handle.CozgeltCatalog.{the_row, the_type}
+
+owner_send : IsSend Owner
+owner_send = search (sendable, crosses) depth 30
+
+owns_keyless : (p : Ptr) (xs : List Shared) → Keyless (owns_tables p xs)
+owns_keyless null_ptr xs = tt
+owns_keyless (block_ptr b o) xs = λ x. (tt, (lies Owner owner_send (block_ptr b o) x, chunk-Keyless (raw (lone Owner.mir)) (block_ptr b o)))
+
+at_send : IsSend RawPtr
+at_send = search sendable
+
+pub send : IsSend the_row
+send = let all : AllSend (fields the_type) = (at_send, tt) in
+    owning_send the_type all (λ d. owns_keyless d.at d.tables) (λ k. quiet (to the_type) (exits_of k (fields the_type)) ((struct_send (shape the_type) all).leaving k))

@@ -146,11 +146,11 @@ fn convert_loaded(
             none.release(&mut meter);
             status
         }
-        Some(owner) => {
+        Some(tables) => {
             let status = convert_from(
-                alloc, &mut meter, &owner, limits, task, stream, room, answer,
+                alloc, &mut meter, &tables, limits, task, stream, room, answer,
             );
-            loaded.put(alloc, owner);
+            loaded.put(alloc, tables);
             status
         }
     }

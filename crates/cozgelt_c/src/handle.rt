@@ -8,9 +8,8 @@ use crate::loose::Loose;
 use ion_symbols::catalog::Catalog;
 use std::alloc::Global;
 use std::marker::Model;
-use std::mem;
-use std::ptr;
 use std::sync::Arc;
+use std::{mem, ptr};
 
 /// One owner of the tables of a catalogue, of any number. It is null where there are no tables.
 ///

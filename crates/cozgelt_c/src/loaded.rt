@@ -8,8 +8,10 @@ ghost use Rattle.cozgelt_c.specs.Calls.{AnswersFrom, AnswersLoaded, Loads, limit
 ghost use Rattle.cozgelt_c.specs.Memory.{HoldsAtMost, room_bound};
 
 use crate::handle::CozgeltCatalog;
-use crate::{ACCEPTED, INVALID, NO_MEMORY};
-use crate::{CozgeltAnswer, CozgeltLimits, Task, checked, convert_with, load, profile_of};
+use crate::{
+    ACCEPTED, CozgeltAnswer, CozgeltLimits, INVALID, NO_MEMORY, Task, checked, convert_with, load,
+    profile_of,
+};
 use ion_meter::meter::Meter;
 use ion_symbols::catalog::Catalog;
 use ion_transcode::to::To;
@@ -140,9 +142,7 @@ fn convert_loaded(
     match loaded.take(alloc) {
         None => {
             let none = Catalog::new(&meter);
-            let status = convert_from(
-                alloc, &mut meter, &none, limits, task, stream, room, answer,
-            );
+            let status = convert_from(alloc, &mut meter, &none, limits, task, stream, room, answer);
             none.release(&mut meter);
             status
         }

@@ -1,13 +1,9 @@
 -- A handle may go to another thread: one owner of an `Arc` may, and the right to free a block.
-use mathlib.Core.List.{[]}
-use Prim.Native.Nat.{ℕ}
 use mir.Raw.{raw}
-use base.Fraction.{full_share}
 use base.Shift.{Keyless}
 use Rattle.std.specs.Prelude.{List}
-use denote.Builtin.{u8, RawPtr}
+use denote.Builtin.{RawPtr}
 use denote.Memory.{lone}
-use denote.RattleType.{RattleType}
 use denote.RawPtr.{Ptr, block_ptr, null_ptr}
 use denote.Param.Send.{IsSend, AllSend, owning_send, struct_send, sendable}
 use denote.Struct.Struct.{exits_of}

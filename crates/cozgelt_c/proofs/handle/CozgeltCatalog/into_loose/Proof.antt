@@ -1,5 +1,5 @@
 -- `into_loose` has the box back where the pointer is not null. Assumes `Logic`.
-use Rattle.std.proofs.Common.{◌≡◌, ℕ, List, [], ◌∷◌, ◌++◌, refl, sym, ap, ◌∙◌, subst, lit<}
+use Rattle.std.proofs.Common.{◌≡◌, List, [], ◌∷◌, ◌++◌, refl, sym, ap, ◌∙◌, subst, lit<}
 use mir.Val.{Val, vptr, vcons, vnil}
 use base.Logic.{SProp, ent, emp, id⊢}
 use prog.Wp.{WpFn}
@@ -29,7 +29,7 @@ use Rattle.std.specs.contracts.alloc.Global as heap
 use Rattle.std.proofs.alloc.Global.TheLaws as heap_laws
 use Rattle.std.specs.contracts.impls.GlobalAllocator.TheImpl.{ghosts}
 use Rattle.std_alloc.proofs.ResultValues.{and_tt}
-use Rattle.cozgelt_c.specs.Handles.{Owner, boxed}
+use Rattle.cozgelt_c.specs.Handles.{Owner}
 use Rattle.cozgelt_c.proofs.LooseParts.{both, Loose, loose_good, loose_in}
 use Rattle.cozgelt_c.proofs.Handled.{Row, word, handle_out, either_owned}
 use Rattle.cozgelt_c.specs.contracts.handle.CozgeltCatalog.into_loose.{ended, clauses}
@@ -47,7 +47,7 @@ into_loose_spec 𝓤 𝓛 𝓜 𝓡 wired =
     qed 𝓛 ((raw (alive 𝓛 ended.signature κs z.0.1) ⊛ ‵ (owned (types_at ended.signature.params κs) z.0.3 z.0.4)) ∷ raw ((c κs z.0.3).requires z.1) ∷ []) ∵ split ! $ move ! (1 ∷ []) $ fsplit ! $ move ! (1 ∷ []) $ fsplit ! $
     rewrite ! 0 (λ (us : List Val). ‵ (Z.own_val a us)) h.1 refl $ move ! (2 ∷ []) $
     handle_out ! d z.0.4.0 (λ ws. let starts = λ (p : Ptr) (e : d.at ≡ p). let vs = word p ∷ h.0 ∷ [] in
-        subst (λ (us : List Val). ent 𝓤 (Run vs) (Run us)) (sym (λ i. (ws ∙ ap (λ (q : Ptr). word q ∷ []) e) i ++ (h.1 i ++ []))) (id⊢ 𝓤 (Run vs)) in
+    subst (λ (us : List Val). ent 𝓤 (Run vs) (Run us)) (sym (λ i. (ws ∙ ap (λ (q : Ptr). word q ∷ []) e) i ++ (h.1 i ++ []))) (id⊢ 𝓤 (Run vs)) in
     -- [what is owned; the allocator; no more parameters; the tokens; the requires]
     either_owned ! a d.at d.tables
     (λ at none. suffices ! (Run (word null_ptr ∷ h.0 ∷ [])) (starts null_ptr at) $

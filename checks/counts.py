@@ -1,5 +1,11 @@
-"""What several checks share: counting, and the files below a folder."""
+"""What several checks share: counting, the files below a folder, and a commit to pack."""
+import datetime
 import os
+import types
+
+# One that is none.
+COMMIT = types.SimpleNamespace(number="0" * 40, time=1, when=datetime.datetime.fromtimestamp(1, datetime.timezone.utc),
+                               version="0.2.0~19700101.000000000")
 
 
 class Counts:

@@ -1,27 +1,30 @@
-"""Packs a stand-in for the library and the program with `packaging/make_dist.py`, and checks the tarball, the package's
-lists and the list of all that is linked. `checks/run` calls it; its last line is `N passed, M failed`.
+"""Packs a stand-in for the library and the program with `packaging/make_dist.py`, and checks the tarball, the wheel, the crate,
+the package's lists and the list of all that is linked. `checks/run` calls it; its last line is `N passed, M failed`.
 
-What needs more than python3 (the package itself, the true library, a commit) is tried by `checks/system/package`.
+What needs more than python3 (the package itself, the true library, a commit) is tried by `checks/system/package`, and that wheel
+and crate are of use by `checks/library/page`.
 """
-import datetime
+import base64
 import hashlib
 import json
 import os
 import re
+import shutil
 import subprocess
 import sys
 import tarfile
 import tempfile
 import types
+import zipfile
 
 sys.dont_write_bytecode = True
-sys.path[:0] = ["packaging", "checks"]
+sys.path[:0] = ["packaging", "checks", "bench"]
 import linked
 import make_dist
-from counts import Counts, files_of
+import unproved
+import wheel
+from counts import COMMIT, Counts, files_of
 
-WHEN = datetime.datetime.fromtimestamp(1, datetime.timezone.utc)
-COMMIT = types.SimpleNamespace(number="0" * 40, time=1, when=WHEN, version="0.2.0~19700101.000000000")
 # Below the prefix; each file of the licences has the name of its crate too.
 WANTED = {
     "bin/ion", "include/cozgelt.h", "lib/libcozgelt.a", "lib/libcozgelt.so", "lib/libcozgelt.so.0.2",
@@ -43,6 +46,48 @@ def stand_in(folder):
     return folder
 
 
+def judge_licences(counts, what, names):
+    """A licence of each crate that is linked is among these."""
+    of = {re.split(r"[./]", name)[-2] for name in names}
+    counts.judge(of == {folder for *_, folder in linked.crates()}, f"the licences of {what}", names)
+
+
+def judge_wheel(counts, given, folder):
+    names = {make_dist.make_wheel(f"{folder}/wheel {number}", given, COMMIT, b"{}") for number in (1, 2)}
+    number = "0.2.0.dev19700101+g000000000"
+    wanted = f"cozgelt-{number}-py3-none-manylinux_2_17_x86_64.manylinux2014_x86_64.whl"
+    counts.judge(names == {wanted}, "the wheel's name", names)
+    paths = [f"{folder}/wheel {number}/{wanted}" for number in (1, 2)]
+    counts.judge(make_dist.read(paths[0]) == make_dist.read(paths[1]), "the wheel: the same bytes twice")
+    with zipfile.ZipFile(paths[0]) as archive:
+        files, inside = {name: archive.read(name) for name in archive.namelist()}, f"cozgelt-{number}.dist-info/"
+        counts.judge({entry.date_time for entry in archive.infolist()} == {(1980, 1, 1, 0, 0, 0)}, "the wheel: times")
+    ours = {f"cozgelt/{name}" for name in ("__init__.py", "py.typed", "libcozgelt.so")}
+    ours |= {f"{inside}{name}" for name in ("METADATA", "WHEEL", "RECORD", "sboms/cozgelt.spdx.json")}
+    ours |= {f"{inside}licenses/{name}" for name in ("LICENSE", "NOTICE")}
+    licences = {name for name in files if name.startswith(inside + "licenses/")} - ours
+    judge_licences(counts, "the wheel", licences)
+    counts.judge(set(files) - licences == ours, "the files of the wheel", set(files) - licences ^ ours)
+    rows = [line.split(",") for line in files[inside + "RECORD"].decode().splitlines()]
+    sums = {name: base64.urlsafe_b64encode(hashlib.sha256(data).digest()).decode().rstrip("=") for name, data in files.items()}
+    right = [[name, f"sha256={sums[name]}", str(len(data))] for name, data in files.items() if not name.endswith("/RECORD")]
+    counts.judge(rows == [*right, [inside + "RECORD", "", ""]], "the wheel's RECORD", rows)
+    tags = re.findall("^Tag: (.*)$", files[inside + "WHEEL"].decode(), re.M)
+    counts.judge(tags == ["py3-none-manylinux_2_17_x86_64", "py3-none-manylinux2014_x86_64"], "the wheel's tags", tags)
+    counts.judge(f"\nName: cozgelt\nVersion: {number}\n" in files[inside + "METADATA"].decode(), "the wheel's version")
+    got = [wheel.number_of("0.2.0"), wheel.platforms_of("2.34"), wheel.platforms_of("2.5") == wheel.platforms_of("2.17")]
+    counts.judge(got == ["0.2.0", ["manylinux_2_34_x86_64"], True], "other numbers", got)
+
+
+def judge_crate(counts, given):
+    names = {name for name, _, _ in make_dist.crate_files(given, b"{}")}
+    ours = {"Cargo.toml", "build.rs", "lib/libcozgelt.a", "licences/LICENSE", "licences/NOTICE", "cozgelt.spdx.json"}
+    ours |= {name for name in files_of("bindings/rust") if name.startswith(("src/", "tests/"))}
+    licences = {name for name in names if name.startswith("licences/")} - ours
+    judge_licences(counts, "the crate", licences)
+    counts.judge(names - licences == ours, "the files of the crate", names - licences ^ ours)
+
+
 def judge_tarball(counts, given, folder):
     made = []
     for number in (1, 2):
@@ -54,8 +99,7 @@ def judge_tarball(counts, given, folder):
         entries = {entry.name.removeprefix("cozgelt/"): entry for entry in tar}
         licences = {name for name in entries if name.startswith("share/doc/cozgelt/licences/")}
         counts.judge(set(entries) - licences == WANTED, "the files of the tarball", set(entries) - licences ^ WANTED)
-        of = {re.split(r"[./]", name)[-2] for name in licences}
-        counts.judge(of == {folder for *_, folder in linked.crates()}, "the licences", licences)
+        judge_licences(counts, "the tarball", licences)
         counts.judge(entries["lib/libcozgelt.so"].linkname == "libcozgelt.so.0.2", "the link")
         modes = {name for name, entry in entries.items() if entry.mode & 0o111 and not entry.issym()}
         counts.judge(modes == {"bin/ion"}, "what can be run", modes)
@@ -81,7 +125,9 @@ def judge_versions(counts, program):
 def judge_emptied(counts, folder):
     """A folder of an earlier run is emptied; one that holds anything else stays as it is."""
     version, sum = COMMIT.version, "0" * 64
-    own = {f"cozgelt_{version}_amd64.deb", f"cozgelt-{version}-linux-amd64.tar.gz", f"cozgelt-{version}.spdx.json"}
+    ends = ("-linux-amd64.tar.gz", "-rust.tar.gz", ".spdx.json")
+    own = {f"cozgelt_{version}_amd64.deb", *(f"cozgelt-{version}{end}" for end in ends)}
+    own.add("cozgelt-0.2.0.dev19700101+g0-py3-none-manylinux2014_x86_64.whl")
     own = {name: b"" for name in own} | {"SHA256SUMS": "".join(f"{sum}  {name}\n" for name in own).encode()}
     for number, (what, more) in enumerate({
         "what a run made": {}, "a text": {"mine.txt": b"x"}, "a hidden file": {".git": b"x"}, "a folder": {"library/lib.a": b"x"},
@@ -139,13 +185,16 @@ def judge_control(counts, given):
 
 
 def main():
-    counts, kit = Counts(), "/opt/rattle"
-    if not os.path.exists(kit + "/KIT-ID"):
-        print(f"skipped: {kit}\n0 passed, 0 failed")
+    counts = Counts()
+    if not shutil.which("rt"):
+        print("skipped: rt\n0 passed, 0 failed")
         return 0
+    kit = unproved.kit()
     with tempfile.TemporaryDirectory() as folder:
         given = types.SimpleNamespace(program=os.path.abspath(sys.argv[1]), library=stand_in(folder + "/library"), kit=kit)
         judge_tarball(counts, given, folder)
+        judge_wheel(counts, given, folder)
+        judge_crate(counts, given)
         judge_control(counts, given)
         judge_emptied(counts, folder)
     judge_versions(counts, os.path.abspath(sys.argv[1]))

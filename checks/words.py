@@ -54,6 +54,8 @@ FILES = {
     "limits.ion": b'[1,"abc"] a',
     "-dashed": b"7",
     "of\x1b[2Jdots": b"10",
+    "a.ion: ok 3 values\nb.ion": b"11 ]",
+    "\u009b2J\u00a0\x7f\\n": b"12",
     "ends in a blank ": b"8",
     "ends in a line\n": b"9",
     "\ttables ": b'$ion_shared_symbol_table::{name:"x",version:1,symbols:["r","s"]}',
@@ -62,7 +64,11 @@ ALL_FOUR = ["--depth", "1", "--scalar", "3", "--symbols", "17", "--value", "7"]
 # [1,"abc"] in binary; then the declaration of `a` and its symbol
 WITHIN = MARKER + bytes.fromhex("B6 21 01 83 61 62 63 EA 81 83 D7 86 71 03 87 B2 81 61 71 0A")
 TRY = b"\nFor more information, try '--help'.\n"
-WRONG = b"error: '--to <FORM>' takes text or binary; several files need it, '--pretty' text, '--rewrite' binary\n" + TRY
+NO_FORM = b"error: '--to <FORM>' takes text or binary\n" + TRY
+PRETTY_ALONE = b"error: '--pretty' needs '--to text'\n" + TRY
+REWRITE_ALONE = b"error: '--rewrite' needs '--to binary'\n" + TRY
+NO_ONE_FORM = b"error: several files need '--to <FORM>'\n" + TRY
+INPUT_TWICE = b"error: the file '-', standard input, cannot be used multiple times\n" + TRY
 FLOATS = b"[1e0, 1.0e0, -0e0, 6.02214076e23, 5e-324, 1.7976931348623157e308, nan, +inf, -inf, 0.1e0, 1e400]"
 SHOWN_FLOATS = b"[1e0,1e0,-0e0,6.02214076e23,5e-324,1.7976931348623157e308,nan,+inf,-inf,1e-1"
 # After a NOP pad an int with a zero octet before it, and a struct with its fields in order.
@@ -81,6 +87,13 @@ ROWS = [
     ("a name that ends in a blank", ["show", "ends in a blank "], b"", 0, b"8\n", b""),
     ("a name that ends in a line's end", ["show", "ends in a line\n"], b"", 0, b"9\n", b""),
     ("a catalogue's name in blanks", ["show", "--catalog", "\ttables ", "imports.ion"], b"", 0, b"r\ns\n", b""),
+    ("a name of two lines that is not there", ["show", "a\nb: read fault\r\\"], b"", 3, b"",
+     b"cannot open a\\nb: read fault\\r\\\\: No such file or directory\n"),
+    ("a catalogue's name of controls that is not there", ["show", "--catalog", "\t\u0080\u009f", "five.10n"], b"", 3, b"",
+     b"cannot open \\t\\xc2\\x80\\xc2\\x9f: No such file or directory\n"),
+    ("controls in the place of a command", ["\t\u009b2J\u00a0"], b"", 2, b"",
+     b"error: unrecognized subcommand '\\t\\xc2\\x9b2J\xc2\xa0'\n\n  tip: to show a file, use 'ion show \\t\\xc2\\x9b2J\xc2\xa0'\n\n"
+     b"Usage: ion <show|check|convert> [OPTIONS] [FILE]...\n       as in: ion show data.ion\n" + TRY),
     ("a name that is not there with a blank", ["show", "five.10n "], b"", 3, b"", b"cannot open five.10n : No such file or directory\n"),
     ("check, standard input", "check", b"1 2", 0, b"ok 2 values\n", b""),
     ("check -", "check -", SIX, 0, b"ok 6 values\n", b""),
@@ -146,15 +159,27 @@ ROWS = [
     ("a file in the place of a command", "six.ion", b"1", 2, b"",
      b"error: unrecognized subcommand 'six.ion'\n\n  tip: to show a file, use 'ion show six.ion'\n\n"
      b"Usage: ion <show|check|convert> [OPTIONS] [FILE]...\n       as in: ion show data.ion\n" + TRY),
-    ("several files to their other forms", "convert six.ion six.10n", b"", 2, b"", WRONG),
-    ("one file twice to its other form", "convert six.ion six.ion", b"", 2, b"", WRONG),
+    ("several files to their other forms", "convert six.ion six.10n", b"", 2, b"", NO_ONE_FORM),
+    ("one file twice to its other form", "convert six.ion six.ion", b"", 2, b"", NO_ONE_FORM),
+    ("standard input twice to its other form", "convert - -", b"1", 2, b"", NO_ONE_FORM),
+    ("standard input twice", "check - -", b"1", 2, b"", INPUT_TWICE),
+    ("standard input twice among files", "show --pretty - five.10n -", b"1", 2, b"", INPUT_TWICE),
+    ("standard input twice, after --", "convert --to text -- - -", b"1", 2, b"", INPUT_TWICE),
     ("a limit without a number", "check --depth", b"1", 2, b"",
      b"error: a value is required for '--depth <N>' but none was supplied\n" + TRY),
     ("a limit that is no number", "check --scalar x", b"1", 2, b"",
      b"error: invalid value 'x' for '--scalar <N>': invalid digit found in string\n" + TRY),
     ("a limit past its maximum", "show --depth 65536", b"1", 2, b"",
      b"error: invalid value '65536' for '--depth <N>': 65536 is not in 0..=65535\n" + TRY),
-    ("a form that is none", "convert --to ion six.ion", b"", 2, b"", WRONG),
+    ("a form that is none", "convert --to ion six.ion", b"", 2, b"", NO_FORM),
+    ("a form that is none, with both flags", "convert --to ion --pretty --rewrite", b"", 2, b"", NO_FORM),
+    ("pretty text without its form", "convert --pretty six.ion", b"", 2, b"", PRETTY_ALONE),
+    ("pretty text of several files without its form", "convert --pretty six.ion six.10n", b"", 2, b"", PRETTY_ALONE),
+    ("pretty binary", "convert --pretty --to binary six.ion", b"", 2, b"", PRETTY_ALONE),
+    ("pretty binary, written again", "convert --rewrite --pretty --to binary six.10n", b"", 2, b"", PRETTY_ALONE),
+    ("binary written again without its form", "convert --rewrite six.10n", b"", 2, b"", REWRITE_ALONE),
+    ("text written again", "convert --rewrite --to text six.10n", b"", 2, b"", REWRITE_ALONE),
+    ("pretty text written again", "convert --rewrite --pretty --to text six.10n", b"", 2, b"", REWRITE_ALONE),
     ("no form", "convert --to", b"", 2, b"", b"error: a value is required for '--to <FORM>' but none was supplied\n" + TRY),
     ("a form to show", "show --to text six.ion", b"", 2, b"",
      b"error: unexpected argument '--to' found\n\n  tip: to pass '--to' as a value, use '-- --to'\n\n"
@@ -238,7 +263,7 @@ SEVERAL = [
     ("check six.ion bad.ion empty", b"", 1, b"six.ion: ok 6 values\nempty: ok 0 values\n", b"bad.ion: refused Float at 9\n"),
     ("check nowhere.ion nowhere.ion", b"", 3, b"", NOWHERE + NOWHERE),
     ("check five.10n five.10n", b"", 0, b"five.10n: ok 1 values\n" * 2, b""),
-    ("check - -", b"1", 0, b"-: ok 1 values\n-: ok 0 values\n", b""),
+    ("check ./- -", b"1", 3, b"-: ok 1 values\n", b"cannot open ./-: No such file or directory\n"),
     ("check . five.10n", b"", 3, b"five.10n: ok 1 values\n", b".: read fault\n"),
     ("check -- -dashed five.10n", b"", 0, b"-dashed: ok 1 values\nfive.10n: ok 1 values\n", b""),
     ("convert --to text five.10n - six.ion", b"[7, x]", 0, b"5\n[7,x]\n" + LINES, b""),
@@ -252,6 +277,9 @@ SEVERAL = [
     ("show --catalog nowhere.ion six.ion five.10n", b"", 3, b"", NOWHERE),
     ("show --catalog notables.ion six.ion five.10n", b"", 1, b"", b"catalog refused CatalogEntry at 0\n"),
     (["check", "five.10n", "of\x1b[2Jdots"], b"", 0, b"five.10n: ok 1 values\nof\\x1b[2Jdots: ok 1 values\n", b""),
+    (["check", "empty", "\u009b2J\u00a0\x7f\\n"], b"", 0, b"empty: ok 0 values\n\\xc2\\x9b2J\xc2\xa0\\x7f\\\\n: ok 1 values\n", b""),
+    (["check", "a.ion: ok 3 values\nb.ion", "ends in a line\n"], b"", 1, b"ends in a line\\n: ok 1 values\n",
+     b"a.ion: ok 3 values\\nb.ion: refused BadToken at 3\n"),
 ]
 # Words that name a catalogue, and the same stream without one.
 CATALOGUED = [
@@ -291,13 +319,7 @@ USAGE = [
     "show --to text",
     "check --to binary",
     "check --pretty six.ion",
-    "convert --pretty six.ion",
-    "convert --pretty --to binary six.ion",
     "show --rewrite six.10n",
-    "convert --rewrite six.10n",
-    "convert --rewrite --to text six.10n",
-    "convert --rewrite --pretty --to binary six.10n",
-    "convert --to other",
     "convert --to text --to text",
 ]
 # Words, what standard input gives before a read of it fails, and what is written before `read fault`.

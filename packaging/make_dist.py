@@ -1,6 +1,6 @@
 #!/usr/bin/env python3
-"""Makes what is handed on of the present commit, in dist/: a Debian package, a tarball of the same files, the list of all
-that is linked (SPDX), and SHA256SUMS.
+"""Makes what is handed on of the present commit, in dist/: a Debian package, a tarball of the same files, a wheel for Python, the
+crate for Rust, the list of all that is linked (SPDX), and SHA256SUMS.
 
     packaging/make_dist.py --library PREFIX [--program PROGRAM] [--kit KIT] [--out FOLDER]
 
@@ -12,6 +12,7 @@ each file goes.
 """
 import argparse
 import datetime
+import glob
 import gzip
 import hashlib
 import io
@@ -26,6 +27,7 @@ import tempfile
 sys.path.insert(0, os.path.dirname(os.path.abspath(__file__)))
 sys.dont_write_bytecode = True
 import linked
+import wheel
 
 ROOT = os.path.dirname(os.path.dirname(os.path.abspath(__file__)))
 NAME = "cozgelt"
@@ -41,7 +43,7 @@ transcoder for Amazon Ion 1.0, proved
  With a library for C that does the same in memory. No value can be read from
  it but out of what it writes."""
 # The names that a run gives; those of SHA256SUMS are such.
-MADE = rf"{NAME}(_\d\S*_amd64\.deb|-\d\S*(-linux-amd64\.tar\.gz|\.spdx\.json))"
+MADE = rf"{NAME}(_\d\S*_amd64\.deb|-\d\S*(-linux-amd64\.tar\.gz|-rust\.tar\.gz|\.whl|\.spdx\.json))"
 # In Debian's folders; a tarball is unpacked below a prefix, where zsh looks elsewhere.
 ZSH = {"deb": "share/zsh/vendor-completions/_ion", "tar": "share/zsh/site-functions/_ion"}
 
@@ -89,16 +91,30 @@ def read(path):
         return file.read()
 
 
-def library_files(prefix):
-    """The header and the library in both forms; of the shared one its file, and the link that the compiler looks for."""
+def shared_in(prefix):
+    """The name of the shared library, with its number."""
     names = os.listdir(os.path.join(prefix, "lib"))
     shared = [name for name in names if re.fullmatch(r"libcozgelt\.so(\.\d+)+", name)]
     if len(shared) != 1 or "libcozgelt.a" not in names:
         sys.exit(f"{prefix}/lib has no libcozgelt.a, or not one libcozgelt.so.N")
+    return shared[0]
+
+
+def library_files(prefix):
+    """The header and the library in both forms; of the shared one its file, and the link that the compiler looks for."""
+    shared = shared_in(prefix)
     for name in ("include/cozgelt.h", "lib/libcozgelt.a", "lib/pkgconfig/cozgelt.pc"):
         yield name, 0o644, read(f"{prefix}/{name}")
-    yield f"lib/{shared[0]}", 0o644, read(f"{prefix}/lib/{shared[0]}")
-    yield "lib/libcozgelt.so", None, shared[0]
+    yield f"lib/{shared}", 0o644, read(f"{prefix}/lib/{shared}")
+    yield "lib/libcozgelt.so", None, shared
+
+
+def licences(kit):
+    """Name and bytes of each licence that goes with a package that has no such place of its own."""
+    for name in ("LICENSE", "NOTICE"):
+        yield name, read(f"{ROOT}/{name}")
+    for name, path in linked.licence_texts(kit):
+        yield name, read(path)
 
 
 def files(form, given, commit, spdx):
@@ -127,6 +143,27 @@ def files(form, given, commit, spdx):
         entry = f"{NAME} ({commit.version}) unstable; urgency=low\n\n  * Built from {commit.number}.\n\n"
         entry += f" -- {MAINTAINER}  {commit.when:%a, %d %b %Y %H:%M:%S +0000}\n"
         yield f"{DOC}/changelog.Debian.gz", 0o644, packed(entry.encode())
+
+
+def crate_files(given, spdx):
+    """The crate for Rust, with the static library where its build script looks first."""
+    rust = f"{ROOT}/bindings/rust"
+    for path in [f"{rust}/Cargo.toml", f"{rust}/build.rs", *glob.glob(f"{rust}/src/*.rs"), *glob.glob(f"{rust}/tests/*.rs")]:
+        yield os.path.relpath(path, rust), 0o644, read(path)
+    yield "lib/libcozgelt.a", 0o644, read(f"{given.library}/lib/libcozgelt.a")
+    for name, data in licences(given.kit):
+        yield f"licences/{name}", 0o644, data
+    yield f"{NAME}.spdx.json", 0o644, spdx
+
+
+def make_wheel(out, given, commit, spdx):
+    """Writes the wheel into this folder, and says its name."""
+    path = f"{given.library}/lib/{shared_in(given.library)}"
+    more = {f"licenses/{name}": data for name, data in licences(given.kit)} | {f"sboms/{NAME}.spdx.json": spdx}
+    module = read(f"{ROOT}/bindings/python/cozgelt.py")
+    name, data = wheel.wheel_of(commit.version, oldest_libc([path]), module, read(path), more, commit.when.timetuple()[:6])
+    write(f"{out}/{name}", 0o644, data)
+    return name
 
 
 def make_tarball(path, top, listed, commit):
@@ -230,10 +267,12 @@ def main():
     spdx = (json.dumps(listing, indent=1) + "\n").encode()
     emptied(given.out)
     top = f"{NAME}-{commit.version}"
-    made = [f"{NAME}_{commit.version}_amd64.deb", f"{top}-linux-amd64.tar.gz", f"{top}.spdx.json"]
+    made = [f"{NAME}_{commit.version}_amd64.deb", f"{top}-linux-amd64.tar.gz", f"{top}-rust.tar.gz", f"{top}.spdx.json"]
     make_package(f"{given.out}/{made[0]}", list(files("deb", given, commit, spdx)), commit, libc)
     make_tarball(f"{given.out}/{made[1]}", top, files("tar", given, commit, spdx), commit)
-    write(f"{given.out}/{made[2]}", 0o644, spdx)
+    make_tarball(f"{given.out}/{made[2]}", f"{top}-rust", crate_files(given, spdx), commit)
+    write(f"{given.out}/{made[3]}", 0o644, spdx)
+    made.append(make_wheel(given.out, given, commit, spdx))
     sums = "".join(f"{hashlib.sha256(read(f'{given.out}/{name}')).hexdigest()}  {name}\n" for name in made)
     write(f"{given.out}/SHA256SUMS", 0o644, sums.encode())
     print(sums, end="")

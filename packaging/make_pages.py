@@ -24,18 +24,16 @@ WORDS = {FORMS: ("text", "binary")}
 
 # What the page says beside the help. Lines that begin with a blank are shown as they stand.
 NOTES = """\
-With FILE - or without FILE standard input is read. Outputs of several files follow one another, cut ones too,
-on the same line; lines of check and of refusals begin with FILE, and the status is the greatest. What several files are converted to is
-named by --to. After --catalog a - is a file of that name in the present folder,
-since standard input is most often the stream itself. A catalogue that comes by a pipe is read from /dev/stdin, and the
-stream then has a name:
+With FILE -, which may stand once, or without FILE standard input is read. Outputs of several files follow one another, cut ones
+too, on the same line; lines of check and of refusals begin with FILE, and the status is the greatest. What several files are
+converted to is named by --to. In the names that lines have, control characters and backslashes are escaped, as \\n, \\x1b and \\\\.
+After --catalog a - is a file of that name in the present folder, since standard input is most often the stream itself. A
+catalogue that comes by a pipe is read from /dev/stdin, and the stream then has a name:
 
   make-tables | ion show --catalog /dev/stdin data.10n
 
 A stream is binary if its first byte is E0, whatever the file is called. A script that may run twice says --to, since convert
 alone would turn everything back. Without --rewrite binary is not written again as binary: that is refused as SameForm at 0.
-
---pretty goes with show, and with convert --to text; --rewrite with convert --to binary.
 
 Without --floats a float other than null.float is refused, as Float, and so is a number of JSON with an exponent, which is one.
 

@@ -2,6 +2,7 @@
  *
  * Writes of FILE, or of standard input, what `ion show`, `ion convert` of a text and `ion check` write, with their status. */
 #include "cozgelt.h"
+#include <errno.h>
 #include <stdio.h>
 #include <stdlib.h>
 #include <string.h>
@@ -16,15 +17,15 @@ static Call *call_of(const char *word) {
 }
 
 /* Says what failed; the status of all that is no verdict. */
-static int fault(const char *what, const char *name) {
-    fprintf(stderr, "%s%s\n", what, name);
+static int fault(const char *what) {
+    fprintf(stderr, "%s\n", what);
     return 3;
 }
 
 /* All bytes of a file, or of standard input where it has no name, which are to be freed; null where they can't be had. */
 static uint8_t *read_all(const char *name, size_t *length) {
     FILE *from = name ? fopen(name, "rb") : stdin;
-    if (!from) return fault("cannot open ", name), NULL;
+    if (!from) return fprintf(stderr, "cannot open %s: %s\n", name, strerror(errno)), NULL;
     size_t size = 1 << 16, got;
     uint8_t *bytes = malloc(size);
     *length = 0;
@@ -40,7 +41,7 @@ static uint8_t *read_all(const char *name, size_t *length) {
     if (name) fclose(from);
     if (bytes && !failed) return bytes;
     free(bytes);
-    return fault(failed ? "read fault" : "no memory", ""), NULL;
+    return fault(failed ? "read fault" : "no memory"), NULL;
 }
 
 /* The status, and all of the output, which is to be freed: one call that asks for its length, and one with so much room. */
@@ -58,8 +59,8 @@ static uint32_t convert(Call *call, const uint8_t *catalog, size_t catalog_len, 
 static int tell(uint32_t status, const CozgeltAnswer *answer) {
     unsigned long long place = answer->place;
     if (status == COZGELT_ACCEPTED) return 0;
-    if (status == COZGELT_NO_MEMORY || status == COZGELT_NO_OUTPUT_MEMORY) return fault("no memory", "");
-    if (status != COZGELT_REFUSED && status != COZGELT_CATALOG_REFUSED) return fault("an unexpected status", "");
+    if (status == COZGELT_NO_MEMORY || status == COZGELT_NO_OUTPUT_MEMORY) return fault("no memory");
+    if (status != COZGELT_REFUSED && status != COZGELT_CATALOG_REFUSED) return fault("an unexpected status");
     const char *of = status == COZGELT_REFUSED ? "" : "catalog ";
     fprintf(stderr, "%srefused %s at %llu\n", of, cozgelt_reason(answer->reason), place);
     return 1;
@@ -82,6 +83,6 @@ int main(int words, char **word) {
     if (call == cozgelt_check && status == COZGELT_ACCEPTED) printf("ok %llu values\n", (unsigned long long)answer.values);
     free(output);
     int failed = ferror(stdout); /* a write may fail as late as the file is closed */
-    if (fclose(stdout) || failed) return fault("write fault", "");
+    if (fclose(stdout) || failed) return fault("write fault");
     return tell(status, &answer);
 }

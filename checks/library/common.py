@@ -1,4 +1,4 @@
-"""What the parts of `checks/all` on the library share: the library, built in a folder of its own; counts; and the cases of
+"""What the checks of the library share: the library, built in a folder of its own; counts; and the cases of
 `tests/cases`, and cases of floats, as calls of the library, to be answered by a program or a function.
 
 A program that answers cases reads calls from standard input and writes an answer for each. A call is a line of CALL (to_text,
@@ -19,6 +19,10 @@ import sys
 
 ROOT = os.path.dirname(os.path.dirname(os.path.dirname(os.path.abspath(__file__))))
 C = os.path.join(ROOT, 'bindings', 'c')
+sys.dont_write_bytecode = True
+sys.path.insert(0, os.path.join(ROOT, 'bench'))
+from unproved import kit
+
 SHOWN = 20
 CASES = runpy.run_path(os.path.join(ROOT, 'tests', 'cases', 'run'))
 bytes_of = CASES['answers'].bytes_of
@@ -60,9 +64,10 @@ def missing(*tools):
     return False
 
 
-def build(counts, library, folder):
-    """Makes libcozgelt.a and libcozgelt.so of the proved static library in this folder."""
-    return counts.run('make', ['make', '-s', '-C', C, f'OUT={folder}', f'PROVED={library}'])
+def build(counts, library, folder, *more):
+    """Makes libcozgelt.a and libcozgelt.so of the proved static library in this folder, or what more words ask for."""
+    of_kit = [f'KIT={kit()}'] if shutil.which('rt') else []
+    return counts.run('make', ['make', '-s', '-C', C, f'OUT={folder}', f'PROVED={library}', *of_kit, *more])
 
 
 def text_of(number):

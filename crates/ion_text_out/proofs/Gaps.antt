@@ -99,15 +99,15 @@ front-length layout name note =
     let both = length-append (marked layout.after_name name) (marked (codes "::") note) in
     omega (arith, first, second, both)
 
--- ---- blanks, by blocks of 64
+-- ---- blanks, by blocks of 256
 
-pub blanks_then : (left : ℕ) → 32 < left → replicate {A = ℕ} (2 * left) 32 ≡ replicate {A = ℕ} 64 32 ++ replicate {A = ℕ} (2 * (left - 32)) 32
+pub blanks_then : (left : ℕ) → 128 < left → replicate {A = ℕ} (2 * left) 32 ≡ replicate {A = ℕ} 256 32 ++ replicate {A = ℕ} (2 * (left - 128)) 32
 blanks_then left more =
-    let same : 64 + 2 * (left - 32) ≡ 2 * left = omega (arith, more) in
-    sym (replicate-append-replicate {A = ℕ} 64 (2 * (left - 32)) 32 ∙ ap (λ n. replicate {A = ℕ} n 32) same)
+    let same : 256 + 2 * (left - 128) ≡ 2 * left = omega (arith, more) in
+    sym (replicate-append-replicate {A = ℕ} 256 (2 * (left - 128)) 32 ∙ ap (λ n. replicate {A = ℕ} n 32) same)
 
-pub blanks_last : (left : ℕ) → left ≤ 32 → take {A = ℕ} (2 * left) (replicate {A = ℕ} 64 32) ≡ replicate {A = ℕ} (2 * left) 32
-blanks_last left few = take-replicate {X = ℕ} (2 * left) 64 32 (omega (arith, few))
+pub blanks_last : (left : ℕ) → left ≤ 128 → take {A = ℕ} (2 * left) (replicate {A = ℕ} 256 32) ≡ replicate {A = ℕ} (2 * left) 32
+blanks_last left few = take-replicate {X = ℕ} (2 * left) 256 32 (omega (arith, few))
 
 -- what is put after some of it, and then the rest
 pub put_before : {O : Type 0} (now new : Outgoing O) (first rest : List ℕ) → new ≡ record now { pending = now.pending ++ first }

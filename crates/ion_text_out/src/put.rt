@@ -36,10 +36,10 @@ pub fn put_mark<O: Output, A: Allocator + Copy>(
 }
 
 /// How many containers the blanks are for that are put at once.
-const LEVELS: usize = 32;
+const LEVELS: usize = 128;
 
 /// These blanks, two for each.
-static BLANKS: [u8; 64] = [b' '; 64];
+static BLANKS: [u8; 256] = [b' '; 256];
 
 /// Puts a new line with so many containers open.
 #[inline(never)]
@@ -102,13 +102,28 @@ pub fn put_gap<O: Output, A: Allocator + Copy>(sink: &mut Sink<O, A>, gap: Gap) 
     }
 }
 
-// Puts a new line, for which the window has room.
-#[inline(never)]
+// Puts a new line, for which the window has room. Most have few blanks, which are one copy in line.
+#[inline(always)]
 fn put_line_within<O: Output, A: Allocator + Copy>(sink: &mut Sink<O, A>, depth: usize)
     requires { length sink.old.pending + length (new_line depth) ≤ 4096 }
     ensures { sink.new ≡ record sink.old { pending = sink.old.pending ++ new_line depth } }
 {
     sink.put_byte(b'\n');
+    if depth > LEVELS {
+        put_many_within(sink, depth);
+    } else {
+        sink.put_within(&BLANKS[..2 * depth]);
+    }
+}
+
+// Puts two blanks for each of so many containers, for which the window has room.
+#[inline(never)]
+fn put_many_within<O: Output, A: Allocator + Copy>(sink: &mut Sink<O, A>, depth: usize)
+    requires { length sink.old.pending + 2 * depth ≤ 4096 }
+    ensures { sink.new ≡ record sink.old {
+      pending = sink.old.pending ++ replicate (2 * depth) 32;
+    } }
+{
     let mut left = depth;
     'levels: while left > LEVELS {
         sink.put_within(&BLANKS);

@@ -3,6 +3,7 @@ pub mod Asking
 pub mod InTurn
 pub mod LimitsRead
 pub mod Loading
+pub mod NamesInLines
 pub mod OneRun
 pub mod ShowWord
 pub mod Turns

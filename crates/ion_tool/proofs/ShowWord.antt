@@ -1,12 +1,13 @@
 -- What some words ask for, worked out.
-use Rattle.std.proofs.Common.{refl, [], ◌∷◌, codes, ◌≡◌, ◌∙◌, sym, ap, inl, inr, Some, None, List, Option}
+use Rattle.std.proofs.Common.{refl, [], ◌∷◌, codes, ◌≡◌, ◌∙◌, sym, ap, subst, inl, inr, Some, None, List, Option}
+use Rattle.std.specs.Prelude.{Bool, true, false, ◌&&◌}
 use Rattle.clap.proofs.OnLiterals.{clap_on_literals}
 use Rattle.clap.specs.Words.{Row, Text, fault_of, subcommand_of}
 use Rattle.clap.specs.declared.error.kind.ErrorKind.TheVariants.{DisplayVersion, UnknownArgument, ValueValidation}
 use Rattle.ion_meter.specs.declared.limits.Limits.{Limits}
 use Rattle.ion_meter.specs.Limits.{default_limits}
 use Rattle.ion_meter.specs.Rules.{floats, strict}
-use Rattle.ion_tool.specs.Words.{action_name, file_for, form_in, form_word, ion_app, limits_in, AsksRun, IsRun, Names}
+use Rattle.ion_tool.specs.Words.{action_name, file_for, files_in, form_in, form_word, go_together, has_one_form, ion_app, limits_in, AsksRun, IsRun, Names}
 use Rattle.ion_tool.proofs.OneRun.{some_is}
 use Rattle.ion_transcode.specs.declared.to.Form.TheVariants as form
 use Rattle.ion_tool.specs.declared.words.Action.{Action}
@@ -127,6 +128,27 @@ dash_is_input = refl
 pub files_are_named : Names (codes "check" ∷ codes "a" ∷ codes "--floats" ∷ codes "-" ∷ codes "a" ∷ []) (record { action = Check; profile = floats }) default_limits None (codes "a" ∷ codes "-" ∷ codes "a" ∷ [])
 unfolding clap_on_literals
 files_are_named = record { rows = _; faultless = refl; named = refl; formed = refl; laid_out = refl; rewritten = refl; profiled = refl; limited = refl; catalogued = refl; filed = refl; joined = refl }
+
+-- standard input may be among them, but not twice
+abbrev twice : List Text
+twice = codes "check" ∷ codes "-" ∷ codes "a" ∷ codes "-" ∷ []
+
+files_of_twice : (name : Text) (rows : List Row) → subcommand_of ion_app twice ≡ Some (name, rows) → files_in rows ≡ codes "-" ∷ codes "a" ∷ codes "-" ∷ []
+unfolding clap_on_literals
+files_of_twice name rows e = ap (λ (p : Text × List Row). files_in p.1) (some_is (sym e))
+
+not_with_false : (b : Bool) → (b && false) ≡ true → ⊥
+not_with_false true e = cc e
+not_with_false false e = cc e
+
+no_run_of_twice : (task : Task) (limits : Limits) (catalog : Option Text) (files : List Text) → IsRun twice task limits catalog files → ⊥
+no_run_of_twice task limits catalog files (inl none) = cc none.0
+no_run_of_twice task limits catalog files (inr n) =
+    let are = sym n.filed ∙ files_of_twice (action_name task.action) n.rows n.named in
+    not_with_false (has_one_form task.action (codes "-" ∷ codes "a" ∷ codes "-" ∷ [])) (subst (λ (f : List Text). go_together task.action f ≡ true) are n.joined)
+
+pub input_twice : AsksRun twice → ⊥
+input_twice asks = no_run_of_twice asks.0 asks.1 asks.2 asks.3 asks.4
 
 -- after that option `-` is a name as any other
 pub dash_is_named : Names (codes "show" ∷ codes "--catalog" ∷ codes "-" ∷ []) (strictly Show) default_limits (Some (codes "-")) []

@@ -116,3 +116,33 @@ puts_cut device first second old new begun is a = record {
 pub some_reason : (reason : List ℕ) → (length reason == 0) ≡ false → reason_text reason ≡ codes ": " ++ reason
 some_reason [] e = absurd (cc e)
 some_reason (first ∷ rest) e = refl
+
+-- of these bytes the last ones are left to be written, and no write has failed
+pub record IsLeft {D : Type 0} (device : OutputOf D) (all left : List ℕ) (old new : D) : Type 0 where
+  pub done : List ℕ
+  pub put : Puts device done old new true
+  pub is : done ++ left ≡ all
+
+pub left_all : {D : Type 0} (device : OutputOf D) (all : List ℕ) (old : D) → IsLeft device all all old old
+left_all device all old = record { done = []; put = puts_nothing device old; is = refl }
+
+-- a part of them is written
+pub left_then : {D : Type 0} (device : OutputOf D) (all part left rest : List ℕ) (old middle new : D) (more : Bool) → left ≡ part ++ rest → more ≡ true
+    → IsLeft device all left old middle → Puts device part middle new more → IsLeft device all rest old new
+left_then {D} device all part left rest old middle new more e is a b = record {
+  done = a.done ++ part;
+  put = puts_then device a.done part old middle new true true refl a.put (subst (λ (x : Bool). Puts device part middle new x) is b);
+  is = append_assoc a.done part rest ∙ (ap (λ (l : List ℕ). a.done ++ l) (sym e) ∙ a.is);
+}
+
+-- a part of them is not written whole, nor any other
+pub left_cut : {D : Type 0} (device : OutputOf D) (all part left rest : List ℕ) (old middle new : D) (more : Bool) → left ≡ part ++ rest → more ≡ false
+    → IsLeft device all left old middle → Puts device part middle new more → Puts device all old new false
+left_cut {D} device all part left rest old middle new more e is a b =
+    subst (λ (l : List ℕ). Puts device l old new false) (ap (λ (l : List ℕ). a.done ++ l) (sym e) ∙ a.is)
+    (puts_then device a.done (part ++ rest) old middle new true false refl a.put (puts_cut device part rest middle new more is b))
+
+-- all of them are written
+pub left_none : {D : Type 0} (device : OutputOf D) (all left : List ℕ) (old new : D) → left ≡ [] → IsLeft device all left old new → Puts device all old new true
+left_none {D} device all left old new e a =
+    subst (λ (l : List ℕ). Puts device l old new true) (sym (append-nil a.done) ∙ (ap (λ (l : List ℕ). a.done ++ l) (sym e) ∙ a.is)) a.put

@@ -1,6 +1,6 @@
 -- The words after the program's name, as `clap` reads them.
 use Rattle.std.specs.Prelude.{◌≡◌, ◌≢◌, ◌⊎◌, ℕ, List, [], ◌∷◌, Option, Some, None, Bool, true, false, codes, string_bytes, if◌then◌else◌}
-use Rattle.std.specs.Prelude.{map, unwrap_or, option_map, option_and_then, bytes_eq}
+use Rattle.std.specs.Prelude.{map, unwrap_or, option_map, option_and_then, bytes_eq, ◌&&◌, count_by, is_none, nat_le}
 use Rattle.std.specs.Borrow.{Bor}
 use Rattle.std.specs.Option.{option_map_or}
 use Rattle.std.specs.Str.Parse.{digits_value, without_leading_plus}
@@ -182,6 +182,14 @@ has_one_form Show files = true
 has_one_form ShowPretty files = true
 has_one_form Check files = true
 
+-- the word for standard input stands once at most among the words for files
+abbrev pub reads_input_once : List Text → Bool
+reads_input_once files = nat_le (count_by (λ word. is_none (file_for word)) files) 1
+
+-- these files can be read one after another
+abbrev pub go_together : Action → List Text → Bool
+go_together action files = has_one_form action files && reads_input_once files
+
 -- `clap` finds no fault in the words, and they name the subcommand, the form and the layout for the task's action, and its profile, with these limits, this catalogue and
 -- these words for files
 pub record Names (words : List Text) (task : Task) (limits : Limits) (catalog : Option Text) (files : List Text) : Type 0 where
@@ -195,7 +203,7 @@ pub record Names (words : List Text) (task : Task) (limits : Limits) (catalog : 
   pub limited : limits_in rows ≡ Some limits
   pub catalogued : catalog_in rows ≡ catalog
   pub filed : files_in rows ≡ files
-  pub joined : has_one_form task.action files ≡ true
+  pub joined : go_together task.action files ≡ true
 
 -- the words ask for this run: there are none, for standard input to be shown with the usual limits and no tables, or they name it
 abbrev pub IsRun : List Text → Task → Limits → Option Text → List Text → Type 0
@@ -211,7 +219,7 @@ abbrev pub IsHelp : List Text → Type 0
 IsHelp words = IsAmong DisplayHelp (fault_of ion_app words) ⊎ IsAmong DisplayVersion (fault_of ion_app words)
 
 -- the words are wrong: `clap` may find a fault in them that asks for neither, or it finds none and `--to` names no form, or is not there for several files, or not text with `--pretty`, or not binary
--- with `--rewrite`
+-- with `--rewrite`, or standard input is named twice
 abbrev pub IsUsage : List Text → Type 0
 IsUsage words =
     (fault_of ion_app words ≡ []) ⊎ ((kind : ErrorKind) × IsAmong kind (fault_of ion_app words) × (kind ≢ DisplayHelp) × (kind ≢ DisplayVersion))

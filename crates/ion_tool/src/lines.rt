@@ -1,9 +1,12 @@
 //! The lines that the program writes.
 ghost use Rattle.std.specs.Prelude.{◌≡◌, ◌+◌, ◌-◌, ◌^◌, ◌<◌, ◌≤◌, ◌++◌, Err, codes, length, option_map};
+ghost use Rattle.std.specs.List.{flat_map};
+ghost use Rattle.ion_text_out.specs.Escape.{hex_digit, letter};
 ghost use Rattle.ion_tool.specs.Serving.{catalog_line, fault_line, label_of, line_of, reason_text};
 ghost use Rattle.ion_tool.specs.Serving.{refusal_text, status_of, unopened_line, Gets, Puts};
+ghost use Rattle.ion_tool.specs.Serving.{char_in_name, escape, name_in_line};
 
-use arrayvec::ArrayString;
+use arrayvec::{ArrayString, ArrayVec};
 use ion_meter::device::{Output, write_all};
 use ion_meter::fault::Fault;
 use ion_transcode::to::Summary;
@@ -20,6 +23,91 @@ pub fn put<D: Output>(device: &mut D, bytes: &[u8]) -> bool
     write_all(device, bytes).is_ok()
 }
 
+/// The letter of a byte's escape in Ion text, where it has one.
+fn letter(byte: u8) -> Option<u8>
+    ensures { result ≡ letter byte }
+{
+    match byte {
+        7 => Some(b'a'),
+        8 => Some(b'b'),
+        9 => Some(b't'),
+        10 => Some(b'n'),
+        12 => Some(b'f'),
+        13 => Some(b'r'),
+        11 => Some(b'v'),
+        92 => Some(b'\\'),
+        _ => None,
+    }
+}
+
+/// The hex digit of a number.
+fn hex_digit(number: u8) -> u8
+    requires { number < 16 }
+    ensures { result ≡ hex_digit number }
+{
+    if number < 10 {
+        b'0' + number
+    } else {
+        b'a' - 10 + number
+    }
+}
+
+/// The escape of a byte in Ion text.
+pub fn escape(byte: u8) -> ArrayVec<u8, 4>
+    ensures { result.items ≡ escape byte }
+{
+    let mut text = ArrayVec::new();
+    text.push(b'\\');
+    match letter(byte) {
+        Some(letter) => text.push(letter),
+        None => {
+            text.push(b'x');
+            text.push(hex_digit(byte / 16));
+            text.push(hex_digit(byte % 16));
+        }
+    }
+    text
+}
+
+/// Writes the escapes of bytes.
+fn put_escapes<D: Output>(device: &mut D, bytes: &[u8]) -> bool
+    requires { D.failure_count device.old < 2 ^ 64 - 1 }
+    ensures { Puts D.Output (flat_map escape bytes.now) device.old device.new result }
+{
+    for byte in bytes {
+        if !put(device, escape(*byte).as_slice()) {
+            return false;
+        }
+    }
+    true
+}
+
+/// Writes a character of a name.
+fn put_char<D: Output>(device: &mut D, character: char) -> bool
+    requires { D.failure_count device.old < 2 ^ 64 - 1 }
+    ensures { Puts D.Output (char_in_name character) device.old device.new result }
+{
+    let mut room = [0; 4];
+    let bytes = character.encode_utf8(&mut room).as_bytes();
+    if character.is_control() || character == '\\' {
+        return put_escapes(device, bytes);
+    }
+    put(device, bytes)
+}
+
+/// Writes a name, of which nothing ends the line or controls a terminal.
+fn put_name<D: Output>(device: &mut D, name: &str) -> bool
+    requires { D.failure_count device.old < 2 ^ 64 - 1 }
+    ensures { Puts D.Output (name_in_line name.now) device.old device.new result }
+{
+    for character in name.chars() {
+        if !put_char(device, character) {
+            return false;
+        }
+    }
+    true
+}
+
 /// Writes a label, where there is one.
 fn put_label<D: Output>(device: &mut D, label: Option<&str>) -> bool
     requires { D.failure_count device.old < 2 ^ 64 - 1 }
@@ -29,7 +117,7 @@ fn put_label<D: Output>(device: &mut D, label: Option<&str>) -> bool
     let Some(word) = label else {
         return true;
     };
-    if !put(device, word.as_bytes()) {
+    if !put_name(device, word) {
         return false;
     }
     put(device, b": ")
@@ -80,7 +168,7 @@ pub fn say_unopened<E: Output>(name: &str, reason: &str, err: &mut E)
     if !put(err, b"cannot open ") {
         return;
     }
-    if !put(err, name.as_bytes()) {
+    if !put_name(err, name) {
         return;
     }
     let _ = put_end(err, reason);

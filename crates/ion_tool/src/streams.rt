@@ -1,7 +1,8 @@
 //! What stands between the program and the streams of the system.
 
-ghost use Rattle.std.specs.Prelude.{◌<◌, ◌≤◌, length};
+ghost use Rattle.std.specs.Prelude.{◌≤◌, length};
 
+use crate::lines::escape;
 use std::alloc::Global;
 use std::cell::Cell;
 use std::io;
@@ -57,9 +58,10 @@ impl<D: Write> Write for Retried<D> {
     }
 }
 
-/// A writer to which control characters, but for ends of lines, go by their numbers, as `\x1b`,
-/// where it has lines with names: on a terminal they would be followed. Such a line is held until
-/// its end, since what other processes write at the same time would stand between its parts.
+/// A writer to which control characters, but for ends of lines, go by their escapes, as `\x1b`,
+/// where it has lines with names: on a terminal they would be followed. Names come without them, but
+/// not the words that `clap` says something of. Such a line is held until its end, since what other
+/// processes write at the same time would stand between its parts.
 #[derive(Drop)]
 pub struct Escaped<W> {
     writer: W,
@@ -78,14 +80,16 @@ impl<W> Escaped<W> {
     }
 }
 
-/// The digit of a number below 16.
-fn digit(number: u8) -> u8
-    requires { number < 16 }
+/// How many bytes the control character takes that these begin with, if they do. The end of a line
+/// is none here.
+fn control_length(bytes: &[u8]) -> usize
+    ensures { result ≤ length bytes.now }
 {
-    if number < 10 {
-        b'0' + number
-    } else {
-        b'a' + (number - 10)
+    match bytes {
+        [b'\n', ..] => 0,
+        [0xC2, 0x80..=0x9F, ..] => 2,
+        [byte, ..] if byte.is_ascii_control() => 1,
+        _ => 0,
     }
 }
 
@@ -93,10 +97,12 @@ fn digit(number: u8) -> u8
 fn plain_length(bytes: &[u8]) -> usize
     ensures { result ≤ length bytes.now }
 {
-    let found = bytes
-        .iter()
-        .position(|byte| byte.is_ascii_control() && *byte != b'\n');
-    found.unwrap_or(bytes.len()).min(bytes.len())
+    for at in 0..bytes.len() {
+        if control_length(&bytes[at..]) > 0 {
+            return at;
+        }
+    }
+    bytes.len()
 }
 
 impl<W: Write> Escaped<W> {
@@ -130,9 +136,11 @@ impl<W: Write> Write for Escaped<W> {
             }
             return Ok(plain);
         }
-        let number = [b'\\', b'x', digit(bytes[0] / 16), digit(bytes[0] % 16)];
-        self.hold(&number)?;
-        Ok(1)
+        let length = control_length(bytes);
+        for byte in &bytes[..length] {
+            self.hold(escape(*byte).as_slice())?;
+        }
+        Ok(length)
     }
 
     fn flush(&mut self) -> io::Result<()> {

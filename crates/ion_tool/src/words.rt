@@ -4,6 +4,7 @@ ghost use Rattle.clap.specs.Words.{Row, app_of, first_of, found_of, kind_of, row
 ghost use Rattle.clap.specs.declared.builder.command.Command.TheViews.{out-Command};
 ghost use Rattle.ion_meter.specs.Limits.{AreChecked};
 ghost use Rattle.ion_tool.specs.Words.{action_app, with_limits, action_name, all_named, bare_app, catalog_in, catalog_rule, file_for, files_in, files_rule, form_in, has_one_form, form_rule, form_word, ion_app, limit_in, limit_rule, limits_in, floats_rule, is_pretty, is_rewritten, is_set, pretty_in, pretty_rule, profile_in, rewrite_in, rewrite_rule, Asks, AnswersError, IsRequestFor};
+ghost use Rattle.ion_tool.specs.Words.{go_together, reads_input_once};
 
 use clap::builder::ValueParser;
 use clap::error::ErrorKind;
@@ -79,14 +80,6 @@ floats.";
 const USAGE: &str = "ion <show|check|convert> [OPTIONS] [FILE]...
        as in: ion show data.ion";
 
-/// What is said of wrong words of which `clap` says nothing: it takes any word after `--to`, and
-/// several files, `--pretty` or `--rewrite` without that option.
-const WRONG: &str =
-    "error: '--to <FORM>' takes text or binary; several files need it, '--pretty' text, '--rewrite' binary
-
-For more information, try '--help'.
-";
-
 /// What stands in an error of `clap` before how the program is called.
 const BEFORE_USAGE: &str = "\n\nUsage: ";
 
@@ -137,7 +130,7 @@ fn pretty_arg<'a>(alloc: Global) -> Arg<'a>
     Arg::new(alloc, "pretty")
         .long("pretty")
         .action(ArgAction::SetTrue)
-        .help("Write each member of a container on a line of its own")
+        .help("Write each member on its own line; convert needs --to text")
 }
 
 /// The option `--rewrite`.
@@ -148,7 +141,7 @@ fn rewrite_arg<'a>(alloc: Global) -> Arg<'a>
     Arg::new(alloc, "rewrite")
         .long("rewrite")
         .action(ArgAction::SetTrue)
-        .help("Write binary also of a stream that is binary")
+        .help("Write binary also of a binary stream; needs --to binary")
 }
 
 /// The option `--catalog FILE`.
@@ -180,7 +173,7 @@ fn files_arg<'a>(alloc: Global) -> Arg<'a>
 {
     Arg::new(alloc, "FILE")
         .action(ArgAction::Append)
-        .help("Files to read; - or none is standard input")
+        .help("Files to read; none, or - once, is standard input")
 }
 
 /// A command with the options for the limits. The one for values in binary is taken by each, but
@@ -344,7 +337,7 @@ fn with_tip(alloc: Global, text: &str, word: &str) -> Result<String, AllocError>
 fn usage_of(alloc: Global, error: &Error, words: &[String]) -> Result<String, AllocError>
     ensures { IfOk result (λ text. string_bytes text ≢ []) }
 {
-    let text = text_of(alloc, error, WRONG)?;
+    let text = text_of(alloc, error, USAGE)?;
     match (error.kind(), words) {
         (ErrorKind::InvalidSubcommand, [word, ..]) if word.as_str() != "help" => {
             with_tip(alloc, text.as_str(), word.as_str())
@@ -454,6 +447,23 @@ fn has_one_form(action: Action, files: Option<&[&str]>) -> bool
     }
 }
 
+/// Whether standard input, by its word, stands once at most among these files.
+fn reads_input_once(files: Option<&[&str]>) -> bool
+    ensures { result ≡ reads_input_once (all_named files.entry) }
+{
+    match files {
+        Some(words) => words.iter().filter(|word| file_of(word).is_none()).count() <= 1,
+        None => true,
+    }
+}
+
+/// Whether these files are read one after another.
+fn go_together(action: Action, files: Option<&[&str]>) -> bool
+    ensures { result ≡ go_together action (all_named files.entry) }
+{
+    has_one_form(action, files) && reads_input_once(files)
+}
+
 /// The run that the matches name.
 fn asked_by<'m, 'a>(matches: &'m ArgMatches<'a>) -> Option<Asked<'m, 'a>>
     ensures some { IfSome result (λ a. (rows : List Row)
@@ -465,13 +475,13 @@ fn asked_by<'m, 'a>(matches: &'m ArgMatches<'a>) -> Option<Asked<'m, 'a>>
         × (limits_in rows ≡ Some a.limits) × AreChecked a.limits
         × (catalog_in rows ≡ option_map (λ s. s.now) a.catalog)
         × (files_in rows ≡ all_named a.files)
-        × (has_one_form a.task.action (files_in rows) ≡ true)) }
+        × (go_together a.task.action (files_in rows) ≡ true)) }
     ensures none { result ≡ None → (action : Action) (rows : List Row)
         → subcommand_rows_of matches.now ≡ Some (action_name action, rows)
         → form_in rows ≡ form_word action
         → pretty_in rows ≡ is_pretty action
         → rewrite_in rows ≡ is_rewritten action
-        → has_one_form action (files_in rows) ≡ true
+        → go_together action (files_in rows) ≡ true
         → limits_in rows ≡ None }
 {
     let (name, options) = matches.subcommand()?;
@@ -480,7 +490,7 @@ fn asked_by<'m, 'a>(matches: &'m ArgMatches<'a>) -> Option<Asked<'m, 'a>>
     let action = action_of(name, options.get_str("to"), pretty, rewrite)?;
     let limits = limits_of(options)?;
     let files = options.get_strs("FILE");
-    if !has_one_form(action, files) {
+    if !go_together(action, files) {
         return None;
     }
     let task = Task {
@@ -496,6 +506,44 @@ fn asked_by<'m, 'a>(matches: &'m ArgMatches<'a>) -> Option<Asked<'m, 'a>>
         catalog,
         files,
     })
+}
+
+/// What is wrong with a form and flags that no action has.
+fn wrong_form(form: Option<&str>, pretty: bool) -> &'static str {
+    match (form, pretty) {
+        (Some("text"), _) | (None, false) => "'--rewrite' needs '--to binary'",
+        (Some("binary"), _) | (None, true) => "'--pretty' needs '--to text'",
+        (Some(_), _) => "'--to <FORM>' takes text or binary",
+    }
+}
+
+/// What is wrong with words that name no run, though `clap` finds no fault in them: it takes any word
+/// after `--to`, `--pretty` and `--rewrite` with any form, several files without one, and any number
+/// of `-`. No other words lead here: `clap` answers its own subcommand, `help`, by an error, and so
+/// numbers that are past a limit.
+fn mistake_in(matches: &ArgMatches<'_>) -> &'static str {
+    let Some((name, options)) = matches.subcommand() else {
+        return "there is no command";
+    };
+    let form = options.get_str("to");
+    let pretty = is_set(options, "pretty");
+    match action_of(name, form, pretty, is_set(options, "rewrite")) {
+        Some(action) if has_one_form(action, options.get_strs("FILE")) => {
+            "the file '-', standard input, cannot be used multiple times"
+        }
+        Some(_) => "several files need '--to <FORM>'",
+        None => wrong_form(form, pretty),
+    }
+}
+
+/// What is said of a mistake, in the manner of `clap`.
+fn error_text(alloc: Global, mistake: &str) -> Result<String, AllocError>
+    ensures { IfOk result (λ text. string_bytes text ≢ []) }
+{
+    let mut text = String::from_str(alloc, "error: ")?;
+    text.push_str(mistake)?;
+    text.push_str("\n\nFor more information, try '--help'.\n")?;
+    Ok(text)
 }
 
 /// A copy of a name, which needs its words no more.
@@ -572,9 +620,6 @@ pub fn read_words(alloc: Global, words: &[String]) -> Result<Request, AllocError
     };
     match asked_by(&matches) {
         Some(asked) => request_for(alloc, asked),
-        // `--to` names no form, not text with `--pretty` or binary with `--rewrite`, or is not there
-        // for several files. No other words lead here: `clap` answers its own subcommand, `help`, by
-        // an error, and so numbers that are past a limit.
-        None => Ok(Request::Usage(String::from_str(alloc, WRONG)?)),
+        None => Ok(Request::Usage(error_text(alloc, mistake_in(&matches))?)),
     }
 }

@@ -1,7 +1,8 @@
 use Rattle.std.specs.Prelude.{codes}
+use Rattle.ion_tool.specs.Serving.{name_in_line}
 use Rattle.ion_tool.proofs.Writing.{puts_cut}
 use Rattle.ion_tool.proofs.lines.put_label.Goals as goal
 
-pub returns-then-not-put : goal.returns-then-not-put
-returns-then-not-put g c =
-    rw c.in-Some.is (puts_cut g.D.Output c.in-Some.word.now (codes ": ") _ _ c.put.result c.if-not-put.true (rw c.as_bytes.ensures.value at c.put.ensures))
+pub returns-then-not-put_name : goal.returns-then-not-put_name
+returns-then-not-put_name g c =
+    rw c.in-Some.is (puts_cut g.D.Output (name_in_line c.in-Some.word.now) (codes ": ") _ _ c.put_name.result c.if-not-put_name.true c.put_name.ensures)

@@ -2,7 +2,7 @@ use Rattle.std.proofs.Common.{[], Bool, rules, unwrap_or, ap₂, ◌≡◌, Some
 use Rattle.std.specs.Prelude.{true, false}
 use Rattle.clap.proofs.WalkLemmas.{first_value-rows, raw_values-rows}
 use Rattle.clap.specs.Words.{found_of, rows_of, subcommand_rows_of}
-use Rattle.ion_tool.specs.Words.{action_name, all_named, files_in, form_in, form_word, has_one_form, is_pretty, is_rewritten, pretty_in, rewrite_in}
+use Rattle.ion_tool.specs.Words.{action_name, all_named, files_in, form_in, form_word, go_together, is_pretty, is_rewritten, pretty_in, rewrite_in}
 use Rattle.ion_tool.proofs.OneRun.{action_is, some_is}
 use Rattle.ion_tool.proofs.words.asked_by.Goals as goal
 
@@ -21,12 +21,12 @@ returns-clause-some c =
       search rules,
       sym (c.get_str-catalog.ensures ∙ first_value-rows found (codes "catalog")),
       filed,
-      ap (has_one_form c.in_ok-action.action) filed ∙ (sym c.has_one_form.ensures ∙ c.if-not-has_one_form.false),
+      ap (go_together c.in_ok-action.action) filed ∙ (sym c.go_together.ensures ∙ c.if-not-go_together.false),
     )
 
--- these files have no one form
-pub returns-then-not-has_one_form-clause-none : goal.returns-then-not-has_one_form-clause-none
-returns-then-not-has_one_form-clause-none c none action rows named formed laid_out rewritten joined =
+-- these files can't be read one after another
+pub returns-then-not-go_together-clause-none : goal.returns-then-not-go_together-clause-none
+returns-then-not-go_together-clause-none c none action rows named formed laid_out rewritten joined =
     let found = found_of c.in_ok-name.options.now in
     let own = c.in_ok-action.action in
     let mine : subcommand_rows_of c.args.matches.now ≡ Some (c.in_ok-name.name.now, rows_of found) = search rules in
@@ -42,7 +42,7 @@ returns-then-not-has_one_form-clause-none c none action rows named formed laid_o
     sym c.in_ok-action.ensures.some.3 ∙ (c.is_set-rewrite.ensures ∙ (ap rewrite_in same ∙ rewritten)) in
     let is : own ≡ action = action_is own action (sym c.in_ok-action.ensures.some.0 ∙ ap (λ p. p.0) both) form flag again in
     let both_ways : true ≡ false =
-    sym joined ∙ (ap₂ has_one_form (sym is) (ap files_in (sym same)) ∙ (ap (has_one_form own) filed ∙ (sym c.has_one_form.ensures ∙ c.if-not-has_one_form.true))) in
+    sym joined ∙ (ap₂ go_together (sym is) (ap files_in (sym same)) ∙ (ap (go_together own) filed ∙ (sym c.go_together.ensures ∙ c.if-not-go_together.true))) in
     absurd (cc both_ways)
 
 -- no action has this name and this form

@@ -1,6 +1,6 @@
 /* usage: calls CALL FILE ROUNDS [CATALOG bytes|loaded]: processor time of one call of the library, in seconds, the best of nine batches of
  * so many; with a catalogue, by its bytes, or by a handle that has loaded it before. Built with WRAPPED, the most bytes that a call has of
- * malloc at once. */
+ * malloc at once, beside what the handle has. */
 #include "cozgelt.h"
 #ifdef WRAPPED
 #include "../../checks/library/wrapped.h"
@@ -30,6 +30,9 @@ int main(int words, char **word) {
     CozgeltAnswer answer = COZGELT_ANSWER;
     CozgeltCatalog loaded = COZGELT_CATALOG;
     if (by_handle && cozgelt_catalog_load(&limits, tables, tables_length, &loaded, &answer)) return 1;
+#ifdef WRAPPED
+    size_t before = peak = held;
+#endif
     long rounds = atol(word[3]);
     double best = 1e9;
     for (int batch = 0; batch < 9; batch++) {
@@ -47,7 +50,7 @@ int main(int words, char **word) {
         if (each < best) best = each;
     }
 #ifdef WRAPPED
-    printf("%zu\n", peak);
+    printf("%zu\n", peak - before);
 #else
     printf("%.9f\n", best);
 #endif

@@ -114,7 +114,7 @@ module _ (limits : Rules) where
   abbrev read : State → Reading
   read s = reading_by (step limits) size s
 
-  in-turn : (s : State) → read s ≡ next_reading read (step limits s)
+  pub in-turn : (s : State) → read s ≡ next_reading read (step limits s)
   in-turn s = reading_by-step (step limits) size (each_step_falls limits) s
 
   alike-by : (o w : Step State) → Alike o w → ((t u : ℕ) (wants : Wants) (c : Cursor) → Leaves o (top_state t wants c) → read (top_state t wants c) ≡ read (top_state u wants c))
@@ -123,7 +123,7 @@ module _ (limits : Rules) where
   alike-by _ _ (on t u wants c) same = same t u wants c (after_nothing (top_state t wants c))
 
   -- wherever the last value began
-  top-alike : (n t u : ℕ) (wants : Wants) (c : Cursor) → length c.rest < n → read (top_state t wants c) ≡ read (top_state u wants c)
+  pub top-alike : (n t u : ℕ) (wants : Wants) (c : Cursor) → length c.rest < n → read (top_state t wants c) ≡ read (top_state u wants c)
   top-alike zero t u wants c less = absurd (omega (arith, less))
   top-alike (suc n) t u wants c less =
       in-turn (top_state t wants c)

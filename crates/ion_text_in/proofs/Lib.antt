@@ -91,3 +91,6 @@ mod FirmLobs
 mod FirmTokens
 mod FirmSteps
 mod FirmReading
+mod FirmRows
+mod Elsewhere
+mod ElsewhereSteps

@@ -3,7 +3,7 @@ use Rattle.std.specs.Prelude.{◌≡◌, ℕ, ◌+◌, Bool, true, false, not, �
 use Rattle.ion_meter.specs.declared.profile.Rules.{Rules}
 use Rattle.ion_meter.specs.Sources.{Cursor}
 use Rattle.ion_value.specs.Name.{is_one_of}
-use Rattle.ion_value.specs.Reading.{Finished, items_then}
+use Rattle.ion_value.specs.Reading.{Finished, items_then, further}
 use Rattle.ion_value.specs.Value as value
 use Rattle.ion_value.specs.Value.{SymbolAt, Scalar, Head, PlacedItem}
 use Rattle.ion_text_in.specs.Blanks.{is_white}
@@ -97,3 +97,8 @@ abbrev pub CutAfterFirm : Type 0
 CutAfterFirm =
     (limits : Rules) (y z : List ℕ) (items : List PlacedItem) → reading limits y ≡ items_then items Finished → ends_line y ≡ true → ends_firmly items ≡ true
     → reading limits (y ++ z) ≡ items_then items (reading_from limits (at (length y) z))
+
+-- nothing in what is read hangs on where its bytes begin, but the places
+abbrev pub NothingHangsOnPlaces : Type 0
+NothingHangsOnPlaces =
+    (limits : Rules) (place far : ℕ) (rest : List ℕ) → reading_from limits (at (place + far) rest) ≡ further far (reading_from limits (at place rest))

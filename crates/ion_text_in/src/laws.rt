@@ -1,7 +1,7 @@
 //! Laws of the grammar and the reading of the text form, each the contract of a function that does
 //! nothing.
 ghost use Rattle.ion_text_in.specs.Beginnings.{IdentifiersAreCut, IdentifiersEnd, NumbersAreCut, NumbersEnd, OneBegins, OperatorsAreCut, OperatorsEnd, WhatBegins, WhereNoneBegins};
-ghost use Rattle.ion_text_in.specs.Firm.{CutAfterFirm, CutWhereOneBegins, FirmEnds, LinesAreReadApart, NoneGoesOn};
+ghost use Rattle.ion_text_in.specs.Firm.{CutAfterFirm, CutWhereOneBegins, FirmEnds, LinesAreReadApart, NoneGoesOn, NothingHangsOnPlaces};
 ghost use Rattle.ion_text_in.specs.Meaning.{Base64IsRead, BlobsAreBase64, BoolTextIsRead, ClobTextIsRead, DecimalTextIsRead, FloatTextIsRead, IdIsRead, IdWordIsRead, IntTextIsRead, NullTextIsRead, PlainSymbolIsRead, QuotedSymbolIsRead, StringTextIsRead, TimestampTextIsRead, TokensAreRaw, TokensWithinAreRead};
 ghost use Rattle.ion_text_in.specs.ReadWithin.{ValuesReadAreWithin, WhatIsReadIsWithin};
 ghost use Rattle.ion_text_in.specs.Scanning.{BlanksChangeNoStep, EachPieceTakes, GroupsInTurn, PiecesInTurn, PlainBytesAreSpelled, SegmentsInTurn};
@@ -238,4 +238,10 @@ pub fn lines_are_read_apart()
 pub fn lines_are_cut()
     ensures begun { CutWhereOneBegins }
     ensures firm { CutAfterFirm }
+{}
+
+/// Nothing in what is read hangs on where the bytes begin, but the places of the items and of the
+/// refusal.
+pub fn nothing_hangs_on_places()
+    ensures { NothingHangsOnPlaces }
 {}

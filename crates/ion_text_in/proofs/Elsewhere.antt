@@ -20,6 +20,7 @@ use Rattle.ion_text_in.specs.Quoted.{Quote, Piece, char, close, illegal, cut, sy
 use Rattle.ion_text_in.specs.Scanning.{Spelled, with_front}
 use Rattle.ion_text_in.specs.Token as tokens
 use Rattle.ion_text_in.specs.Token.{First, a_word, a_quoted, a_short, a_long, a_run, a_lob, an_operator, an_infinity, a_begin, an_end, a_comma, a_colon, two_colons, no_token, Token, plain, float, name, text, operator, in_run, in_operator, bytes_of, word_of, counted, run_token, word_token, mark, token_of}
+use Rattle.ion_text_in.proofs.FirmLobs.{four, of_group}
 
 module _ (far : ℕ) where
   -- a cursor so many bytes further on
@@ -204,12 +205,6 @@ module _ (far : ℕ) where
   to-moved c rest =
       let place : c.place + far + (length c.rest - length rest) ≡ c.place + (length c.rest - length rest) + far = omega arith in
       ap (λ (p : ℕ). record { place = p; rest = rest }) place
-
-  abbrev four : (ℕ → Bool → Cursor → Spelled) → Option ℕ → ℕ → Cursor → List ℕ → Spelled
-  four read limit count d bytes = refuse (passes limit (count + length bytes)) ScalarLimit >> with_front bytes (read (count + length bytes) (nat_lt (length bytes) 3) d)
-
-  abbrev of_group : (ℕ → Bool → Cursor → Spelled) → Option ℕ → ℕ → Bool → List ℕ → Cursor → Spelled
-  of_group read limit count padded group d = if nat_lt (length group) 4 then lob.last_group group d else (lob.group_bytes padded group >>= (λ bytes. four read limit count d bytes))
 
   group-moved : (read : ℕ → Bool → Cursor → Spelled) (limit : Option ℕ) (count : ℕ) (padded : Bool) (group : List ℕ) (d : Cursor)
       → ((n : ℕ) (b : Bool) (d : Cursor) → read n b (moved d) ≡ moved_after (read n b d)) → of_group read limit count padded group (moved d) ≡ moved_after (of_group read limit count padded group d)

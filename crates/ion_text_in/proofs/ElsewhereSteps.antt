@@ -1,5 +1,5 @@
 -- What is read of some bytes is the same wherever they begin, but for its places: steps, and a reading.
-use Rattle.std.proofs.Common.{◌≡◌, ℕ, zero, suc, ◌+◌, ◌<◌, Bool, true, false, not, List, [], ◌∷◌, ◌++◌, length, map, option_map, nat_le, nat_lt, sum_by, Option, Some, None, Result, Ok, Err, refl, sym, ap, ap₂, ◌∙◌, arith}
+use Rattle.std.proofs.Common.{◌≡◌, ℕ, zero, suc, ◌+◌, ◌<◌, Bool, true, false, not, List, [], ◌∷◌, ◌++◌, length, map, option_map, nat_le, nat_lt, if◌then◌else◌, sum_by, Option, Some, None, Result, Ok, Err, refl, sym, ap, ap₂, ◌∙◌, arith}
 use Rattle.std.proofs.lemmas.List.{map-append}
 use Rattle.std.proofs.lemmas.List.Sums.{sum_by-append, sum_by-cons}
 use Rattle.std.specs.Result.{IfOk}
@@ -15,18 +15,19 @@ use Rattle.ion_value.specs.declared.ion_type.Kind.{Kind}
 use Rattle.ion_value.specs.declared.ion_type.Kind.TheVariants as kind
 use Rattle.ion_value.specs.declared.timestamp.Timestamp.{Timestamp}
 use Rattle.ion_value.specs.FloatText.{float_of_text}
+use Rattle.ion_value.specs.Further.{symbol_further, item_further, further}
 use Rattle.ion_value.specs.Int.{int_of_text}
 use Rattle.ion_value.specs.Decimal.{decimal_of_text}
 use Rattle.ion_value.specs.Timestamp.{timestamp_of_text}
 use Rattle.ion_value.specs.Name.{Keyword, a_null, a_bool, a_nan, keyword}
 use Rattle.ion_value.specs.Parts.{Placed, part, refuse, ◌>>=◌, ◌>>◌}
-use Rattle.ion_value.specs.Reading.{Reading, Finished, Stopped, More, Step, Ends, Stops, Gives, GoesOn, Leaves, after_item, after_nothing, next_reading, reading_by, symbol_further, item_further, further}
+use Rattle.ion_value.specs.Reading.{Reading, Finished, Stopped, More, Step, Ends, Stops, Gives, GoesOn, Leaves, after_item, after_nothing, next_reading, reading_by}
 use Rattle.ion_value.specs.Scalar.{scalar_of_run, scalar_of_readings}
 use Rattle.ion_value.specs.Value as value
 use Rattle.ion_value.specs.Value.{Symbol, SymbolAt, Scalar, Head, map_scalar, map_head}
 use Rattle.ion_value.proofs.WentWell.{if-any, if-more, if-passed, if-then}
 use Rattle.ion_text_in.specs.Blanks.{blanks}
-use Rattle.ion_text_in.specs.Firm.{NothingHangsOnPlaces}
+use Rattle.ion_text_in.specs.Firm.{NothingHangsOnPlaces, PartsAreTexts}
 use Rattle.ion_text_in.specs.Limit.{passes}
 use Rattle.ion_text_in.specs.Lob.{lob_at}
 use Rattle.ion_text_in.specs.Meaning as cursors
@@ -38,7 +39,7 @@ use Rattle.ion_text_in.specs.Token as tokens
 use Rattle.ion_text_in.specs.Token.{First, a_word, a_quoted, a_short, a_long, a_run, a_lob, an_operator, an_infinity, a_begin, an_end, a_comma, a_colon, two_colons, no_token, first_at, Token, plain, float, name, text, operator, begin, end, comma, found_float, bytes_of, word_of, in_run, counted, run_token, word_token, token_of}
 use Rattle.ion_text_in.proofs.Elsewhere.{moved, moved_cursor, skip-moved, blanks-moved, moved_after, moved_option, token-moved}
 use Rattle.ion_text_in.proofs.Falling.{each_step_falls}
-use Rattle.ion_text_in.proofs.FirmReading.{top_state, in-turn, top-alike}
+use Rattle.ion_text_in.proofs.FirmReading.{read, in-turn, top-alike}
 use Rattle.ion_text_in.proofs.RunTokens.{if-scalar}
 use Rattle.ion_text_in.proofs.Shrinking.{LobOf, any-lob}
 
@@ -151,8 +152,8 @@ module _ (far : ℕ) where
       ≡ moved_step (reading.item_step kinds top field annotations p head after wants c)
   item-moved kinds top field annotations p head after wants c same =
       ap₂ (λ (top : ℕ) (wants : Wants).
-          Gives (reading.item_of top (option_map (symbol_further far) field) (moved_symbols annotations) (p + far) (map_head (symbol_further far) head))
-          (record { kinds = after; top = top; wants = wants; cursor = moved far c }))
+      Gives (reading.item_of top (option_map (symbol_further far) field) (moved_symbols annotations) (p + far) (map_head (symbol_further far) head))
+      (record { kinds = after; top = top; wants = wants; cursor = moved far c }))
       (top-moved kinds top annotations p) same
 
   member-moved : (k : Option Kind) → reading.after_member k ≡ moved_wants (reading.after_member k)
@@ -245,10 +246,10 @@ module _ (far : ℕ) where
       ≡ moved_result (reading.with_annotation limits kinds top field annotations a c)
   annotation-moved limits kinds top field annotations a c =
       ap (λ (all : List SymbolAt). refuse (nat_lt limits.scalar (sum_by cost all)) reason.AnnotationLimit
-          >> Ok (reading.onward_step kinds (top + far) (a_value (option_map (symbol_further far) field) all) (moved far c)))
+      >> Ok (reading.onward_step kinds (top + far) (a_value (option_map (symbol_further far) field) all) (moved far c)))
       (more-moved annotations a)
       ∙ ap (λ (n : ℕ). refuse (nat_lt limits.scalar n) reason.AnnotationLimit
-          >> Ok (reading.onward_step kinds (top + far) (a_value (option_map (symbol_further far) field) (moved_symbols (annotations ++ a ∷ []))) (moved far c)))
+      >> Ok (reading.onward_step kinds (top + far) (a_value (option_map (symbol_further far) field) (moved_symbols (annotations ++ a ∷ []))) (moved far c)))
       (costs-moved (annotations ++ a ∷ []))
       ∙ refused-moved (nat_lt limits.scalar (sum_by cost (annotations ++ a ∷ []))) reason.AnnotationLimit _ _ refl
 
@@ -341,20 +342,17 @@ module _ (far : ℕ) where
   -- ---- a reading
 
   module _ (limits : Rules) where
-    abbrev read : State → Reading
-    read s = reading_by (step limits) size s
-
-    turn-moved : (o : Step State) → ((t : State) → Leaves o t → read (moved_state t) ≡ further far (read t)) → next_reading read (moved_step o) ≡ further far (next_reading read o)
+    turn-moved : (o : Step State) → ((t : State) → Leaves o t → read limits (moved_state t) ≡ further far (read limits t)) → next_reading (read limits) (moved_step o) ≡ further far (next_reading (read limits) o)
     turn-moved Ends same = refl
     turn-moved (Stops why place) same = refl
     turn-moved (Gives item t) same = ap (More (item_further far item)) (same t (after_item item t))
     turn-moved (GoesOn t) same = same t (after_nothing t)
 
-    read-moved : (n : ℕ) (s : State) → length s.cursor.rest < n → read (moved_state s) ≡ further far (read s)
+    read-moved : (n : ℕ) (s : State) → length s.cursor.rest < n → read limits (moved_state s) ≡ further far (read limits s)
     read-moved zero s less = absurd (omega (arith, less))
     read-moved (suc n) s less =
         in-turn limits (moved_state s)
-        ∙ ap (next_reading read) (step-moved limits s)
+        ∙ ap (next_reading (read limits)) (step-moved limits s)
         ∙ turn-moved (step limits s) (λ t leaves. let falls : length t.cursor.rest < length s.cursor.rest = each_step_falls limits s t leaves in read-moved n t (omega (arith, less, falls)))
         ∙ sym (ap (further far) (in-turn limits s))
 
@@ -362,3 +360,9 @@ pub nothing-hangs-on-places : NothingHangsOnPlaces
 nothing-hangs-on-places limits place far rest =
     top-alike limits (suc (length rest)) 0 (0 + far) (a_value None []) (cursors.at (place + far) rest) (omega arith)
     ∙ read-moved far limits (suc (length rest)) (start_at (cursors.at place rest)) (omega arith)
+
+pub parts-are-texts : PartsAreTexts
+unfolding reading.reading
+parts-are-texts limits place rest =
+    let same : place ≡ 0 + place = omega arith in
+    ap (λ (p : ℕ). reading_from limits (cursors.at p rest)) same ∙ nothing-hangs-on-places limits 0 place rest

@@ -46,6 +46,14 @@ closed-is c d e = by c.rest refl e
         let same : skip 2 c ≡ d = cc parts.1 in
         record { more = more; rest = is ∙ ap₂ (λ (b k : ℕ). b ∷ k ∷ more) (eqb-true b 125 both.0) (eqb-true k 125 both.1); after = sym same }
 
+-- four characters: their bytes, and what is read after them
+abbrev pub four : (ℕ → Bool → Cursor → Spelled) → Option ℕ → ℕ → Cursor → List ℕ → Spelled
+four read limit count d bytes = refuse (passes limit (count + length bytes)) ScalarLimit >> with_front bytes (read (count + length bytes) (nat_lt (length bytes) 3) d)
+
+-- a group that is taken off, and the others
+abbrev pub of_group : (ℕ → Bool → Cursor → Spelled) → Option ℕ → ℕ → Bool → List ℕ → Cursor → Spelled
+of_group read limit count padded group d = if nat_lt (length group) 4 then lob.last_group group d else (lob.group_bytes padded group >>= (λ bytes. four read limit count d bytes))
+
 module _ (z : List ℕ) where
   closed-stays : (c d : Cursor) → Line c.rest → lob.closed_at c ≡ Ok d → (lob.closed_at (followed z c) ≡ Ok (followed z d)) × Leads c d
   closed-stays c d l e =
@@ -53,7 +61,7 @@ module _ (z : List ℕ) where
       let line : Line is.more = line-tail 125 is.more (line-tail 125 (125 ∷ is.more) (subst Line is.rest l) (λ e. omega (arith, e))) (λ e. omega (arith, e)) in
       let less : 2 < length c.rest = omega (arith, ap length is.rest, line-some is.more line) in (
         ap (λ (rest : List ℕ). lob.closed_at (at c.place (rest ++ z))) is.rest
-        ∙ sym (ap {B = Result Cursor Reason} (λ (d : Cursor). Ok (followed z d)) (is.after ∙ ap (λ (rest : List ℕ). skip 2 (at c.place rest)) is.rest)),
+            ∙ sym (ap {B = Result Cursor Reason} (λ (d : Cursor). Ok (followed z d)) (is.after ∙ ap (λ (rest : List ℕ). skip 2 (at c.place rest)) is.rest)),
         subst (λ (d : Cursor). Leads c d) (sym is.after) (leads-skip 2 c l less),
       )
 
@@ -68,8 +76,10 @@ module _ (z : List ℕ) where
   group-by : (b : ℕ) (bytes : List ℕ) (skips ends : Bool) (x y u v : List ℕ × List ℕ) → (0 < length x.1 → u ≡ (x.0, x.1 ++ z)) → (0 < length y.1 → v ≡ (y.0, y.1 ++ z))
       → 0 < length (elim skips as (λ _. List ℕ × List ℕ) [ true ↦ x | false ↦ elim ends as (λ _. List ℕ × List ℕ) [ true ↦ ([], b ∷ bytes) | false ↦ (b ∷ y.0, y.1) ] ]).1
       → (elim skips as (λ _. List ℕ × List ℕ) [ true ↦ u | false ↦ elim ends as (λ _. List ℕ × List ℕ) [ true ↦ ([], b ∷ (bytes ++ z)) | false ↦ (b ∷ v.0, v.1) ] ])
-      ≡ ((elim skips as (λ _. List ℕ × List ℕ) [ true ↦ x | false ↦ elim ends as (λ _. List ℕ × List ℕ) [ true ↦ ([], b ∷ bytes) | false ↦ (b ∷ y.0, y.1) ] ]).0,
-      (elim skips as (λ _. List ℕ × List ℕ) [ true ↦ x | false ↦ elim ends as (λ _. List ℕ × List ℕ) [ true ↦ ([], b ∷ bytes) | false ↦ (b ∷ y.0, y.1) ] ]).1 ++ z)
+      ≡ (
+        (elim skips as (λ _. List ℕ × List ℕ) [ true ↦ x | false ↦ elim ends as (λ _. List ℕ × List ℕ) [ true ↦ ([], b ∷ bytes) | false ↦ (b ∷ y.0, y.1) ] ]).0,
+        (elim skips as (λ _. List ℕ × List ℕ) [ true ↦ x | false ↦ elim ends as (λ _. List ℕ × List ℕ) [ true ↦ ([], b ∷ bytes) | false ↦ (b ∷ y.0, y.1) ] ]).1 ++ z,
+      )
   group-by b bytes true ends x y u v ex ey some = ex some
   group-by b bytes false true x y u v ex ey some = refl
   group-by b bytes false false x y u v ex ey some = ap (λ (v : List ℕ × List ℕ). (b ∷ v.0, v.1)) (ey some)
@@ -116,14 +126,6 @@ module _ (z : List ℕ) where
   last-ends : (group : List ℕ) (c : Cursor) → c.rest ≡ [] → lob.last_group group c ≡ Err Truncated
   last-ends [] c none = ap {B = Spelled} (λ (rest : List ℕ). (lob.braces rest >> Ok (skip 2 c)) >>= (λ d. Ok ([], d))) none
   last-ends (b ∷ group) c none = ap {B = Spelled} (λ (rest : List ℕ). (lob.braces rest >> Ok (skip 2 c)) >> Err BadLob) none
-
-  -- four characters: their bytes, and what is read after them
-  abbrev four : (ℕ → Bool → Cursor → Spelled) → Option ℕ → ℕ → Cursor → List ℕ → Spelled
-  four read limit count d bytes = refuse (passes limit (count + length bytes)) ScalarLimit >> with_front bytes (read (count + length bytes) (nat_lt (length bytes) 3) d)
-
-  -- a group that is taken off, and the others
-  abbrev of_group : (ℕ → Bool → Cursor → Spelled) → Option ℕ → ℕ → Bool → List ℕ → Cursor → Spelled
-  of_group read limit count padded group d = if nat_lt (length group) 4 then lob.last_group group d else (lob.group_bytes padded group >>= (λ bytes. four read limit count d bytes))
 
   abbrev StaysEach : (ℕ → Bool → Cursor → Spelled) → (ℕ → Bool → Cursor → Spelled) → Type 0
   StaysEach read more = (n : ℕ) (b : Bool) (d : Cursor) → Line d.rest → Stays z {A = List ℕ} d (read n b d) (more n b (followed z d))
@@ -190,10 +192,10 @@ module _ (z : List ℕ) where
           let line = group-line 4 c.rest (inr l) some in
           let leads = to-leads c (group_of 4 c.rest).1 line (let all = group-counts 4 c.rest in omega (arith, all)) in
           subst (λ (g : List ℕ × List ℕ). Stays z {A = List ℕ} c (of_group read limit count padded (group_of 4 c.rest).0 (lob.after_to c (group_of 4 c.rest).1))
-              (of_group more limit count padded g.0 (lob.after_to (followed z c) g.1)))
+          (of_group more limit count padded g.0 (lob.after_to (followed z c) g.1)))
           (sym (group-same 4 c.rest some))
           (subst (λ (d : Cursor). Stays z {A = List ℕ} c (of_group read limit count padded (group_of 4 c.rest).0 (lob.after_to c (group_of 4 c.rest).1))
-              (of_group more limit count padded (group_of 4 c.rest).0 d))
+          (of_group more limit count padded (group_of 4 c.rest).0 d))
           (sym (to-followed c (group_of 4 c.rest).1))
           (stays-from z Always c (lob.after_to c (group_of 4 c.rest).1) (of_group read limit count padded (group_of 4 c.rest).0 (lob.after_to c (group_of 4 c.rest).1))
           (of_group more limit count padded (group_of 4 c.rest).0 (followed z (lob.after_to c (group_of 4 c.rest).1))) leads
@@ -237,9 +239,9 @@ module _ (z : List ℕ) where
       let on = closed-stays b d closes.line parts.1 in
       let whole : lob.are_cut_quotes (b.rest ++ z) ≡ false = ap (λ (rest : List ℕ). lob.are_cut_quotes (rest ++ z)) is.rest in (
         ap (lob.clob_closed_at is_long) (after-stays z is_white c closes.less)
-        ∙ ap (λ (cut : Bool). refuse (is_long && cut) Truncated >> lob.closed_at (followed z b)) whole
-        ∙ ap (λ (cut : Bool). refuse cut Truncated >> lob.closed_at (followed z b)) (none-after is_long)
-        ∙ on.0,
+            ∙ ap (λ (cut : Bool). refuse (is_long && cut) Truncated >> lob.closed_at (followed z b)) whole
+            ∙ ap (λ (cut : Bool). refuse cut Truncated >> lob.closed_at (followed z b)) (none-after is_long)
+            ∙ on.0,
         leads-then c b d (white-leads z c l closes.less) on.1,
       )
 

@@ -14,7 +14,7 @@ use Rattle.ion_value.specs.Value as value
 use Rattle.ion_value.specs.Value.{Symbol, SymbolAt, Scalar, Head, PlacedItem}
 use Rattle.ion_value.proofs.Readings.{reading_by-step}
 use Rattle.ion_text_in.specs.Blanks.{is_white, blank_at, no_blank, blanks, blanks_at}
-use Rattle.ion_text_in.specs.Firm.{ends_line, is_firm, ends_firmly, begins_value, goes_on, last_goes_on, LinesAreReadApart, NoneGoesOn, FirmEnds, CutWhereOneBegins, CutAfterFirm}
+use Rattle.ion_text_in.specs.Firm.{ends_line, is_firm, ends_firmly, begins_value, head_goes_on, last_goes_on, LinesAreReadApart, NoneGoesOn, FirmEnds, CutWhereOneBegins, CutAfterFirm}
 use Rattle.ion_text_in.specs.Meaning as cursors
 use Rattle.ion_text_in.specs.Positions.{at, Wants, a_value, a_field, a_separator, State, innermost, in_sexp}
 use Rattle.ion_text_in.specs.Quoted.{long_quote, next_segment}
@@ -111,7 +111,7 @@ module _ (limits : Rules) (t u : ℕ) where
 
 module _ (limits : Rules) where
   -- all that is read from a state on
-  abbrev read : State → Reading
+  abbrev pub read : State → Reading
   read s = reading_by (step limits) size s
 
   pub in-turn : (s : State) → read s ≡ next_reading read (step limits s)
@@ -183,7 +183,7 @@ module _ (limits : Rules) where
         let firm = blanks-firm z s.cursor last (inr l) blank in
         let place : last.place ≡ s.cursor.place + length s.cursor.rest = omega (arith, firm.2, ap length none) in
         let here : blanks (followed z s.cursor) ≡ blanks (after s.cursor) =
-            firm.0 ∙ ap (λ (rest : List ℕ). blanks (cursors.at last.place (rest ++ z))) none ∙ ap (λ (p : ℕ). blanks (cursors.at p z)) place in
+        firm.0 ∙ ap (λ (rest : List ℕ). blanks (cursors.at last.place (rest ++ z))) none ∙ ap (λ (p : ℕ). blanks (cursors.at p z)) place in
         in-turn (grown z s)
         ∙ ap (next_reading read) (blank-step s (after s.cursor) here)
         ∙ sym (in-turn (record { kinds = s.kinds; top = s.top; wants = s.wants; cursor = after s.cursor }))
@@ -198,14 +198,14 @@ module _ (limits : Rules) where
 
     -- the last item goes on with nothing
     alone : (s t : State) (item first : PlacedItem) (items : List PlacedItem) (come : Comes t items) → item ≡ first → Leads s.cursor t.cursor
-        → last_goes_on (first ∷ items) (after s.cursor) ≡ false → come.last.rest ≡ [] → (t.kinds ≡ []) × (goes_on item.head (cursors.at come.last.place z) ≡ false)
+        → last_goes_on (first ∷ items) (after s.cursor) ≡ false → come.last.rest ≡ [] → (t.kinds ≡ []) × (head_goes_on item.head (cursors.at come.last.place z) ≡ false)
     alone s t item first items come same leads quiet none =
         let so = come.ends none in
         let firm = blanks-firm z t.cursor come.last (inr leads.line) come.blank in
         let place : come.last.place ≡ s.cursor.place + length s.cursor.rest = omega (arith, firm.2, leads.total, ap length none) in
-        let only : goes_on first.head (after s.cursor) ≡ false = subst (λ (items : List PlacedItem). last_goes_on (first ∷ items) (after s.cursor) ≡ false) so.2 quiet in (
+        let only : head_goes_on first.head (after s.cursor) ≡ false = subst (λ (items : List PlacedItem). last_goes_on (first ∷ items) (after s.cursor) ≡ false) so.2 quiet in (
           so.0,
-          ap (λ (i : PlacedItem). goes_on i.head (cursors.at come.last.place z)) same ∙ ap (λ (p : ℕ). goes_on first.head (cursors.at p z)) place ∙ only,
+          ap (λ (i : PlacedItem). head_goes_on i.head (cursors.at come.last.place z)) same ∙ ap (λ (p : ℕ). head_goes_on first.head (cursors.at p z)) place ∙ only,
         )
 
     firm-by : (s : State) (o w : Step State) (items : List PlacedItem) → Line s.cursor.rest → step limits s ≡ o → step limits (grown z s) ≡ w → StepStays z s.cursor o w
@@ -234,10 +234,10 @@ module _ (limits : Rules) where
     firm-reads (suc n) s items less l e quiet =
         from-last s items l e quiet (comes s items e)
         (λ t others leaves leads e quiet.
-            let falls : length t.cursor.rest < length s.cursor.rest = each_step_falls limits s t leaves in
-            let here : after t.cursor ≡ after s.cursor = ap (λ (p : ℕ). cursors.at p z) (sym leads.total) in
-            firm-reads n t others (omega (arith, less, falls)) leads.line e (ap (last_goes_on others) here ∙ quiet)
-            ∙ ap (λ (c : Cursor). items_then others (reading_from limits c)) here)
+        let falls : length t.cursor.rest < length s.cursor.rest = each_step_falls limits s t leaves in
+        let here : after t.cursor ≡ after s.cursor = ap (λ (p : ℕ). cursors.at p z) (sym leads.total) in
+        firm-reads n t others (omega (arith, less, falls)) leads.line e (ap (last_goes_on others) here ∙ quiet)
+        ∙ ap (λ (c : Cursor). items_then others (reading_from limits c)) here)
       where
         from-last : (s : State) (items : List PlacedItem) → Line s.cursor.rest → read s ≡ items_then items Finished → last_goes_on items (after s.cursor) ≡ false → Comes s items
             → ((t : State) (others : List PlacedItem) → Leaves (step limits s) t → Leads s.cursor t.cursor → read t ≡ items_then others Finished → last_goes_on others (after s.cursor) ≡ false
@@ -320,12 +320,12 @@ module _ (place b : ℕ) (bytes : List ℕ) (is : Begins b) where
   alone-quotes : is_some (next_segment (long_quote false) begun) ≡ false
   alone-quotes = rw (bare, is.no_quote) refl
 
-  scalar-alone : (body : Scalar SymbolAt) → goes_on (value.whole body) begun ≡ false
+  scalar-alone : (body : Scalar SymbolAt) → head_goes_on (value.whole body) begun ≡ false
   scalar-alone (value.symbol s) = alone-colons
   scalar-alone (value.string t) = alone-quotes
   scalar-alone body = refl
 
-  head-alone : (head : Head SymbolAt) → goes_on head begun ≡ false
+  head-alone : (head : Head SymbolAt) → head_goes_on head begun ≡ false
   head-alone (value.whole body) = scalar-alone body
   head-alone (value.begin k) = refl
   head-alone value.end = refl
@@ -342,12 +342,12 @@ none-goes-on place (b ∷ bytes) items e = last-alone place b bytes (begins-by b
 
 -- ---- firm values
 
-scalar-firm : (c : Cursor) (body : Scalar SymbolAt) → is_firm (value.whole body) ≡ true → goes_on (value.whole body) c ≡ false
+scalar-firm : (c : Cursor) (body : Scalar SymbolAt) → is_firm (value.whole body) ≡ true → head_goes_on (value.whole body) c ≡ false
 scalar-firm c (value.symbol s) e = absurd (cc e)
 scalar-firm c (value.string t) e = absurd (cc e)
 scalar-firm c body e = refl
 
-head-firm : (c : Cursor) (head : Head SymbolAt) → is_firm head ≡ true → goes_on head c ≡ false
+head-firm : (c : Cursor) (head : Head SymbolAt) → is_firm head ≡ true → head_goes_on head c ≡ false
 head-firm c (value.whole body) e = scalar-firm c body e
 head-firm c (value.begin k) e = refl
 head-firm c value.end e = refl

@@ -11,7 +11,7 @@ use Rattle.ion_value.specs.Reading.{Step, Ends, Stops, Gives, GoesOn}
 use Rattle.ion_value.specs.Value as value
 use Rattle.ion_value.specs.Value.{Symbol, SymbolAt, PlacedItem}
 use Rattle.ion_text_in.specs.Blanks.{blanks}
-use Rattle.ion_text_in.specs.Firm.{goes_on}
+use Rattle.ion_text_in.specs.Firm.{head_goes_on}
 use Rattle.ion_text_in.specs.Meaning as cursors
 use Rattle.ion_text_in.specs.Positions.{at, Wants, a_value, a_field, a_separator, State, innermost, in_sexp}
 use Rattle.ion_text_in.specs.Quoted.{long_quote, next_segment, text_at}
@@ -36,7 +36,7 @@ module _ (z : List ℕ) where
   pub record Quiet (item : PlacedItem) (after : State) : Type 0 where
     pub last : Cursor
     pub blank : blanks after.cursor ≡ Ok last
-    pub alone : last.rest ≡ [] → (after.kinds ≡ []) × (goes_on item.head (cursors.at last.place z) ≡ false)
+    pub alone : last.rest ≡ [] → (after.kinds ≡ []) × (head_goes_on item.head (cursors.at last.place z) ≡ false)
 
   -- a step by a token, and the step with more bytes after the line
   abbrev pub StepStays : Cursor → Step State → Step State → Type 0
@@ -109,9 +109,9 @@ module _ (z : List ℕ) where
           let on = stop-at d e b bytes l is there in
           let tail : Line bytes = tail-at d e b bytes l is there in
           let long : reading.field_step kinds top a (followed z d) ≡ reading.colon_of kinds top a (followed z e) (first_at false (b ∷ bytes)) =
-              ap (λ (o : Placed Cursor). o >>= (λ e. reading.colon_from kinds top a e e.rest)) on.0
-              ∙ ap (λ (rest : List ℕ). reading.colon_from kinds top a (followed z e) (rest ++ z)) there
-              ∙ ap (reading.colon_of kinds top a (followed z e)) (first_at-same z false b bytes tail) in
+          ap (λ (o : Placed Cursor). o >>= (λ e. reading.colon_from kinds top a e e.rest)) on.0
+          ∙ ap (λ (rest : List ℕ). reading.colon_from kinds top a (followed z e) (rest ++ z)) there
+          ∙ ap (reading.colon_of kinds top a (followed z e)) (first_at-same z false b bytes tail) in
           subst (λ (w : Placed (Step State)). PartStays d (reading.colon_of kinds top a e (first_at false (b ∷ bytes))) w) (sym long)
           (colon-by e (first_at false (b ∷ bytes)) on.1 (omega (arith, ap length there, line-some bytes tail)))
 
@@ -194,9 +194,9 @@ module _ (z : List ℕ) where
           → PartStays d (part p (refuse other reason.BadVersion >> Ok (reading.item_step kinds top field annotations p value.marker kinds (reading.after_member (innermost kinds)) d))) long
       marker-stays true e is none = tt
       marker-stays false e is none = (
-          λ quiet. long-none true is (colons-none kinds d quiet.last l quiet.blank quiet.alone none)
-          ∙ ap (λ (other : Bool). step_of (part p (refuse other reason.BadVersion >> Ok (reading.item_step kinds top field annotations p value.marker kinds (reading.after_member (innermost kinds)) (followed z d))))) e,
-          leads-self d l,
+        λ quiet. long-none true is (colons-none kinds d quiet.last l quiet.blank quiet.alone none)
+            ∙ ap (λ (other : Bool). step_of (part p (refuse other reason.BadVersion >> Ok (reading.item_step kinds top field annotations p value.marker kinds (reading.after_member (innermost kinds)) (followed z d))))) e,
+        leads-self d l,
       )
 
       told-stays : (told : Bool) → tells_version (innermost kinds) annotations quoted symbol ≡ told → after_colons sexp d ≡ None
@@ -209,7 +209,7 @@ module _ (z : List ℕ) where
       symbol-stays (Some e) there =
           let on = colons-some sexp d e l there in
           subst (λ (o : Option Cursor). PartStays d (part p (reading.with_annotation limits kinds top field annotations (at symbol p) e))
-              (part p (reading.symbol_step limits kinds top field annotations quoted (at symbol p) (followed z d) o)))
+          (part p (reading.symbol_step limits kinds top field annotations quoted (at symbol p) (followed z d) o)))
           (sym on.0)
           (refused-stays d p (nat_lt limits.scalar (sum_by cost (annotations ++ at symbol p ∷ []))) reason.AnnotationLimit _ _ (refl, on.1))
 
@@ -250,7 +250,7 @@ module _ (z : List ℕ) where
         from e is [] there = tt
         from e is (b ∷ bytes) there =
             let short : reading.field_step kinds top a d ≡ reading.colon_from kinds top a e (b ∷ bytes) =
-                ap (λ (o : Placed Cursor). o >>= (λ e. reading.colon_from kinds top a e e.rest)) is ∙ ap (reading.colon_from kinds top a e) there in
+            ap (λ (o : Placed Cursor). o >>= (λ e. reading.colon_from kinds top a e e.rest)) is ∙ ap (reading.colon_from kinds top a e) there in
             subst (λ (o : Placed (Step State)). PartStays c o w) short
             (subst (λ (w : Placed (Step State)). PartStays c (reading.field_step kinds top a d) w) (sym (given (next-none z d e leads.line is (λ none. absurd (cc (sym there ∙ none))))))
             (step-from c d (step_of (reading.field_step kinds top a d)) (step_of (reading.field_step kinds top a (followed z d))) leads (named-stays kinds top a d leads.line)))
@@ -266,10 +266,10 @@ module _ (z : List ℕ) where
     text-stays a_separator p c d t w leads given = tt
     text-stays a_field p c d t w leads given = field-stays p c d (at (value.Text t) p) (taken a_field p w) leads (λ none. ap (taken a_field p) (given none))
     text-stays (a_value field annotations) p c d t w leads given = (
-        λ quiet.
-            let none = next-none z d quiet.last leads.line quiet.blank (λ none. nothing-some (next_segment (long_quote false) (cursors.at quiet.last.place z)) (quiet.alone none).1) in
-            ap (λ (w : Result (Token × Cursor) Reason). step_of (taken (a_value field annotations) p w)) (given none),
-        leads,
+      λ quiet.
+          let none = next-none z d quiet.last leads.line quiet.blank (λ none. nothing-some (next_segment (long_quote false) (cursors.at quiet.last.place z)) (quiet.alone none).1) in
+          ap (λ (w : Result (Token × Cursor) Reason). step_of (taken (a_value field annotations) p w)) (given none),
+      leads,
     )
 
     long-stays : (wants : Wants) (p : ℕ) (c : Cursor) (o : Result (List ℕ × Cursor) Reason) (w : Result (Token × Cursor) Reason)
@@ -301,17 +301,17 @@ module _ (z : List ℕ) where
       let on = stop-at s.cursor c b bytes l is there in
       let tail : Line bytes = tail-at s.cursor c b bytes l is there in
       let short : part_at limits s ≡ reading.part_from limits s c (first_at (in_sexp (innermost s.kinds)) (b ∷ bytes)) =
-          ap (λ (o : Placed Cursor). o >>= (λ c. reading.part_after limits s c c.rest)) is ∙ ap (reading.part_after limits s c) there in
+      ap (λ (o : Placed Cursor). o >>= (λ c. reading.part_after limits s c c.rest)) is ∙ ap (reading.part_after limits s c) there in
       let long : part_at limits (grown s) ≡ reading.part_from limits (grown s) (followed z c) (first_at (in_sexp (innermost s.kinds)) (b ∷ bytes)) =
-          ap (λ (o : Placed Cursor). o >>= (λ c. reading.part_after limits (grown s) c c.rest)) on.0
-          ∙ ap (λ (rest : List ℕ). reading.part_after limits (grown s) (followed z c) (rest ++ z)) there
-          ∙ ap (reading.part_from limits (grown s) (followed z c)) (first_at-same z (in_sexp (innermost s.kinds)) b bytes tail) in
+      ap (λ (o : Placed Cursor). o >>= (λ c. reading.part_after limits (grown s) c c.rest)) on.0
+      ∙ ap (λ (rest : List ℕ). reading.part_after limits (grown s) (followed z c) (rest ++ z)) there
+      ∙ ap (reading.part_from limits (grown s) (followed z c)) (first_at-same z (in_sexp (innermost s.kinds)) b bytes tail) in
       subst (λ (o : Placed (Step State)). PartStays s.cursor o (part_at limits (grown s))) (sym short)
       (subst (λ (w : Placed (Step State)). PartStays s.cursor (reading.part_from limits s c (first_at (in_sexp (innermost s.kinds)) (b ∷ bytes))) w) (sym long)
       (step-from s.cursor c (step_of (reading.part_from limits s c (first_at (in_sexp (innermost s.kinds)) (b ∷ bytes))))
       (step_of (reading.part_from limits (grown s) (followed z c) (first_at (in_sexp (innermost s.kinds)) (b ∷ bytes)))) on.1
       (subst (λ (rest : List ℕ). PartStays (cursors.at c.place rest) (reading.part_from limits s (cursors.at c.place rest) (first_at (in_sexp (innermost s.kinds)) (b ∷ bytes)))
-          (reading.part_from limits (grown s) (cursors.at c.place (rest ++ z)) (first_at (in_sexp (innermost s.kinds)) (b ∷ bytes))))
+      (reading.part_from limits (grown s) (cursors.at c.place (rest ++ z)) (first_at (in_sexp (innermost s.kinds)) (b ∷ bytes))))
       (sym there)
       (part-stays limits s (first_at (in_sexp (innermost s.kinds)) (b ∷ bytes)) (may_come s.wants (first_at (in_sexp (innermost s.kinds)) (b ∷ bytes))) c.place b bytes tail
       (first-room (in_sexp (innermost s.kinds)) b bytes tail)))))

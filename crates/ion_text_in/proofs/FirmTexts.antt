@@ -180,7 +180,7 @@ module _ (z : List ℕ) where
           let is : skip (length q.closer) c ≡ d = cc e in
           let less = begins-less q.closer c.rest free l there in (
             ap {B = Option Cursor} (λ (b : Bool). if b then Some (skip (length q.closer) (followed z c)) else None) (begins-same z q.closer c.rest free l ∙ there)
-            ∙ ap Some (skip-followed z (length q.closer) c (omega (arith, less)) ∙ ap (followed z) is),
+                ∙ ap Some (skip-followed z (length q.closer) c (omega (arith, less)) ∙ ap (followed z) is),
             subst (λ (d : Cursor). Leads c d) is (leads-skip (length q.closer) c l less),
           )
       by false there e = absurd (cc e)

@@ -95,15 +95,15 @@ module _ (z : List ℕ) where
   first_at-same sexp b [] l = absurd (line-not l)
   first_at-same sexp b (c ∷ more) l =
       ap₂ (λ (long infinite : Bool).
-          if is_identifier_start b then a_word
-          else (if begins_run b (c ∷ more) then a_run
-          else (if b == 34 then a_short
-          else (if long then a_long
-          else (if b == 39 then a_quoted
-          else (if begins_with (codes "{{") (b ∷ c ∷ more) then a_lob
-          else (if infinite then an_infinity
-          else (if sexp && is_operator_byte b then an_operator
-          else punctuation b (c ∷ more)))))))))
+      if is_identifier_start b then a_word
+      else (if begins_run b (c ∷ more) then a_run
+      else (if b == 34 then a_short
+      else (if long then a_long
+      else (if b == 39 then a_quoted
+      else (if begins_with (codes "{{") (b ∷ c ∷ more) then a_lob
+      else (if infinite then an_infinity
+      else (if sexp && is_operator_byte b then an_operator
+      else punctuation b (c ∷ more)))))))))
       (begins-same z (39 ∷ 39 ∷ 39 ∷ []) (b ∷ c ∷ more) (refl, (refl, (refl, tt))) (later l)) (infinity-same (b ∷ c ∷ more) (later l))
 
   -- ---- bytes that are counted

@@ -191,7 +191,7 @@ module _ (z : List ℕ) where
     blanks-go p (b ∷ bytes) ls =
         let l : Line (b ∷ bytes) = lines-line b bytes ls in
         subst (λ (begins : Begins). Goes p (suc (length bytes)) (blanks_at p (b ∷ bytes))
-            (elim begins as (λ _. Placed Cursor) [ white ↦ blanks_at (suc p) (bytes ++ z) | line_comment ↦ in_line (suc p) (bytes ++ z) | block_comment ↦ opening p (suc p) (bytes ++ z) | no_blank ↦ here p (b ∷ (bytes ++ z)) ]))
+        (elim begins as (λ _. Placed Cursor) [ white ↦ blanks_at (suc p) (bytes ++ z) | line_comment ↦ in_line (suc p) (bytes ++ z) | block_comment ↦ opening p (suc p) (bytes ++ z) | no_blank ↦ here p (b ∷ (bytes ++ z)) ]))
         (sym (blank-same b bytes l))
         (goes-by p b bytes (blank_at b bytes) l refl (blanks-go (suc p) bytes (line-next b bytes l)) (λ l. line-go (suc p) bytes l) (opening-go p (suc p) bytes (line-next b bytes l)))
 

@@ -2,8 +2,9 @@
 use Rattle.std.specs.Prelude.{◌≡◌, ℕ, ◌+◌, Bool, true, false, not, ◌||◌, ◌==◌, List, [], ◌∷◌, ◌++◌, length, codes, is_some}
 use Rattle.ion_meter.specs.declared.profile.Rules.{Rules}
 use Rattle.ion_meter.specs.Sources.{Cursor}
+use Rattle.ion_value.specs.Further.{further}
 use Rattle.ion_value.specs.Name.{is_one_of}
-use Rattle.ion_value.specs.Reading.{Finished, items_then, further}
+use Rattle.ion_value.specs.Reading.{Finished, items_then}
 use Rattle.ion_value.specs.Value as value
 use Rattle.ion_value.specs.Value.{SymbolAt, Scalar, Head, PlacedItem}
 use Rattle.ion_text_in.specs.Blanks.{is_white}
@@ -45,40 +46,40 @@ abbrev pub begins_value : List ℕ → Bool
 begins_value [] = false
 begins_value (b ∷ bytes) = not (is_white b || is_one_of (codes "'/:") b)
 
--- what a scalar may go on with stands here after blanks: two colons, or the quotes of a further segment
+-- what a scalar may go on with stands after blanks: two colons, or the quotes of a further segment
 abbrev pub scalar_goes_on : Scalar SymbolAt → Cursor → Bool
 scalar_goes_on (value.symbol s) c = is_some (after_colons false c)
 scalar_goes_on (value.string bytes) c = is_some (next_segment (long_quote false) c)
 scalar_goes_on body c = false
 
--- so does an item go on here
-abbrev pub goes_on : Head SymbolAt → Cursor → Bool
-goes_on (value.whole body) c = scalar_goes_on body c
-goes_on (value.begin kind) c = false
-goes_on value.end c = false
-goes_on value.marker c = is_some (after_colons false c)
+-- what an item may go on with does
+abbrev pub head_goes_on : Head SymbolAt → Cursor → Bool
+head_goes_on (value.whole body) c = scalar_goes_on body c
+head_goes_on (value.begin kind) c = false
+head_goes_on value.end c = false
+head_goes_on value.marker c = is_some (after_colons false c)
 
--- so does the last of some items, where there is one
+-- what the last of some items may go on with does, where there is one
 abbrev pub last_goes_on : List PlacedItem → Cursor → Bool
 last_goes_on [] c = false
-last_goes_on (item ∷ []) c = goes_on item.head c
+last_goes_on (item ∷ []) c = head_goes_on item.head c
 last_goes_on (item ∷ next ∷ items) c = last_goes_on (next ∷ items) c
 
 -- ---- laws
 
--- what is read of bytes that end a line, and of others after them, is what is read of the former and then of the latter by themselves
+-- bytes that are read to their end are read so, where others follow, and then these are read from there on
 abbrev pub AreReadApart : Rules → ℕ → List ℕ → List ℕ → List PlacedItem → Type 0
 AreReadApart limits place y z items =
     reading_from limits (at place y) ≡ items_then items Finished
     → reading_from limits (at place (y ++ z)) ≡ items_then items (reading_from limits (at (place + length y) z))
 
--- so it is from each place on, where the last value before the cut does not go on after it
+-- so it is at each place where a line ends, unless the last value before it goes on after it
 abbrev pub LinesAreReadApart : Type 0
 LinesAreReadApart =
     (limits : Rules) (place : ℕ) (y z : List ℕ) (items : List PlacedItem) → ends_line y ≡ true → last_goes_on items (at (place + length y) z) ≡ false
     → AreReadApart limits place y z items
 
--- what begins a value is nothing that another goes on with
+-- no value goes on with what begins another
 abbrev pub NoneGoesOn : Type 0
 NoneGoesOn = (place : ℕ) (z : List ℕ) (items : List PlacedItem) → begins_value z ≡ true → last_goes_on items (at place z) ≡ false
 
@@ -86,13 +87,13 @@ NoneGoesOn = (place : ℕ) (z : List ℕ) (items : List PlacedItem) → begins_v
 abbrev pub FirmEnds : Type 0
 FirmEnds = (c : Cursor) (items : List PlacedItem) → ends_firmly items ≡ true → last_goes_on items c ≡ false
 
--- so a text may be cut where a line ends and a value begins
+-- so a text may be cut where a line ends and a value begins after it
 abbrev pub CutWhereOneBegins : Type 0
 CutWhereOneBegins =
     (limits : Rules) (y z : List ℕ) (items : List PlacedItem) → reading limits y ≡ items_then items Finished → ends_line y ≡ true → begins_value z ≡ true
     → reading limits (y ++ z) ≡ items_then items (reading_from limits (at (length y) z))
 
--- and, whatever follows, where a line ends and the last value before is firm
+-- and, whatever stands after it, where a line ends and the last value before it is firm
 abbrev pub CutAfterFirm : Type 0
 CutAfterFirm =
     (limits : Rules) (y z : List ℕ) (items : List PlacedItem) → reading limits y ≡ items_then items Finished → ends_line y ≡ true → ends_firmly items ≡ true
@@ -102,3 +103,7 @@ CutAfterFirm =
 abbrev pub NothingHangsOnPlaces : Type 0
 NothingHangsOnPlaces =
     (limits : Rules) (place far : ℕ) (rest : List ℕ) → reading_from limits (at (place + far) rest) ≡ further far (reading_from limits (at place rest))
+
+-- so a part is read as a text of its own, but for its places
+abbrev pub PartsAreTexts : Type 0
+PartsAreTexts = (limits : Rules) (place : ℕ) (rest : List ℕ) → reading_from limits (at place rest) ≡ further place (reading limits rest)

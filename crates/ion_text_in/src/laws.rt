@@ -1,7 +1,7 @@
 //! Laws of the grammar and the reading of the text form, each the contract of a function that does
 //! nothing.
 ghost use Rattle.ion_text_in.specs.Beginnings.{IdentifiersAreCut, IdentifiersEnd, NumbersAreCut, NumbersEnd, OneBegins, OperatorsAreCut, OperatorsEnd, WhatBegins, WhereNoneBegins};
-ghost use Rattle.ion_text_in.specs.Firm.{CutAfterFirm, CutWhereOneBegins, FirmEnds, LinesAreReadApart, NoneGoesOn, NothingHangsOnPlaces};
+ghost use Rattle.ion_text_in.specs.Firm.{CutAfterFirm, CutWhereOneBegins, FirmEnds, LinesAreReadApart, NoneGoesOn, NothingHangsOnPlaces, PartsAreTexts};
 ghost use Rattle.ion_text_in.specs.Meaning.{Base64IsRead, BlobsAreBase64, BoolTextIsRead, ClobTextIsRead, DecimalTextIsRead, FloatTextIsRead, IdIsRead, IdWordIsRead, IntTextIsRead, NullTextIsRead, PlainSymbolIsRead, QuotedSymbolIsRead, StringTextIsRead, TimestampTextIsRead, TokensAreRaw, TokensWithinAreRead};
 ghost use Rattle.ion_text_in.specs.ReadWithin.{ValuesReadAreWithin, WhatIsReadIsWithin};
 ghost use Rattle.ion_text_in.specs.Scanning.{BlanksChangeNoStep, EachPieceTakes, GroupsInTurn, PiecesInTurn, PlainBytesAreSpelled, SegmentsInTurn};
@@ -241,7 +241,8 @@ pub fn lines_are_cut()
 {}
 
 /// Nothing in what is read hangs on where the bytes begin, but the places of the items and of the
-/// refusal.
+/// refusal: a part is read as a text of its own.
 pub fn nothing_hangs_on_places()
-    ensures { NothingHangsOnPlaces }
+    ensures anywhere { NothingHangsOnPlaces }
+    ensures alone { PartsAreTexts }
 {}

@@ -1,7 +1,7 @@
 -- Readings: the items to come, and how they end.
-use Rattle.std.specs.Prelude.{ℕ, zero, suc, ◌+◌, ◌<◌, List, [], ◌∷◌}
+use Rattle.std.specs.Prelude.{ℕ, zero, suc, ◌<◌, List, [], ◌∷◌}
 use Rattle.ion_meter.specs.declared.fault.Reason.{Reason}
-use Rattle.ion_value.specs.Value.{SymbolAt, PlacedItem, map_item}
+use Rattle.ion_value.specs.Value.{PlacedItem}
 
 -- items to come one by one, and then the end of the stream, or a fault with its reason and place
 pub data Reading : Type 0 where
@@ -19,20 +19,6 @@ items_of (More item rest) = item ∷ items_of rest
 abbrev pub items_then : List PlacedItem → Reading → Reading
 items_then [] r = r
 items_then (item ∷ items) r = More item (items_then items r)
-
--- a symbol so many bytes further on
-abbrev pub symbol_further : ℕ → SymbolAt → SymbolAt
-symbol_further far s = record { symbol = s.symbol; place = s.place + far }
-
--- an item so many bytes further on, with its symbols and its top-level value
-abbrev pub item_further : ℕ → PlacedItem → PlacedItem
-item_further far item = map_item (symbol_further far) (λ place. place + far) item
-
--- a reading so many bytes further on
-abbrev pub further : ℕ → Reading → Reading
-further far Finished = Finished
-further far (Stopped reason place) = Stopped reason (place + far)
-further far (More item rest) = More (item_further far item) (further far rest)
 
 -- what one step of reading does, from a state of some type: it ends, stops at a fault, gives an item, or only goes on
 pub data Step (T : Type 0) : Type 0 where

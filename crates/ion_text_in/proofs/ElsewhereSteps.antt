@@ -1,7 +1,7 @@
 -- What is read of some bytes is the same wherever they begin, but for its places: steps, and a reading.
 use Rattle.std.proofs.Common.{◌≡◌, ℕ, zero, suc, ◌+◌, ◌<◌, Bool, true, false, not, List, [], ◌∷◌, ◌++◌, length, map, option_map, nat_le, nat_lt, if◌then◌else◌, sum_by, Option, Some, None, Result, Ok, Err, refl, sym, ap, ap₂, ◌∙◌, arith}
 use Rattle.std.proofs.lemmas.List.{map-append}
-use Rattle.std.proofs.lemmas.List.Sums.{sum_by-append, sum_by-cons}
+use Rattle.std.proofs.lemmas.List.Sums.{sum_by-cons}
 use Rattle.std.specs.Result.{IfOk}
 use lib.Ieee.{Float}
 use Rattle.ion_meter.specs.declared.fault.Reason.{Reason}
@@ -14,18 +14,17 @@ use Rattle.ion_value.specs.declared.int.Int.{Int}
 use Rattle.ion_value.specs.declared.ion_type.Kind.{Kind}
 use Rattle.ion_value.specs.declared.ion_type.Kind.TheVariants as kind
 use Rattle.ion_value.specs.declared.timestamp.Timestamp.{Timestamp}
-use Rattle.ion_value.specs.FloatText.{float_of_text}
 use Rattle.ion_value.specs.Further.{symbol_further, item_further, further}
 use Rattle.ion_value.specs.Int.{int_of_text}
 use Rattle.ion_value.specs.Decimal.{decimal_of_text}
 use Rattle.ion_value.specs.Timestamp.{timestamp_of_text}
 use Rattle.ion_value.specs.Name.{Keyword, a_null, a_bool, a_nan, keyword}
 use Rattle.ion_value.specs.Parts.{Placed, part, refuse, ◌>>=◌, ◌>>◌}
-use Rattle.ion_value.specs.Reading.{Reading, Finished, Stopped, More, Step, Ends, Stops, Gives, GoesOn, Leaves, after_item, after_nothing, next_reading, reading_by}
+use Rattle.ion_value.specs.Reading.{More, Step, Ends, Stops, Gives, GoesOn, Leaves, after_item, after_nothing, next_reading}
 use Rattle.ion_value.specs.Scalar.{scalar_of_run, scalar_of_readings}
 use Rattle.ion_value.specs.Value as value
 use Rattle.ion_value.specs.Value.{Symbol, SymbolAt, Scalar, Head, map_scalar, map_head}
-use Rattle.ion_value.proofs.WentWell.{if-any, if-more, if-passed, if-then}
+use Rattle.ion_value.proofs.WentWell.{if-any, if-passed, if-then}
 use Rattle.ion_text_in.specs.Blanks.{blanks}
 use Rattle.ion_text_in.specs.Firm.{NothingHangsOnPlaces, PartsAreTexts}
 use Rattle.ion_text_in.specs.Limit.{passes}

@@ -1,5 +1,5 @@
 -- A lob in a line is the same whatever follows the line.
-use Rattle.std.proofs.Common.{◌≡◌, ℕ, zero, suc, ◌+◌, ◌-◌, ◌<◌, ◌≤◌, Bool, true, false, not, ◌&&◌, ◌==◌, nat_lt, if◌then◌else◌, List, [], ◌∷◌, ◌++◌, length, drop, inl, inr, Option, Some, None, Result, Ok, Err, refl, sym, ap, ap₂, subst, ◌∙◌, arith}
+use Rattle.std.proofs.Common.{◌≡◌, ℕ, zero, suc, ◌+◌, ◌-◌, ◌<◌, ◌≤◌, Bool, true, false, not, ◌&&◌, ◌==◌, nat_lt, if◌then◌else◌, List, [], ◌∷◌, ◌++◌, length, drop, inr, Option, Result, Ok, Err, refl, sym, ap, ap₂, subst, ◌∙◌, arith}
 use Rattle.std.proofs.lemmas.Bool.{and_parts, not-false, eqb-true, ltb-true, ltb-false}
 use Rattle.std.proofs.lemmas.List.{length-append}
 use Rattle.ion_meter.specs.declared.fault.Reason.{Reason}
@@ -20,7 +20,7 @@ use Rattle.ion_text_in.specs.Places.{run_of, after_run}
 use Rattle.ion_text_in.specs.Quoted as quoted
 use Rattle.ion_text_in.specs.Quoted.{Quote, long_quote, short_quote, text_at}
 use Rattle.ion_text_in.specs.Scanning.{IsQuote, Spelled, with_front}
-use Rattle.ion_text_in.proofs.FirmTexts.{Always, StaysIf, Stays, NoNext, lines-some, stays-from, stays-shown, stays-as, stays-passed, stays-chosen, quotes-none, text-stays, white-leads, white-less}
+use Rattle.ion_text_in.proofs.FirmTexts.{Always, Stays, NoNext, lines-some, stays-from, stays-shown, stays-as, stays-passed, stays-chosen, quotes-none, text-stays, white-leads, white-less}
 use Rattle.ion_text_in.proofs.Lines.{Line, Lines, Leads, NoLf, begins-less, line-some, line-tail, lines-line, lines-next, drop-none, leads-then, leads-skip, followed, skip-followed, begins-same, after-stays}
 use Rattle.ion_text_in.proofs.Shrinking.{group-counts}
 

@@ -1,26 +1,25 @@
 -- A reading that comes to the end of a line goes on, where more bytes follow, as one that begins there.
-use Rattle.std.proofs.Common.{◌≡◌, ℕ, zero, suc, ◌+◌, ◌<◌, Bool, true, false, not, ◌||◌, ◌==◌, nat_lt, sum_by, is_some, if◌then◌else◌, List, [], ◌∷◌, ◌++◌, length, codes, inl, inr, Option, Some, None, Result, Ok, Err, refl, sym, ap, subst, ◌∙◌, arith}
-use Rattle.std.proofs.lemmas.Bool.{both_ways, not-true}
+use Rattle.std.proofs.Common.{◌≡◌, ℕ, zero, suc, ◌+◌, ◌<◌, Bool, true, false, not, ◌||◌, ◌==◌, nat_lt, sum_by, is_some, if◌then◌else◌, List, [], ◌∷◌, ◌++◌, length, codes, inl, inr, Option, Some, None, Ok, Err, refl, sym, ap, subst, ◌∙◌, arith}
 use Rattle.std.proofs.lemmas.Bool.Decides.{nat_tests}
 use Rattle.ion_meter.specs.declared.fault.Reason.{Reason}
 use Rattle.ion_meter.specs.declared.fault.Reason.TheVariants as reason
 use Rattle.ion_meter.specs.declared.profile.Rules.{Rules}
 use Rattle.ion_meter.specs.Sources.{Cursor, skip}
 use Rattle.ion_value.specs.declared.ion_type.Kind.{Kind}
-use Rattle.ion_value.specs.Name.{begins_with, is_identifier_start, is_one_of, is_operator_byte}
+use Rattle.ion_value.specs.Name.{begins_with, is_identifier_start, is_one_of}
 use Rattle.ion_value.specs.Parts.{Placed, part, refuse, ◌>>=◌, ◌>>◌}
 use Rattle.ion_value.specs.Reading.{Reading, Finished, Stopped, More, Step, Ends, Stops, Gives, GoesOn, Leaves, after_item, after_nothing, items_then, next_reading, reading_by}
 use Rattle.ion_value.specs.Value as value
 use Rattle.ion_value.specs.Value.{Symbol, SymbolAt, Scalar, Head, PlacedItem}
 use Rattle.ion_value.proofs.Readings.{reading_by-step}
-use Rattle.ion_text_in.specs.Blanks.{is_white, blank_at, no_blank, blanks, blanks_at}
-use Rattle.ion_text_in.specs.Firm.{ends_line, is_firm, ends_firmly, begins_value, head_goes_on, last_goes_on, LinesAreReadApart, NoneGoesOn, FirmEnds, CutWhereOneBegins, CutAfterFirm}
+use Rattle.ion_text_in.specs.Blanks.{is_white, blanks}
+use Rattle.ion_text_in.specs.Firm.{ends_line, is_firm, begins_value, head_goes_on, last_goes_on, LinesAreReadApart, NoneGoesOn, FirmEnds, CutWhereOneBegins, CutAfterFirm}
 use Rattle.ion_text_in.specs.Meaning as cursors
-use Rattle.ion_text_in.specs.Positions.{at, Wants, a_value, a_field, a_separator, State, innermost, in_sexp}
+use Rattle.ion_text_in.specs.Positions.{at, Wants, a_value, a_field, a_separator, State}
 use Rattle.ion_text_in.specs.Quoted.{long_quote, next_segment}
 use Rattle.ion_text_in.specs.Reading as reading
 use Rattle.ion_text_in.specs.Reading.{cost, may_come, colons_at, colons_after, after_colons, tells_version, take, part_at, step, step_of, size, start_at, reading_from}
-use Rattle.ion_text_in.specs.Token.{First, a_word, a_run, a_short, a_long, a_quoted, a_lob, an_infinity, an_operator, a_begin, an_end, a_comma, a_colon, two_colons, no_token, begins_run, is_infinity, punctuation, first_at, Token, plain, float, name, text, operator, begin, end, comma, token_of}
+use Rattle.ion_text_in.specs.Token.{First, a_word, a_run, a_short, a_long, a_quoted, a_lob, an_infinity, a_comma, a_colon, begins_run, is_infinity, first_at, Token, plain, float, name, text, operator, begin, end, comma, token_of}
 use Rattle.ion_text_in.proofs.After.{no-blanks}
 use Rattle.ion_text_in.proofs.Falling.{each_step_falls}
 use Rattle.ion_text_in.proofs.FirmSteps.{grown, Quiet, StepStays, step-stays}

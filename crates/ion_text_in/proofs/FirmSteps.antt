@@ -1,5 +1,5 @@
 -- A step of a reading in a line is the same whatever follows the line.
-use Rattle.std.proofs.Common.{◌≡◌, ℕ, ◌+◌, ◌<◌, ◌≤◌, Bool, true, false, not, List, [], ◌∷◌, ◌++◌, length, is_some, nat_le, nat_lt, sum_by, inl, inr, Option, Some, None, Result, Ok, Err, refl, sym, ap, subst, ◌∙◌, arith}
+use Rattle.std.proofs.Common.{◌≡◌, ℕ, ◌+◌, ◌<◌, Bool, true, false, not, List, [], ◌∷◌, ◌++◌, length, is_some, nat_le, nat_lt, sum_by, inr, Option, Some, None, Result, Ok, Err, refl, sym, ap, subst, ◌∙◌, arith}
 use lib.Ieee.{Float}
 use Rattle.ion_meter.specs.declared.fault.Reason.{Reason}
 use Rattle.ion_meter.specs.declared.fault.Reason.TheVariants as reason
@@ -17,9 +17,9 @@ use Rattle.ion_text_in.specs.Positions.{at, Wants, a_value, a_field, a_separator
 use Rattle.ion_text_in.specs.Quoted.{long_quote, next_segment, text_at}
 use Rattle.ion_text_in.specs.Reading as reading
 use Rattle.ion_text_in.specs.Reading.{cost, may_come, colons_at, colons_after, after_colons, tells_version, take, part_at, step, step_of}
-use Rattle.ion_text_in.specs.Token.{First, a_word, a_quoted, a_short, a_long, a_run, a_lob, an_operator, an_infinity, a_begin, an_end, a_comma, a_colon, two_colons, no_token, first_at, Token, plain, float, name, text, operator, begin, end, comma, token_of}
-use Rattle.ion_text_in.proofs.FirmTexts.{Always, StaysIf, Stays, NoNext, next-none}
-use Rattle.ion_text_in.proofs.FirmTokens.{Room, first-room, first_at-same, Calm, token-stays}
+use Rattle.ion_text_in.specs.Token.{First, a_long, a_colon, two_colons, first_at, Token, plain, float, name, text, operator, begin, end, comma, token_of}
+use Rattle.ion_text_in.proofs.FirmTexts.{StaysIf, Stays, NoNext, next-none}
+use Rattle.ion_text_in.proofs.FirmTokens.{Room, first-room, first_at-same, token-stays}
 use Rattle.ion_text_in.proofs.Lines.{Line, Lines, Leads, line-some, lines-line, leads-self, leads-then, leads-skip, followed, skip-followed, bare-tail, blanks-firm, blanks-stop}
 use Rattle.ion_text_in.proofs.Shrinking.{NoBlank, blanks-within}
 

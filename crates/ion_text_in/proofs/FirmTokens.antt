@@ -1,5 +1,5 @@
 -- A token in a line is the same whatever follows the line.
-use Rattle.std.proofs.Common.{◌≡◌, ℕ, suc, ◌+◌, ◌<◌, ◌≤◌, Bool, true, false, not, ◌&&◌, ◌||◌, ◌==◌, if◌then◌else◌, List, [], ◌∷◌, ◌++◌, length, drop, codes, inl, inr, Option, Some, None, Result, Ok, Err, refl, sym, ap, ap₂, subst, ◌∙◌, arith}
+use Rattle.std.proofs.Common.{◌≡◌, ℕ, suc, ◌+◌, ◌<◌, Bool, true, false, not, ◌&&◌, ◌||◌, ◌==◌, if◌then◌else◌, List, [], ◌∷◌, ◌++◌, length, drop, codes, inl, inr, Option, Some, Result, Ok, Err, refl, sym, ap, ap₂, subst, ◌∙◌, arith}
 use Rattle.std.proofs.lemmas.Bool.{and_parts, or_cases, both_ways}
 use Rattle.std.proofs.lemmas.List.{drop-append-le, length-append}
 use Rattle.std.specs.Str.{bytes_eq}
@@ -9,7 +9,7 @@ use Rattle.ion_meter.specs.declared.fault.Reason.TheVariants.{ScalarLimit}
 use Rattle.ion_meter.specs.Sources.{Cursor, skip}
 use Rattle.ion_value.specs.Digits.{first_is, has_minus}
 use Rattle.ion_value.specs.Name.{begins_with, is_identifier_start, is_identifier_byte, is_operator_byte}
-use Rattle.ion_value.specs.Parts.{refuse, ◌>>=◌, ◌>>◌}
+use Rattle.ion_value.specs.Parts.{◌>>=◌}
 use Rattle.ion_value.specs.Value as value
 use Rattle.ion_value.specs.Value.{Scalar, SymbolAt}
 use Rattle.ion_text_in.specs.Lob.{lob_at}

@@ -1,6 +1,4 @@
 use Rattle.ion_text_in.proofs.FirmReading.{cut-where-one-begins, cut-after-firm}
-use Rattle.ion_text_in.proofs.FirmRows as rows
-use Rattle.ion_text_in.proofs.Elsewhere as elsewhere
 use Rattle.ion_text_in.proofs.laws.lines_are_cut.Goals as goal
 
 pub returns : goal.returns

@@ -1,10 +1,10 @@
 -- Calls that read one after the other.
-use Rattle.std.proofs.Common.{arith, ap, refl, ◌∙◌, ◌≡◌, ℕ, List, Result, Err}
+use Rattle.std.proofs.Common.{arith, ap, refl, subst, ◌∙◌, ◌≡◌, ℕ, ◌+◌, List, length, Result, Err}
 use Rattle.ion_meter.specs.declared.device.Input.{Ghosts as InputOf}
 use Rattle.ion_meter.specs.declared.fault.Fault.{Fault}
 use Rattle.ion_meter.specs.declared.fault.Fault.TheVariants.{Refused, Memory, ReadFault, WriteFault, InputLimit}
 use Rattle.ion_meter.specs.declared.fault.Reason.{Reason}
-use Rattle.ion_meter.specs.Windows.{Incoming, left, Extends}
+use Rattle.ion_meter.specs.Windows.{AreBytes, Incoming, left, Extends}
 use Rattle.ion_meter.specs.Sources.{Cursor, cursor, Moves}
 use Rattle.ion_value.specs.Answers.{Answers}
 
@@ -27,6 +27,17 @@ moves-not device s = record {
   further = omega arith;
   total = λ h. refl;
   bytes = λ h. h;
+}
+
+-- more was read, and nothing passed over
+pub extends-moves : {I : Type 0} (device : InputOf I) (s t : Incoming I) → Extends device s t → Moves device s t
+extends-moves device s t x = record {
+  read_on = x.read_on;
+  still_observable = x.still_observable;
+  limit = x.limit;
+  further = omega (arith, x.place);
+  total = λ h. let same = ap (λ (l : List ℕ). length l) (x.same_left h) in omega (arith, x.place, same);
+  bytes = λ b h. subst AreBytes (x.same_left h) (b (x.still_observable.1 h));
 }
 
 -- the reason of one call as that of another

@@ -1,5 +1,6 @@
 -- Lines and columns, worked out.
 use Rattle.std.proofs.Common.{refl, ◌≡◌, [], ◌∷◌, ◌++◌, codes, List, ℕ}
+use Rattle.std.specs.Fmt.{digits}
 use Rattle.ion_transcode.specs.declared.to.Form.TheVariants as form
 use Rattle.ion_tool.specs.LineNumbers.{column_at, line_at, place_text}
 
@@ -69,6 +70,7 @@ column_of_bytes = refl
 
 -- what stands after the offset
 pub said_of_text : place_text form.Text text 4 ≡ codes " (line 2, column 2)"
+unfolding digits
 said_of_text = refl
 
 pub said_of_binary : place_text form.Binary text 4 ≡ []

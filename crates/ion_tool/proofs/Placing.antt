@@ -105,7 +105,7 @@ marked false None (Some m) read starts on = absurd on
 marked false (Some n) last read starts on = absurd starts
 marked true None last read starts on = absurd starts
 marked true (Some n) None read starts on = absurd on
-marked true (Some n) (Some m) read starts on = inr (refl, m, refl, on.1 [] starts)
+marked true (Some n) (Some m) read starts on = inr (refl, (m, refl, on.1 [] starts))
 
 -- without a place to blame there is no suffix
 no_suffix : (lines : Bool) (bytes read : List ℕ) (answer : Result Summary Fault) → ((r : Reason) (p : ℕ) → answer ≡ Err (Refused r p) → lines ≡ false) → IsSuffix lines bytes read answer []
@@ -165,7 +165,7 @@ module _ {I : Type 0} (input : InputOf I) (lines : Bool) (first last : Counting 
     | inl (off, none) ↦
         let nothing : found ≡ None = subst (λ (m : Option Marks). Locates place m found) none located.located in
         subst (λ (f : Option Position). HasSuffix input lines device last.device (Err (Refused r place)) (found_text f)) (sym nothing) (suffix-none (Err (Refused r place)) (λ q p e. off))
-    | inr (asked, m, some, has) ↦
+    | inr (asked, (m, some, has)) ↦
         let reached = subst (λ (x : Option Marks). IsReached input (max place 1) last.device x) some located.reached in
         let finds = subst (λ (x : Option Marks). Locates place x found) some located.located in
         subst (λ (b : Bool). HasSuffix input b device last.device (Err (Refused r place)) (found_text found)) (sym asked)

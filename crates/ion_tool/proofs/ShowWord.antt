@@ -1,5 +1,5 @@
 -- What some words ask for, worked out.
-use Rattle.std.proofs.Common.{refl, [], ◌∷◌, codes, ◌≡◌, ◌∙◌, sym, ap, inl, inr, Some, None, List, Option}
+use Rattle.std.proofs.Common.{refl, true, false, [], ◌∷◌, codes, ◌≡◌, ◌∙◌, sym, ap, inl, inr, Some, None, List, Option}
 use Rattle.clap.proofs.OnLiterals.{clap_on_literals}
 use Rattle.clap.specs.Words.{Row, Text, fault_of, subcommand_of}
 use Rattle.clap.specs.declared.error.kind.ErrorKind.TheVariants.{DisplayVersion, UnknownArgument, ValueValidation}

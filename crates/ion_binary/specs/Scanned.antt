@@ -222,6 +222,6 @@ IsCut device old place fault =
 -- an octet more is in the window, in a part at a place
 pub record Refills {I : Type 0} (device : InputOf I) (old new : Incoming I) (place : ℕ) (result : Result (Unit {0}) faults.Fault) : Type 0 where
   pub reads : Reads device old new result
-  pub kept : Extends device.rest device.observable old new
+  pub kept : Extends device old new
   pub more : (u : Unit {0}) → result ≡ Ok u → length (lent old) < length (lent new)
   pub cut : device.observable old.device → (fault : faults.Fault) → result ≡ Err fault → IsCut device old place fault

@@ -3,6 +3,7 @@ use Rattle.std.specs.Prelude.{◌≡◌, ℕ, ◌+◌, ◌^◌, ◌<◌, ◌≤�
 use Rattle.ion_meter.specs.declared.device.Input.{Ghosts as InputOf}
 use Rattle.ion_meter.specs.declared.fault.Fault.{Fault}
 use Rattle.ion_meter.specs.declared.fault.Fault.TheVariants.{Memory, ReadFault, WriteFault, InputLimit}
+use Rattle.ion_meter.specs.Devices.{ReadsOn}
 use Rattle.ion_meter.specs.Windows.{AreBytes, Incoming, left, failures_in, Extends}
 
 -- the bytes that are still to be read, and the place of the first of them
@@ -34,6 +35,7 @@ pub record Stands {I : Type 0} (s : Incoming I) : Type 0 where
 
 -- octets were passed over, each of which is a byte, or more of the device was read
 pub record Moves {I : Type 0} (device : InputOf I) (old new : Incoming I) : Type 0 where
+  pub read_on : ReadsOn device old.device new.device
   pub still_observable : device.observable new.device ↔ device.observable old.device
   pub limit : new.limit ≡ old.limit
   pub further : old.place ≤ new.place
@@ -50,7 +52,7 @@ pub record Causes (fault : Option Fault) (failures_old failures_new : ℕ) (exce
 
 -- what a call that reads does whatever it answers: nothing is passed over, and a fault is answered again
 pub record Reads {I T : Type 0} (device : InputOf I) (old new : Incoming I) (result : Result T Fault) : Type 0 where
-  pub kept : Extends device.rest device.observable old new
+  pub kept : Extends device old new
   pub well : OnOk result ((old.fault ≡ None) × (new.fault ≡ None))
   pub fault : IfErr result (λ f. new.fault ≡ Some f)
   pub again : IfSome old.fault (λ f. (result ≡ Err f) × (new ≡ old))

@@ -1,8 +1,10 @@
 -- What is seen of the windows on input and output.
 use Rattle.std.specs.Prelude.{◌≡◌, ℕ, ◌+◌, ◌-◌, ◌<◌, ◌≤◌, ◌↔◌, Bool, List, [], ◌++◌, length, take, drop, Option, None, Some, Result, Err}
 use Rattle.std.specs.List.{AllByRecursion}
+use Rattle.ion_meter.specs.declared.device.Input.{Ghosts as InputOf}
 use Rattle.ion_meter.specs.declared.fault.Fault.{Fault}
 use Rattle.ion_meter.specs.declared.fault.Fault.TheVariants.{ReadFault, WriteFault}
+use Rattle.ion_meter.specs.Devices.{ReadsOn}
 
 -- numbers that a byte can be
 abbrev pub AreBytes : List ℕ → Type 0
@@ -40,12 +42,13 @@ abbrev pub CanPass : {I : Type 0} → Incoming I → ℕ → Type 0
 CanPass s count = (count ≤ length s.buffered) × (count ≤ s.limit - s.place)
 
 -- more was read: what was in the window stays at its front, and where the device's bytes are observable, the bytes from the present place on stay
-pub record Extends {I : Type 0} (rest : I → List ℕ) (observable : I → Type 0) (old new : Incoming I) : Type 0 where
+pub record Extends {I : Type 0} (device : InputOf I) (old new : Incoming I) : Type 0 where
   pub prefix : (more : List ℕ) × (new.buffered ≡ old.buffered ++ more)
   pub place : new.place ≡ old.place
   pub limit : new.limit ≡ old.limit
-  pub still_observable : observable new.device ↔ observable old.device
-  pub same_left : observable old.device → left rest new ≡ left rest old
+  pub read_on : ReadsOn device old.device new.device
+  pub still_observable : device.observable new.device ↔ device.observable old.device
+  pub same_left : device.observable old.device → left device.rest new ≡ left device.rest old
 
 -- n bytes were passed over, numbers that a byte can be, and nothing else changed
 pub record IsPassed {I : Type 0} (old new : Incoming I) (count : ℕ) : Type 0 where

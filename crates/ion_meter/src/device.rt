@@ -10,16 +10,19 @@ pub struct Broken;
 
 /// A device that bytes come from.
 ///
-/// Contracts know three things of it: `rest`, the bytes that are left of it; `failure_count`; and
-/// `observable`, whether its bytes are observable, which no call changes. What is said of `rest`
-/// holds where they are; that a read gives no more than the slice holds, and the count, hold
-/// always.
+/// Contracts know four things of it: `rest`, the bytes that are left of it; `failure_count`;
+/// `observable`, whether its bytes are observable, which no call changes; and `yields`. What is said
+/// of `rest` holds where they are; all else holds always.
 pub trait Input {
     ghost rest: { Self → List ℕ };
 
     ghost failure_count: { Self → ℕ };
 
     ghost observable: { Self → Type 0 };
+
+    /// What a read that gives these bytes makes of the device: whatever devices of this type know
+    /// beyond their bytes.
+    ghost yields: { Self → List ℕ → Self → Type 0 };
 
     /// Reads bytes into the front of the slice and answers how many; none, into a slice that is not
     /// empty, only at the end. After `Err` the rest is as it was and the count is one more.
@@ -34,7 +37,10 @@ pub trait Input {
             (λ n. rest self.old ≡ take n into.new ++ rest self.new)
             (λ _. rest self.new ≡ rest self.old) }
         ensures end { observable self.old → IfOk result
-            (λ n. n ≡ 0 → 0 < length into.new → rest self.old ≡ []) };
+            (λ n. n ≡ 0 → 0 < length into.new → rest self.old ≡ []) }
+        ensures yields { MatchResult result
+            (λ n. yields self.old (take n into.new) self.new)
+            (λ _. yields self.old [] self.new) };
 
     /// How often the device has failed.
     fn failures(&self) -> u64

@@ -106,7 +106,7 @@ impl<I: Input, A: Allocator + Copy> Source<I, A> {
         requires well { self.old.fault ≡ None }
         requires open { self.old.ended ≡ false }
         requires short { length self.old.buffered < 16 }
-        ensures kept { Extends I.rest I.observable self.old self.new }
+        ensures kept { Extends I.Input self.old self.new }
         ensures ok { OnOk result (self.new.fault ≡ None) }
         ensures err { IfErr result (λ f. (f ≡ Fault.ReadFault) × (self.new.fault ≡ Some f)) }
         ensures count { MatchResult result
@@ -137,7 +137,7 @@ impl<I: Input, A: Allocator + Copy> Source<I, A> {
     fn reach(&mut self, ahead: usize) -> Result<(), Fault>
         requires well { self.old.fault ≡ None }
         requires near { ahead < 16 }
-        ensures kept { Extends I.rest I.observable self.old self.new }
+        ensures kept { Extends I.Input self.old self.new }
         ensures ok { OnOk result (self.new.fault ≡ None) }
         ensures stays { self.old.ended ≡ true → self.new ≡ self.old }
         ensures reached { OnOk result ((ahead < length self.new.buffered)
@@ -212,7 +212,7 @@ impl<I: Input, A: Allocator + Copy> Source<I, A> {
         ensures stays { self.old.ended ≡ true
             → (self.new.buffered ≡ self.old.buffered) × (self.new.device ≡ self.old.device)
             × (self.new.ended ≡ true) }
-        ensures kept { Extends I.rest I.observable self.old self.new }
+        ensures kept { Extends I.Input self.old self.new }
         ensures well { OnOk result ((self.old.fault ≡ None) × (self.new.fault ≡ None)) }
         ensures fault { IfErr result (λ f. self.new.fault ≡ Some f) }
         ensures again { IfSome self.old.fault (λ f. (result ≡ Err f) × (self.new ≡ self.old)) }

@@ -52,6 +52,8 @@ impl<R: Read> Input for FromRead<R> {
 
     ghost observable = { λ _. (r : R) → IsSome (R.remaining r) };
 
+    ghost yields = { λ _ _ _. Unit {0} };
+
     fn read(&mut self, into: &mut [u8]) -> Result<usize, Broken> {
         match self.reader.read(into) {
             Ok(n) => Ok(n),

@@ -54,6 +54,7 @@ pub record Gathered {R A : Type 0} (r : RawReaderOf R A) (most : ℕ) (now : Pre
 pub record LeavesReader {R A : Type 0} (r : RawReaderOf R A) (old new : R) (result : Result Bool Fault) : Type 0 where
   pub sound : r.sound new
   pub observable : r.observable new ↔ r.observable old
+  pub read_on : r.read_on old new
   pub exceeds : r.exceeds new ↔ r.exceeds old
   pub bytes_left : r.bytes_left new → r.bytes_left old
   pub depth : r.depth new ≡ r.depth old

@@ -114,6 +114,7 @@ pub record UserSteps {R A T : Type 0} (r : RawReaderOf R A) (item over : T) (old
   pub stays : r.ended old.raw → (result ≡ Ok over) × (new ≡ old) × (after ≡ before)
   -- what stays
   pub observable : r.observable new.raw ↔ r.observable old.raw
+  pub read_on : r.read_on old.raw new.raw
   pub exceeds : r.exceeds new.raw ↔ r.exceeds old.raw
   pub bytes_left : r.bytes_left new.raw → r.bytes_left old.raw
   pub depth : r.depth new.raw ≡ r.depth old.raw

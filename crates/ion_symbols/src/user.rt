@@ -225,6 +225,7 @@ impl<'c, R: RawReader<A>, A: Allocator + Copy> UserReader<'c, R, A> {
         requires ready { IsReady R.sound R.opened R.failed R.ended self.old }
         ensures ready { IsReady R.sound R.opened R.failed R.ended self.new }
         ensures observable { R.observable (raw_of self.new) ↔ R.observable (raw_of self.old) }
+        ensures read_on { R.read_on (raw_of self.old) (raw_of self.new) }
 
         // The items, and how they end.
         ensures gives { R.observable (raw_of self.old) → result ≡ Ok true
@@ -296,6 +297,7 @@ impl<'c, R: RawReader<A>, A: Allocator + Copy> UserReader<'c, R, A> {
             (R.opened (raw_of self.old)) writer.old sink.old }
         ensures ready { IsReady R.sound R.opened R.failed R.ended self.new }
         ensures observable { R.observable (raw_of self.new) ↔ R.observable (raw_of self.old) }
+        ensures read_on { R.read_on (raw_of self.old) (raw_of self.new) }
 
         // The items.
         ensures feeds { Feeds W.ValueWriter (λ item. item) (R.observable (raw_of self.old))

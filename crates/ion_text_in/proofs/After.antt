@@ -6,7 +6,7 @@ use Rattle.ion_text_in.specs.Reading.{step, part_at}
 use Rattle.ion_text_in.specs.Scanning.{BlanksChangeNoStep}
 use Rattle.ion_text_in.proofs.Shrinking.{NoBlank, blanks-within}
 
-no-blanks : (p : ℕ) (bytes : List ℕ) → NoBlank bytes → blanks_at p bytes ≡ here p bytes
+pub no-blanks : (p : ℕ) (bytes : List ℕ) → NoBlank bytes → blanks_at p bytes ≡ here p bytes
 unfolding blanks_at
 no-blanks p [] none = refl
 no-blanks p (b ∷ bytes) none = rw (none, blanks_at) refl

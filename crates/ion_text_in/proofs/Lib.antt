@@ -85,3 +85,12 @@ pub mod FeedIds
 pub mod FeedReader
 pub mod Declarations
 mod WhiteRuns
+mod Lines
+mod FirmTexts
+mod FirmLobs
+mod FirmTokens
+mod FirmSteps
+mod FirmReading
+mod FirmRows
+mod Elsewhere
+mod ElsewhereSteps

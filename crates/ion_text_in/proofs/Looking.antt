@@ -2,6 +2,7 @@
 use Rattle.std.proofs.Common.{◌≡◌, ℕ, ◌+◌, ◌-◌, ◌≤◌, List, [], ◌++◌, length, min, Option, Some, None, slice_get, refl, sym, ap, ◌∙◌, inl, inr, arith}
 use Rattle.std.proofs.lemmas.List.{length-append, length-take, append-nil, nil_from_length}
 use Rattle.std.proofs.lemmas.Option.{slice_get_cases}
+use Rattle.ion_meter.specs.declared.device.Input.{Ghosts as InputOf}
 use Rattle.ion_meter.specs.declared.fault.Fault.{Fault}
 use Rattle.ion_meter.specs.Windows.{Incoming, left, lent, lent_by, Extends}
 use Rattle.ion_text_in.specs.declared.piece.Piece.{Piece as CodePiece}
@@ -26,8 +27,8 @@ lent_by-length : (f : Option Fault) (most : ℕ) (bytes : List ℕ) → f ≡ No
 lent_by-length None most bytes e = length-take most bytes
 lent_by-length (Some f) most bytes e = absurd (cc e)
 
-pub lent-grows : {I : Type 0} (rest : I → List ℕ) (observable : I → Type 0) (s t : Incoming I) → Extends rest observable s t → s.fault ≡ None → t.fault ≡ None → length (lent s) ≤ length (lent t)
-lent-grows rest observable s t kept ws wt =
+pub lent-grows : {I : Type 0} (device : InputOf I) (s t : Incoming I) → Extends device s t → s.fault ≡ None → t.fault ≡ None → length (lent s) ≤ length (lent t)
+lent-grows device s t kept ws wt =
     let a = lent_by-length s.fault (s.limit - s.place) s.buffered ws in
     let b = lent_by-length t.fault (t.limit - t.place) t.buffered wt in
     let longer : length t.buffered ≡ length s.buffered + length kept.prefix.0 = ap (λ (l : List ℕ). length l) kept.prefix.1 ∙ length-append s.buffered kept.prefix.0 in
@@ -48,11 +49,12 @@ none-after xs ys all e le =
     sym (e ∙ ap (λ (l : List ℕ). xs ++ l) none ∙ append-nil xs)
 
 -- at the input's end the window shows all
-pub lent-all : {I : Type 0} (rest : I → List ℕ) (observable : I → Type 0) (s t : Incoming I) → Extends rest observable s t → s.fault ≡ None → t.fault ≡ None → observable s.device
-    → None ≡ slice_get (left rest s) (length (lent s)) → lent t ≡ left rest s
-lent-all rest observable s t kept ws wt h none =
+pub lent-all : {I : Type 0} (device : InputOf I) (s t : Incoming I) → Extends device s t → s.fault ≡ None → t.fault ≡ None → device.observable s.device
+    → None ≡ slice_get (left device.rest s) (length (lent s)) → lent t ≡ left device.rest s
+lent-all device s t kept ws wt h none =
+    let rest = device.rest in
     let short = no-byte (left rest s) (length (lent s)) (sym none) in
-    let grows = lent-grows rest observable s t kept ws wt in
+    let grows = lent-grows device s t kept ws wt in
     let same = kept.same_left h in
     let long : length (left rest t) ≤ length (lent t) = rw same (omega (arith, short, grows)) in
     none-after (lent t) (after_lent t.fault (t.limit - t.place) t.buffered ++ rest t.device) (left rest t) (lent-left rest t) long ∙ same

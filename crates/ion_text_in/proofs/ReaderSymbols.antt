@@ -6,6 +6,7 @@ use Rattle.ion_meter.specs.declared.device.Input.{Ghosts as InputOf}
 use Rattle.ion_meter.specs.declared.fault.Reason.TheVariants.{AnnotationLimit}
 use Rattle.ion_meter.specs.Windows.{Incoming, lent, IsPassed}
 use Rattle.ion_meter.specs.Sources.{Cursor, cursor, skip, Exceeds}
+use Rattle.ion_meter.proofs.Extending.{extends-not}
 use Rattle.ion_value.specs.declared.ion_type.Kind.{Kind}
 use Rattle.ion_value.specs.declared.item.Annotation.{Annotation}
 use Rattle.ion_value.specs.Parts.{part, refuse, ◌>>◌}
@@ -28,7 +29,6 @@ use Rattle.ion_text_in.specs.Steps.{annotations_in, comes, field_in, held_by, la
 use Rattle.ion_text_in.proofs.Holding.{causes-none}
 use Rattle.ion_text_in.proofs.ReaderAnnotations.{told-kept, costs-kept, kept-more}
 use Rattle.ion_text_in.proofs.ReaderCalls.{stepped-by}
-use Rattle.ion_text_in.proofs.Turns.{extends-not}
 
 -- ---- what it costs
 

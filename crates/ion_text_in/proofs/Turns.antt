@@ -1,6 +1,6 @@
 -- Turns of a loop that passes over bytes in the window of a source, more of the device having been read.
-use Rattle.std.proofs.Common.{◌≡◌, ℕ, ◌+◌, ◌-◌, ◌≤◌, List, [], ◌++◌, length, take, drop, None, Ok, arith, refl, sym, ap, subst, ◌∙◌}
-use Rattle.std.proofs.lemmas.List.{append_assoc, take-append-drop, length-take-le, drop-append-le, length-append, append-nil}
+use Rattle.std.proofs.Common.{◌≡◌, ℕ, ◌+◌, ◌-◌, ◌≤◌, List, ◌++◌, length, take, drop, None, Ok, arith, refl, sym, ap, subst, ◌∙◌}
+use Rattle.std.proofs.lemmas.List.{take-append-drop, length-take-le, drop-append-le, length-append}
 use Rattle.ion_meter.specs.declared.device.Input.{Ghosts as InputOf}
 use Rattle.ion_meter.specs.Windows.{Incoming, left, lent, Extends, IsGiven, IsPassed}
 use Rattle.ion_meter.specs.Sources.{Cursor, cursor, Stands, Moves}
@@ -30,7 +30,7 @@ pub record Turn {I : Type 0} (device : InputOf I) (old new : Incoming I) (run : 
   pub place : new.place ≡ old.place + length run
   pub bytes : device.observable old.device → left device.rest old ≡ run ++ left device.rest new
 
-pub turn : {I : Type 0} (device : InputOf I) (s p t : Incoming I) (bytes : List ℕ) (n : ℕ) → Stands s → Extends device.rest device.observable s p → p.fault ≡ None
+pub turn : {I : Type 0} (device : InputOf I) (s p t : Incoming I) (bytes : List ℕ) (n : ℕ) → Stands s → Extends device s p → p.fault ≡ None
     → device.failure_count p.device ≡ device.failure_count s.device + 0 → bytes ≡ lent p → n ≤ length bytes → IsPassed p t n → Turn device s t (take n bytes)
 turn device s p t bytes n stands kept well steady is fits passed =
     let there : n ≤ length (lent p) = subst (λ (l : List ℕ). n ≤ length l) is fits in
@@ -54,23 +54,12 @@ turn-then device s t run before after passed h same =
     ap (λ (l : List ℕ). before (at s.place l)) (passed.bytes h) ∙ same ∙ ap (λ (n : ℕ). after (at n (left device.rest t))) (sym passed.place)
 
 -- where the source stands after bytes of which the last was given
-pub passed-cursor : {I : Type 0} (device : InputOf I) (s p t : Incoming I) (ahead : ℕ) → Stands s → Extends device.rest device.observable s p → p.fault ≡ None → IsGiven p ahead
+pub passed-cursor : {I : Type 0} (device : InputOf I) (s p t : Incoming I) (ahead : ℕ) → Stands s → Extends device s p → p.fault ≡ None → IsGiven p ahead
     → IsPassed p t (ahead + 1) → device.observable s.device → cursor device t ≡ at (s.place + (ahead + 1)) (drop (ahead + 1) (left device.rest s))
 passed-cursor device s p t ahead stands kept well given passed h =
     let there = lent-IsGiven p ahead well given in
     let over = Passed-lent device s p t (ahead + 1) stands kept well (omega (arith, there)) passed in
     ap (λ (n : ℕ). at n (left device.rest t)) over.place ∙ ap (λ (l : List ℕ). at (s.place + (ahead + 1)) l) (over.after h)
-
--- more was read, and more again
-pub extends-then : {I : Type 0} (device : InputOf I) (s p q : Incoming I) → Extends device.rest device.observable s p → Extends device.rest device.observable p q
-    → Extends device.rest device.observable s q
-extends-then device s p q a b = record {
-  prefix = (a.prefix.0 ++ b.prefix.0, b.prefix.1 ∙ ap (λ (l : List ℕ). l ++ b.prefix.0) a.prefix.1 ∙ append_assoc s.buffered a.prefix.0 b.prefix.0);
-  place = b.place ∙ a.place;
-  limit = b.limit ∙ a.limit;
-  still_observable = (λ h. a.still_observable.0 (b.still_observable.0 h), λ h. b.still_observable.1 (a.still_observable.1 h));
-  same_left = λ h. b.same_left (a.still_observable.1 h) ∙ a.same_left h;
-}
 
 -- what stands after bytes of the window
 pub turn-after : {I : Type 0} (device : InputOf I) (p t : Incoming I) (bytes : List ℕ) (n : ℕ) → bytes ≡ lent p → n ≤ length bytes → IsPassed p t n
@@ -86,23 +75,13 @@ turn-after device p t bytes n is fits passed =
     )
 
 -- what was given is given still
-pub given-kept : {I : Type 0} (device : InputOf I) (s p : Incoming I) (ahead : ℕ) → Extends device.rest device.observable s p → IsGiven s ahead → IsGiven p ahead
+pub given-kept : {I : Type 0} (device : InputOf I) (s p : Incoming I) (ahead : ℕ) → Extends device s p → IsGiven s ahead → IsGiven p ahead
 given-kept device s p ahead kept given =
     let long = ap (λ (l : List ℕ). length l) kept.prefix.1 ∙ length-append s.buffered kept.prefix.0 in
     (omega (arith, given.0, long), omega (arith, given.1, kept.place, kept.limit))
 
--- nothing more was read
-pub extends-not : {I : Type 0} (device : InputOf I) (s : Incoming I) → Extends device.rest device.observable s s
-extends-not device s = record {
-  prefix = ([], sym (append-nil s.buffered));
-  place = refl;
-  limit = refl;
-  still_observable = (λ h. h, λ h. h);
-  same_left = λ h. refl;
-}
-
 -- a source after bytes of which the last was given
-pub gone-passed : {I : Type 0} (device : InputOf I) (s p t : Incoming I) (ahead : ℕ) → Stands s → Extends device.rest device.observable s p → p.fault ≡ None
+pub gone-passed : {I : Type 0} (device : InputOf I) (s p t : Incoming I) (ahead : ℕ) → Stands s → Extends device s p → p.fault ≡ None
     → device.failure_count p.device ≡ device.failure_count s.device + 0 → IsGiven p ahead → IsPassed p t (ahead + 1) → Gone device s t × (t.place ≡ s.place + (ahead + 1))
 gone-passed device s p t ahead stands kept well steady given passed =
     let there = lent-IsGiven p ahead well given in

@@ -31,3 +31,4 @@ pub mod Expecting
 pub mod Steps
 pub mod Waiting
 pub mod Feeding
+pub mod Firm

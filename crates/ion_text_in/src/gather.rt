@@ -81,7 +81,7 @@ fn next_part<I: Input, A: Allocator + Copy>(
     run: Run,
 ) -> Result<usize, Fault>
     requires stands { Stands source.old }
-    ensures kept { Extends I.rest I.observable source.old source.new }
+    ensures kept { Extends I.Input source.old source.new }
     ensures there { IfOk result (λ n. n ≤ length (lent source.new)) }
     ensures goes { I.observable source.old.device
         → IfOk result (GoesOver (goes_on run) (left I.rest source.new)) }

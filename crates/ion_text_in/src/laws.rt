@@ -1,6 +1,7 @@
 //! Laws of the grammar and the reading of the text form, each the contract of a function that does
 //! nothing.
 ghost use Rattle.ion_text_in.specs.Beginnings.{IdentifiersAreCut, IdentifiersEnd, NumbersAreCut, NumbersEnd, OneBegins, OperatorsAreCut, OperatorsEnd, WhatBegins, WhereNoneBegins};
+ghost use Rattle.ion_text_in.specs.Firm.{CutAfterFirm, CutWhereOneBegins, FirmEnds, LinesAreReadApart, NoneGoesOn, NothingHangsOnPlaces, PartsAreTexts};
 ghost use Rattle.ion_text_in.specs.Meaning.{Base64IsRead, BlobsAreBase64, BoolTextIsRead, ClobTextIsRead, DecimalTextIsRead, FloatTextIsRead, IdIsRead, IdWordIsRead, IntTextIsRead, NullTextIsRead, PlainSymbolIsRead, QuotedSymbolIsRead, StringTextIsRead, TimestampTextIsRead, TokensAreRaw, TokensWithinAreRead};
 ghost use Rattle.ion_text_in.specs.ReadWithin.{ValuesReadAreWithin, WhatIsReadIsWithin};
 ghost use Rattle.ion_text_in.specs.Scanning.{BlanksChangeNoStep, EachPieceTakes, GroupsInTurn, PiecesInTurn, PlainBytesAreSpelled, SegmentsInTurn};
@@ -223,3 +224,25 @@ pub fn values_read_are_within_limits()
 {
     what_is_read_is_within_limits();
 }
+
+/// Where a line ends, a text may be cut, and each part is read by itself, unless its last value before
+/// the cut goes on after it: a symbol by two colons, a string by a further segment.
+pub fn lines_are_read_apart()
+    ensures apart { LinesAreReadApart }
+    ensures begun { NoneGoesOn }
+    ensures firm { FirmEnds }
+{}
+
+/// So it may be cut where a line ends and a value begins, and whatever follows where a line ends and
+/// the last value before is no symbol, no string and no version marker.
+pub fn lines_are_cut()
+    ensures begun { CutWhereOneBegins }
+    ensures firm { CutAfterFirm }
+{}
+
+/// Nothing in what is read hangs on where the bytes begin, but the places of the items and of the
+/// refusal: a part is read as a text of its own.
+pub fn nothing_hangs_on_places()
+    ensures anywhere { NothingHangsOnPlaces }
+    ensures alone { PartsAreTexts }
+{}

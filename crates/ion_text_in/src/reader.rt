@@ -1,7 +1,9 @@
 //! The reader of texts.
 ghost use Rattle.std.specs.Prelude.{◌≡◌, ◌≢◌, ◌+◌, ◌*◌, ◌<◌, ◌≤◌, [], length, option_map, IfSome, OnOk, Option, None, Ok, true};
 ghost use Rattle.ion_meter.specs.Counts.{Counts, Shrinks};
+ghost use Rattle.ion_meter.specs.Devices.{IsReadOn};
 ghost use Rattle.ion_meter.specs.Limits.{AreChecked};
+ghost use Rattle.ion_meter.proofs.ReadOn.{read_on-not, read_on-then};
 ghost use Rattle.ion_meter.specs.Rules.{rules, strictly};
 ghost use Rattle.ion_meter.specs.Sources.{BytesAreLeft, cursor, skip, Exceeds, Stands};
 ghost use Rattle.ion_meter.specs.Windows.{left, lent};
@@ -542,6 +544,8 @@ impl<I: Input, A: Allocator + Copy> TextReader<I, A> {
 impl<I: Input, A: Allocator + Copy> RawReader<A> for TextReader<I, A> {
     ghost observable = { λ s. I.observable (source_of s).device };
 
+    ghost read_on = { λ s t. IsReadOn I.Input (source_of s).device (source_of t).device };
+
     ghost reading = { to_come_by I.Input };
 
     ghost lends = { λ s. Unit {0} };
@@ -630,4 +634,9 @@ impl<I: Input, A: Allocator + Copy> RawReader<A> for TextReader<I, A> {
     ghost one_ending = { λ s sound done. sound.0.one_ending done };
 
     ghost none_left = { λ s sound done observable. rw (sound.1 done observable).1 tt };
+
+    ghost not_read = { λ s. read_on-not I.Input (source_of s).device };
+
+    ghost read_more = { λ s t u first then. read_on-then I.Input (source_of s).device
+        (source_of t).device (source_of u).device first then };
 }

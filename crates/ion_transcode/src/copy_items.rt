@@ -103,6 +103,7 @@ pub fn copy_items<R: RawReader<A>, W: ValueWriter<O, A>, O: Output, A: Allocator
         O.Output sink.old.device sink.new.device }
     ensures bytes { OnOk result (R.bytes_left reader.old.raw) }
     ensures input { R.observable reader.new.raw ↔ R.observable reader.old.raw }
+    ensures taken { R.read_on reader.old.raw reader.new.raw }
     ensures joined { Joined R.RawReader W.ValueWriter reader.old reader.new
         writer.old writer.new result sink.new.fault }
     ensures charges { Charges meter.old meter.new

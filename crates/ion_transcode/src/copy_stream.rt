@@ -79,6 +79,7 @@ pub fn copy_stream<R: RawReader<A>, W: ValueWriter<O, A>, O: Output, A: Allocato
         (R.exceeds raw) O.Output sink.old.device sink.new.device }
     ensures bytes { OnOk result.0 (R.bytes_left raw) }
     ensures input { R.observable result.1 ↔ R.observable raw }
+    ensures taken { R.read_on raw result.1 }
     ensures stands { R.observable raw → OnOk result.0 (W.stands writer.new
         (items_of (users catalog.now limits.symbols at_start (R.reading raw)))) }
     ensures writer { StaysSound W.ValueWriter writer.old writer.new }

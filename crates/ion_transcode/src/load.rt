@@ -2,6 +2,7 @@
 ghost use Rattle.std.specs.Prelude.{◌≡◌, ◌≢◌, ◌↔◌, ◌+◌, ◌-◌, ◌*◌, ◌^◌, ◌<◌, ◌≤◌, [], ℕ, max, length, None, Err, IfOk, OnOk};
 ghost use Rattle.ion_meter.specs.declared.fault.Reason.{Reason};
 ghost use Rattle.ion_meter.specs.declared.fault.Fault.TheVariants.{Refused, Memory, ReadFault, WriteFault, InputLimit};
+ghost use Rattle.ion_meter.specs.Devices.{IsReadOn};
 ghost use Rattle.ion_meter.specs.Limits.{AreChecked};
 ghost use Rattle.ion_meter.specs.Sources.{BytesAreLeft};
 ghost use Rattle.ion_meter.specs.Windows.{left, AreBytes};
@@ -67,6 +68,7 @@ fn build<R: RawReader<A>, A: Allocator + Copy>(
         (R.exceeds raw) }
     ensures bytes { OnOk result.0 (R.bytes_left raw) }
     ensures input { R.observable result.1 ↔ R.observable raw }
+    ensures taken { R.read_on raw result.1 }
     ensures cheap { kept_in result.0 ≤ limits.symbols }
     ensures charges { Charges meter.old meter.new (R.own raw) (R.own result.1 + kept_in result.0)
         (R.most raw + 3 * limits.symbols) }
@@ -101,6 +103,7 @@ fn load_buffered<I: Input, A: Allocator + Copy>(
         (I.observable source.device → limits.input < length (left I.rest source)) }
     ensures bytes { OnOk result.0 (BytesAreLeft I.Input source) }
     ensures input { I.observable result.1 ↔ I.observable source.device }
+    ensures taken { IsReadOn I.Input source.device result.1 }
     ensures cheap { kept_in result.0 ≤ limits.symbols }
     ensures charges { Charges meter.old meter.new 4096 (kept_in result.0)
         (4096 + (share limits form.Text to.Nothing + limits.symbols)) }
@@ -139,6 +142,7 @@ fn load<I: Input, A: Allocator + Copy>(
         (I.observable input → limits.input < length (I.rest input)) }
     ensures bytes { I.observable input → OnOk result.0 (AreBytes (I.rest input)) }
     ensures input { I.observable result.1 ↔ I.observable input }
+    ensures taken { IsReadOn I.Input input result.1 }
     ensures charges { LoadCharges limits (kept_in result.0) meter.old meter.new }
 {
     let source = match Source::new(meter, limits, input) {
@@ -186,6 +190,9 @@ pub fn load_catalog<I: Input, A: Allocator + Copy>(
     ensures text { I.observable input → IfOk result.0 (λ catalog. CatalogIsText catalog) }
     ensures refused { I.observable input → (r : Reason) (p : ℕ) → result.0 ≡ Err (Refused r p)
         → HasCatalogVerdict limits (I.rest input) (Rejected r p) }
+
+    // The device that is handed back is the one that was given, after reads alone.
+    ensures taken { IsReadOn I.Input input result.1 }
 
     // Faults, only where they occurred.
     ensures memory { result.0 ≡ Err Memory → meter.old.refused < meter.new.refused }

@@ -64,6 +64,8 @@ impl Input for Drip<'_> {
 
     ghost observable = { λ _. Unit {0} };
 
+    ghost yields = { λ _ _ _. Unit {0} };
+
     fn read(&mut self, into: &mut [u8]) -> Result<usize, Broken> {
         self.calls = self.calls.saturating_add(1);
         self.written_before = self.written.get();

@@ -4,6 +4,7 @@ use Rattle.std.proofs.lemmas.Grind.{common_steps}
 use Rattle.std.proofs.Math.Seq.{take-add}
 use Rattle.std.proofs.lemmas.List.{drop-drop}
 use Rattle.ion_meter.specs.declared.device.Input.{Ghosts as InputOf}
+use Rattle.ion_meter.specs.Devices.{IsReadOn}
 use Rattle.ion_meter.specs.Windows.{AreBytes, Incoming, left, lent, Extends, IsPassed}
 use Rattle.ion_meter.proofs.Lent.{lent-CanPass, IsPassed-left, IsPassed-total}
 use Rattle.ion_meter.specs.Sources.{skip, cursor, Stands, Moves}
@@ -22,6 +23,7 @@ IsPassed-cursor device s t n h p =
 -- how it moves then
 pub IsPassed-moves : {I : Type 0} (device : InputOf I) (s t : Incoming I) (n : ℕ) → n ≤ length (lent s) → IsPassed s t n → Moves device s t
 IsPassed-moves device s t n h p = record {
+  read_on = λ first h. subst (λ d. IsReadOn device first d) (sym p.device) h;
   still_observable = (subst device.observable p.device, subst device.observable (sym p.device));
   limit = p.limit;
   further = omega (arith, p.place);
@@ -45,13 +47,14 @@ Passed-then device s t u m n a b = record {
 }
 
 -- octets that the window lends were passed over, more of the device having been read
-pub Passed-lent : {I : Type 0} (device : InputOf I) (s p t : Incoming I) (n : ℕ) → Stands s → Extends device.rest device.observable s p → p.fault ≡ None → n ≤ length (lent p) → IsPassed p t n
+pub Passed-lent : {I : Type 0} (device : InputOf I) (s p t : Incoming I) (n : ℕ) → Stands s → Extends device s p → p.fault ≡ None → n ≤ length (lent p) → IsPassed p t n
     → Passed device s t n
 Passed-lent device s p t n h kept well fits passed =
     let w = lent-CanPass p n fits in
     record {
       stands = record { well = passed.fault ∙ well; within = omega (arith, w.1, passed.place, passed.limit, kept.place, kept.limit, h.within); small = omega (arith, passed.limit, kept.limit, h.small) };
       moves = record {
+        read_on = λ first h. subst (λ d. IsReadOn device first d) (sym passed.device) (kept.read_on first h);
         still_observable = subst (λ d. device.observable d ↔ device.observable s.device) (sym passed.device) kept.still_observable;
         limit = passed.limit ∙ kept.limit;
         further = omega (arith, passed.place, kept.place);

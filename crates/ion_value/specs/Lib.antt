@@ -13,6 +13,7 @@ pub mod Scalar
 pub mod Items
 pub mod Path
 pub mod Reading
+pub mod Further
 pub mod ReadingLaws
 pub mod Parts
 pub mod Answers

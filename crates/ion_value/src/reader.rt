@@ -41,6 +41,9 @@ pub trait RawReader<A: Allocator + Copy> {
     /// Its device's bytes are observable.
     ghost observable: { Self → Type 0 };
 
+    /// Its device was read on, or not at all.
+    ghost read_on: { Self → Self → Type 0 };
+
     /// The items to come, and how they end.
     ghost reading: { Self → Reading };
 
@@ -95,6 +98,7 @@ pub trait RawReader<A: Allocator + Copy> {
         requires sound { sound self.old }
         ensures sound { sound self.new }
         ensures observable { observable self.new ↔ observable self.old }
+        ensures read_on { read_on self.old self.new }
 
         // The items, and how they end.
         ensures gives { observable self.old → result ≡ Ok true
@@ -159,6 +163,7 @@ pub trait RawReader<A: Allocator + Copy> {
             writer.old sink.old }
         ensures sound { sound self.new }
         ensures observable { observable self.new ↔ observable self.old }
+        ensures read_on { read_on self.old self.new }
 
         // The items.
         ensures feeds { Feeds W.ValueWriter (named_item (N.text names.now)) (observable self.old)
@@ -206,4 +211,10 @@ pub trait RawReader<A: Allocator + Copy> {
 
     /// What is left at the end, which is nothing, is bytes.
     ghost none_left: { (s : Self) → sound s → ended s → bytes_left s };
+
+    /// A reader that stays reads nothing of its device.
+    ghost not_read: { (s : Self) → read_on s s };
+
+    /// What two calls read is read on.
+    ghost read_more: { (a b c : Self) → read_on a b → read_on b c → read_on a c };
 }

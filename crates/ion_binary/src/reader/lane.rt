@@ -254,8 +254,8 @@ impl<I: Input, A: Allocator + Copy> BinReader<I, A> {
         count
     }
 
-    // Hands on items that the loop over most leaves, after so many values at top level. It answers how many values
-    // ended.
+    // Hands on items that the loop over most leaves, after so many values at top level: those of one run, since the
+    // next item is mostly one of most again. It answers how many values ended.
     #[inline(always)]
     pub(super) fn hand_others<N: Names, W: ValueWriter<O, A>, O: Output>(
         &mut self,
@@ -269,7 +269,12 @@ impl<I: Input, A: Allocator + Copy> BinReader<I, A> {
         ensures { HandsOn I.Input W.ValueWriter (named_item (N.text names.now)) self.old self.new
             writer.old writer.new sink.old sink.new meter.old meter.new values result }
     {
+        let place = self.source.place();
         let values = self.hand_run::<N, W, O, NOTED>(values, meter, names, writer, sink);
+        let after = self.source.place();
+        if after != place {
+            return values;
+        }
         self.hand_run::<N, W, O, QUOTED>(values, meter, names, writer, sink)
     }
 

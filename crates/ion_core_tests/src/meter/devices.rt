@@ -46,6 +46,8 @@ impl Input for Drip {
 
     ghost observable = { λ _. Unit {0} };
 
+    ghost yields = { λ _ _ _. Unit {0} };
+
     #[tactic(auto, using(ion_meter::proofs::Written::one_given))]
     fn read(&mut self, into: &mut [u8]) -> Result<usize, Broken> {
         self.calls = self.calls.saturating_add(1);

@@ -5,6 +5,7 @@ use Rattle.ion_meter.specs.Windows.{left, lent}
 use Rattle.ion_meter.proofs.Lent.{lent-take}
 use Rattle.ion_value.specs.Calls.{passed_over}
 use Rattle.ion_value.specs.Shares.{GrowsWithin}
+use Rattle.ion_value.proofs.Cursors.{extends-moves, moves-then}
 use Rattle.ion_value.proofs.GrowsWithin.{grows-then, passed-then}
 use Rattle.ion_value.proofs.Passing.{Passed, Passed-then, Passed-lent, take_on}
 use Rattle.ion_binary.proofs.body.gather.Goals as goal
@@ -113,7 +114,10 @@ pub returns-in-Ok-None-clause-plain : goal.returns-in-Ok-None-clause-plain
 returns-in-Ok-None-clause-plain g c = grind (arith, common_steps) steps 400000
 
 pub returns-in-Ok-None-clause-reads : goal.returns-in-Ok-None-clause-reads
-returns-in-Ok-None-clause-reads g c = grind (arith, common_steps) steps 1200000
+returns-in-Ok-None-clause-reads g c =
+    let moves = moves-then g.I.Input c.args.source.now c.loop-source.source c.peek.new.self c.loop-source.invariant.passed.moves
+    (extends-moves g.I.Input c.loop-source.source c.peek.new.self c.peek.ensures.kept) in
+    grind (arith, common_steps, moves) steps 1200000
 
 pub returns-in-Ok-None-clause-all : goal.returns-in-Ok-None-clause-all
 returns-in-Ok-None-clause-all g c = grind (arith, common_steps) steps 400000

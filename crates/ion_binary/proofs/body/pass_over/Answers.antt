@@ -1,6 +1,7 @@
 use Rattle.std.proofs.Common.{arith, subst, ap, ◌∙◌, ◌≡◌, ◌+◌, ◌-◌, ◌≤◌, ℕ, List, length}
 use Rattle.std.proofs.lemmas.Grind.{common_steps}
 use Rattle.ion_meter.specs.Windows.{lent}
+use Rattle.ion_value.proofs.Cursors.{extends-moves, moves-then}
 use Rattle.ion_value.proofs.Passing.{Passed, Passed-then, Passed-lent}
 use Rattle.ion_binary.proofs.body.pass_over.Goals as goal
 
@@ -23,7 +24,10 @@ loop-more-preserved g c =
     }
 
 pub returns-in-Ok-None-clause-reads : goal.returns-in-Ok-None-clause-reads
-returns-in-Ok-None-clause-reads g c = grind (arith, common_steps) steps 400000
+returns-in-Ok-None-clause-reads g c =
+    let moves = moves-then g.I.Input c.args.source.now c.loop-more.source c.peek.new.self c.loop-more.invariant.passed.moves
+    (extends-moves g.I.Input c.loop-more.source c.peek.new.self c.peek.ensures.kept) in
+    grind (arith, common_steps, moves) steps 400000
 
 pub returns-in-Ok-None-clause-plain : goal.returns-in-Ok-None-clause-plain
 returns-in-Ok-None-clause-plain g c = grind (arith, common_steps) steps 400000
@@ -35,7 +39,10 @@ pub consume-requires : goal.consume-requires
 consume-requires g c = grind (arith, common_steps)
 
 pub returns-in-Err : goal.returns-in-Err
-returns-in-Err g c = grind (arith, common_steps) steps 400000
+returns-in-Err g c =
+    let moves = moves-then g.I.Input c.args.source.now c.loop-more.source c.peek.new.self c.loop-more.invariant.passed.moves
+    (extends-moves g.I.Input c.loop-more.source c.peek.new.self c.peek.ensures.kept) in
+    grind (arith, common_steps, moves) steps 400000
 
 pub loop-more-smaller : goal.loop-more-smaller
 loop-more-smaller g c = grind (arith, common_steps) steps 400000

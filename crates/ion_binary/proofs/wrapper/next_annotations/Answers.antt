@@ -87,10 +87,14 @@ loop-limits-preserved g c =
     }
 
 pub returns-in-Err-push : goal.returns-in-Err-push
-returns-in-Err-push g c = grind (arith, common_steps) steps 400000
+returns-in-Err-push g c =
+    let moves = moves-then g.I.Input c.args.source.now c.loop-limits.source c.next_var_uint.new.source c.loop-limits.invariant.moves c.next_var_uint.ensures.reads.moves in
+    grind (arith, common_steps, moves) steps 400000
 
 pub returns-then-limits-as_slice-clause-reads : goal.returns-then-limits-as_slice-clause-reads
-returns-then-limits-as_slice-clause-reads g c = grind (arith, common_steps) steps 400000
+returns-then-limits-as_slice-clause-reads g c =
+    let moves = moves-then g.I.Input c.args.source.now c.loop-limits.source c.next_var_uint.new.source c.loop-limits.invariant.moves c.next_var_uint.ensures.reads.moves in
+    grind (arith, common_steps, moves) steps 400000
 
 pub returns-clause-reads : goal.returns-clause-reads
 returns-clause-reads g c = grind (arith, common_steps) steps 400000

@@ -119,6 +119,7 @@ items-preserved g c =
           c.items.invariant.level opens c.item-item.ensures turns;
       fresh = λ o. c.next.ensures.failed ∙ none;
       observable = (λ o. c.next.ensures.observable.1 (i.observable.0 o), λ o. i.observable.1 (c.next.ensures.observable.0 o));
+      read_on = g.met.R.RawReader.read_more c.args.raw.now c.items.raw c.next.new.self i.read_on c.next.ensures.read_on;
       coming = λ t.
           let more : r.reading c.items.raw ≡ More (r.current c.next.new.self) (r.reading c.next.new.self) = c.next.ensures.gives (i.observable.0 t) ok in
           goes_on s.catalog c.args.limit s.table d e (r.current c.next.new.self) item _ (r.reading c.items.raw) (r.reading c.next.new.self) c.check_item.result
@@ -143,7 +144,7 @@ take-requires-clause-inside g c =
     omega (arith, few)
 
 pub items-init : goal.items-init
-items-init g c = grind (arith, common_steps)
+items-init g c = grind (arith, common_steps, g.met.R.RawReader.not_read c.args.raw.now)
 
 pub next-requires-clause-room : goal.next-requires-clause-room
 next-requires-clause-room g c = search rules
@@ -155,7 +156,9 @@ pub returns-in_err-next-clause-gathered : goal.returns-in_err-next-clause-gather
 returns-in_err-next-clause-gathered g c = grind (arith, common_steps)
 
 pub returns-in_err-next-clause-leaves : goal.returns-in_err-next-clause-leaves
-returns-in_err-next-clause-leaves g c = grind (arith, common_steps)
+returns-in_err-next-clause-leaves g c =
+    let on = g.met.R.RawReader.read_more c.args.raw.now c.items.raw c.next.new.self c.items.invariant.read_on c.next.ensures.read_on in
+    grind (arith, common_steps, on)
 
 pub returns-in_err-next-clause-causes : goal.returns-in_err-next-clause-causes
 returns-in_err-next-clause-causes g c = grind (arith, common_steps)
@@ -181,7 +184,9 @@ returns-in-Err-clause-gives g c = record {
 }
 
 pub returns-in-Err-clause-leaves : goal.returns-in-Err-clause-leaves
-returns-in-Err-clause-leaves g c = grind (arith, common_steps)
+returns-in-Err-clause-leaves g c =
+    let on = g.met.R.RawReader.read_more c.args.raw.now c.items.raw c.next.new.self c.items.invariant.read_on c.next.ensures.read_on in
+    grind (arith, common_steps, on)
 
 pub returns-in-Err-clause-charges : goal.returns-in-Err-clause-charges
 returns-in-Err-clause-charges g c = grind (arith, common_steps)
@@ -214,6 +219,7 @@ returns-in-Ok-true-clause-leaves g c =
     record {
       sound = c.next.ensures.sound;
       observable = (λ o. i.observable.1 (c.next.ensures.observable.0 o), λ o. c.next.ensures.observable.1 (i.observable.0 o));
+      read_on = g.met.R.RawReader.read_more c.args.raw.now c.items.raw c.next.new.self i.read_on c.next.ensures.read_on;
       exceeds = (λ o. i.exceeds.1 (c.next.ensures.exceeds.0 o), λ o. c.next.ensures.exceeds.1 (i.exceeds.0 o));
       bytes_left = λ b. i.bytes_left (c.next.ensures.bytes_left b);
       depth = c.next.ensures.depth ∙ i.depth;
@@ -247,6 +253,7 @@ returns-in-Err-take-clause-leaves g c =
     record {
       sound = c.next.ensures.sound;
       observable = (λ o. i.observable.1 (c.next.ensures.observable.0 o), λ o. c.next.ensures.observable.1 (i.observable.0 o));
+      read_on = g.met.R.RawReader.read_more c.args.raw.now c.items.raw c.next.new.self i.read_on c.next.ensures.read_on;
       exceeds = (λ o. i.exceeds.1 (c.next.ensures.exceeds.0 o), λ o. c.next.ensures.exceeds.1 (i.exceeds.0 o));
       bytes_left = λ b. i.bytes_left (c.next.ensures.bytes_left b);
       depth = c.next.ensures.depth ∙ i.depth;
@@ -279,7 +286,9 @@ pub returns-clause-gathered : goal.returns-clause-gathered
 returns-clause-gathered g c = grind (arith, common_steps)
 
 pub returns-clause-leaves : goal.returns-clause-leaves
-returns-clause-leaves g c = grind (arith, common_steps)
+returns-clause-leaves g c =
+    let on = g.met.R.RawReader.read_more c.args.raw.now c.items.raw c.next.new.self c.items.invariant.read_on c.next.ensures.read_on in
+    grind (arith, common_steps, on)
 
 pub returns-clause-causes : goal.returns-clause-causes
 returns-clause-causes g c = grind (arith, common_steps)

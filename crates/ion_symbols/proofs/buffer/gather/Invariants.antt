@@ -13,6 +13,7 @@ invariant-items g l =
       level : length (r.opened l.raw) ≡ depth_of (declaring_of l.symbols.catalog l.buffer);
       fresh : r.failed l.fn.raw ≡ None → r.failed l.raw ≡ None;
       observable : r.observable l.fn.raw ↔ r.observable l.raw;
+      read_on : r.read_on l.fn.raw l.raw;
       coming : r.observable l.fn.raw
           → users l.symbols.catalog l.limit (record { table = l.symbols.table; mode = declaring (declaring_of l.symbols.catalog l.fn.buffer) }) (r.reading l.fn.raw)
           ≡ users l.symbols.catalog l.limit (record { table = l.symbols.table; mode = declaring (declaring_of l.symbols.catalog l.buffer) }) (r.reading l.raw);

@@ -1,12 +1,13 @@
 use Rattle.std.proofs.Common.{◌≡◌, ◌==◌, not, false, ℕ, List, Some, take, drop, get_or, slice_get, ap, ◌∙◌, arith}
 use Rattle.std.proofs.lemmas.Grind.{common_steps}
 use Rattle.ion_meter.specs.Windows.{left}
+use Rattle.ion_meter.proofs.Extending.{extends-not}
 use Rattle.ion_value.specs.Digits.{first_is}
 use Rattle.ion_text_in.specs.Blanks.{is_white, blanks}
 use Rattle.ion_text_in.proofs.BlankTurns.{found-other}
 use Rattle.ion_text_in.proofs.Runs.{ends-shown, first-shown, at-front}
 use Rattle.ion_text_in.proofs.BlankRuns.{white-over}
-use Rattle.ion_text_in.proofs.Turns.{turn, turn-then, turn-after, extends-not}
+use Rattle.ion_text_in.proofs.Turns.{turn, turn-then, turn-after}
 use Rattle.ion_text_in.proofs.WhiteRuns.{first-at, none-at, not-ended, white-passed}
 use Rattle.ion_text_in.proofs.blank.pass_blanks.Goals.{else-run-bytes-via-then-run-bytes+else-bytes-run-ne47, else-run-bytes-via-else-run-bytes}
 use Rattle.ion_text_in.proofs.blank.pass_blanks.Goals as goal

@@ -1,6 +1,7 @@
 use Rattle.std.proofs.Common.{◌≡◌, ℕ, ◌+◌, ◌≤◌, List, [], length, drop, refl, Option, None, Some, IfSome, Ok, slice_get, false, sym, ap, ◌∙◌, arith}
 use Rattle.ion_meter.specs.Windows.{Incoming, left, lent, IsGiven}
 use Rattle.ion_meter.specs.Sources.{Cursor, cursor}
+use Rattle.ion_meter.proofs.Extending.{extends-then}
 use Rattle.ion_meter.proofs.Lent.{lent-IsGiven}
 use Rattle.ion_value.proofs.Cursors.{cursor-extends}
 use Rattle.ion_value.proofs.Passing.{Passed-lent}
@@ -11,7 +12,7 @@ use Rattle.ion_text_in.specs.Overrun.{begun, overrun, stays_in, within}
 use Rattle.ion_text_in.specs.Places.{after_run}
 use Rattle.ion_text_in.proofs.BlankTurns.{after-ends, ends-before, turned-off, turned-on, within-after, within-end}
 use Rattle.ion_text_in.proofs.Runs.{first-off, no-byte}
-use Rattle.ion_text_in.proofs.Turns.{extends-then, given-kept, gone-then, reads-gone}
+use Rattle.ion_text_in.proofs.Turns.{given-kept, gone-then, reads-gone}
 use Rattle.ion_text_in.proofs.blank.pass_comments.Goals as goal
 
 pub returns-in_default-clause-gives : goal.returns-in_default-clause-gives

@@ -28,7 +28,7 @@ returns-in_default-2-clause-ahead g c = λ h.
     let peek = c.in_ok-peek.ensures in
     let seen = inv.gone.moves.still_observable.1 h in
     let here = sym (cursor-extends g.I.Input s t peek.kept seen) in
-    let all = lent-all g.I.Input.rest g.I.Input.observable s t peek.kept peek.well.0 peek.well.1 seen (rw (c.in_default-2.is, c.buffer-bytes.ensures) at (peek.gives seen)) ∙ sym (peek.kept.same_left seen) in
+    let all = lent-all g.I.Input s t peek.kept peek.well.0 peek.well.1 seen (rw (c.in_default-2.is, c.buffer-bytes.ensures) at (peek.gives seen)) ∙ sym (peek.kept.same_left seen) in
     record {
       blank = inv.blank h ∙ ap (λ (d : Cursor). overrun c.in_ok-unfinished.unfinished d) here;
       used_up = rw (peek.kept.same_left seen) (inv.used_up h);

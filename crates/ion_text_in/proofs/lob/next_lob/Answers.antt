@@ -1,5 +1,6 @@
 use Rattle.std.proofs.Common.{Some, Ok, Result, refl, ap, ◌∙◌, arith}
 use Rattle.ion_meter.specs.Sources.{Cursor, cursor}
+use Rattle.ion_meter.proofs.Extending.{extends-not}
 use Rattle.ion_meter.specs.declared.fault.Reason.{Reason}
 use Rattle.ion_value.specs.Parts.{◌>>=◌}
 use Rattle.ion_value.specs.Value.{SymbolAt, Scalar}
@@ -7,7 +8,7 @@ use Rattle.ion_text_in.specs.Tokens.{as_scalar}
 use Rattle.ion_text_in.specs.Token.{plain}
 use Rattle.ion_text_in.proofs.LobTurns.{lob-token}
 use Rattle.ion_text_in.proofs.TextTokens.{continues-answers}
-use Rattle.ion_text_in.proofs.Turns.{extends-not, passed-cursor, gone-passed}
+use Rattle.ion_text_in.proofs.Turns.{passed-cursor, gone-passed}
 use Rattle.ion_text_in.proofs.ShownFurther.{on-ok}
 use Rattle.ion_text_in.proofs.lob.next_lob.Goals as goal
 

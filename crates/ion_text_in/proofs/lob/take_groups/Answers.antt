@@ -4,11 +4,12 @@ use Rattle.std.proofs.lemmas.Bool.{le-ltb}
 use Rattle.std.proofs.lemmas.List.{length-take-le}
 use Rattle.ion_meter.specs.Windows.{left}
 use Rattle.ion_meter.specs.Sources.{cursor}
+use Rattle.ion_meter.proofs.Extending.{extends-not}
 use Rattle.ion_text_in.specs.Limit.{passes}
 use Rattle.ion_text_in.specs.Lobs.{with_groups_after, is_padded}
 use Rattle.ion_text_in.proofs.Blobs.{length-encode_of}
 use Rattle.ion_text_in.proofs.LobTurns.{block-of}
-use Rattle.ion_text_in.proofs.Turns.{turn, turn-then, extends-not}
+use Rattle.ion_text_in.proofs.Turns.{turn, turn-then}
 use Rattle.ion_text_in.proofs.lob.take_groups.Goals as goal
 
 pub consume-requires : goal.consume-requires

@@ -22,7 +22,7 @@ returns-in_default-2-clause-gives g c = λ h.
     let gives = rw (c.in_default-2.is, c.buffer-bytes.ensures) at (c.in_ok-peek.ensures.gives seen) in
     c.last_piece.ensures
     ∙ ap (λ (l : List ℕ). piece_at (quote_of c.args.quote) l)
-    (c.buffer-in_default-2.ensures ∙ lent-all g.I.Input.rest g.I.Input.observable s t c.in_ok-peek.ensures.kept c.in_ok-peek.ensures.well.0 c.in_ok-peek.ensures.well.1 seen gives
+    (c.buffer-in_default-2.ensures ∙ lent-all g.I.Input s t c.in_ok-peek.ensures.kept c.in_ok-peek.ensures.well.0 c.in_ok-peek.ensures.well.1 seen gives
     ∙ c.more.invariant.kept.same_left h)
 
 pub returns-in_default-2-clause-takes : goal.returns-in_default-2-clause-takes

@@ -4,7 +4,7 @@ use Rattle.ion_text_in.proofs.text.show_piece.Given as goal
 
 abbrev pub invariant-more : goal.invariant-more
 invariant-more g l = record {
-  kept : Extends g.I.Input.rest g.I.Input.observable l.fn.source l.source;
+  kept : Extends g.I.Input l.fn.source l.source;
   well : l.source.fault ≡ None;
   shown : 12 ≤ length (lent l.fn.source) → l.source ≡ l.fn.source;
   steady : g.I.Input.failure_count l.source.device ≡ g.I.Input.failure_count l.fn.source.device;

@@ -73,6 +73,10 @@ returns-in_err-next-clause-input g c =
     let i = c.items.invariant in
     (λ o. i.read.0 (c.next.ensures.observable.0 o), λ o. c.next.ensures.observable.1 (i.read.1 o))
 
+pub returns-in_err-next-clause-taken : goal.returns-in_err-next-clause-taken
+returns-in_err-next-clause-taken g c =
+    g.met.R.RawReader.read_more c.args.reader.now.raw c.items.reader.raw c.next.new.self.raw c.items.invariant.taken c.next.ensures.read_on
+
 pub returns-in_err-next-clause-joined : goal.returns-in_err-next-clause-joined
 returns-in_err-next-clause-joined g c =
     let i = c.items.invariant in
@@ -171,6 +175,10 @@ pub returns-in-Err-clause-input : goal.returns-in-Err-clause-input
 returns-in-Err-clause-input g c =
     let i = c.items.invariant in
     (λ o. i.read.0 (c.next.ensures.observable.0 o), λ o. c.next.ensures.observable.1 (i.read.1 o))
+
+pub returns-in-Err-clause-taken : goal.returns-in-Err-clause-taken
+returns-in-Err-clause-taken g c =
+    g.met.R.RawReader.read_more c.args.reader.now.raw c.items.reader.raw c.next.new.self.raw c.items.invariant.taken c.next.ensures.read_on
 
 pub returns-in-Err-clause-joined : goal.returns-in-Err-clause-joined
 returns-in-Err-clause-joined g c =
@@ -356,6 +364,11 @@ returns-in-Err-flush_ended-clause-input g c =
     let fed = c.feed-fed.ensures.observable in
     (λ o. i.read.0 (c.next.ensures.observable.0 (fed.0 o)), λ o. fed.1 (c.next.ensures.observable.1 (i.read.1 o)))
 
+pub returns-in-Err-flush_ended-clause-taken : goal.returns-in-Err-flush_ended-clause-taken
+returns-in-Err-flush_ended-clause-taken g c =
+    g.met.R.RawReader.read_more c.args.reader.now.raw c.next.new.self.raw c.feed-fed.new.self.raw
+    (g.met.R.RawReader.read_more c.args.reader.now.raw c.items.reader.raw c.next.new.self.raw c.items.invariant.taken c.next.ensures.read_on) c.feed-fed.ensures.read_on
+
 pub returns-in-Err-flush_ended-clause-joined : goal.returns-in-Err-flush_ended-clause-joined
 returns-in-Err-flush_ended-clause-joined g c =
     let i = c.items.invariant in
@@ -441,6 +454,8 @@ items-preserved g c =
       walk = walk-same fed (λ o. c.in-Ok.ensures.same (at_fed o)) refl;
       followed = followed-feeds w reads _ before further feeds (followed-more followed item (coming_to r.reading c.next.new.self) (r.opened c.next.new.self.raw) is after comes.opens);
       read = (λ o. i.read.0 (c.next.ensures.observable.0 (observable.0 o)), λ o. observable.1 (c.next.ensures.observable.1 (i.read.1 o)));
+      taken = g.met.R.RawReader.read_more c.args.reader.now.raw c.next.new.self.raw c.feed-fed.new.self.raw
+          (g.met.R.RawReader.read_more c.args.reader.now.raw c.items.reader.raw c.next.new.self.raw i.taken c.next.ensures.read_on) c.feed-fed.ensures.read_on;
       written = (λ o. i.written.0 (puts.still_observable.0 (subst out.observable kept.device (flushes.still_observable.0 o))), λ o. flushes.still_observable.1 (at_fed o));
       prefix = λ o. (c.flush_ended.new.sink.pending, refl);
       grown = λ o. prefix-then _ _ _ (flushes.grown (at_fed o)) (subst (λ d. HasPrefix (out.written d) (out.written c.args.sink.now.device)) (sym kept.device) (prefix-then _ _ _ (puts.grown (i.written.1 o)) (i.grown o)));
@@ -523,6 +538,10 @@ returns-clause-input g c =
     let i = c.items.invariant in
     (λ o. i.read.0 (c.next.ensures.observable.0 o), λ o. c.next.ensures.observable.1 (i.read.1 o))
 
+pub returns-clause-taken : goal.returns-clause-taken
+returns-clause-taken g c =
+    g.met.R.RawReader.read_more c.args.reader.now.raw c.items.reader.raw c.next.new.self.raw c.items.invariant.taken c.next.ensures.read_on
+
 pub returns-clause-joined : goal.returns-clause-joined
 returns-clause-joined g c =
     let i = c.items.invariant in
@@ -545,7 +564,7 @@ returns-clause-charges g c =
     i.charges c.next.ensures.charges share c.requires.room.held few
 
 pub items-init : goal.items-init
-items-init g c = grind (arith, common_steps)
+items-init g c = grind (arith, common_steps, g.met.R.RawReader.not_read c.args.reader.now.raw)
 
 pub feed-fed-requires-clause-level : goal.feed-fed-requires-clause-level
 feed-fed-requires-clause-level g c = grind (arith, common_steps)

@@ -17,6 +17,7 @@ invariant-items g l =
           (coming_to r.reading l.fn.reader) (coming_to r.reading l.reader) (so_far o.written l.fn.sink) (so_far o.written l.sink);
       followed : Followed (w.stands l.writer) (r.observable l.fn.reader.raw) (r.opened l.reader.raw) (coming_to r.reading l.fn.reader) (coming_to r.reading l.reader);
       read : r.observable l.reader.raw ↔ r.observable l.fn.reader.raw;
+      taken : r.read_on l.fn.reader.raw l.reader.raw;
       written : o.observable l.sink.device ↔ o.observable l.fn.sink.device;
       prefix : o.observable l.fn.sink.device → HasPrefix (so_far o.written l.sink) (o.written l.sink.device);
       grown : o.observable l.fn.sink.device → HasPrefix (o.written l.sink.device) (o.written l.fn.sink.device);

@@ -1,5 +1,6 @@
-use Rattle.std.proofs.Common.{arith}
+use Rattle.std.proofs.Common.{ap, ◌∙◌, arith}
 use Rattle.std.proofs.lemmas.Grind.{common_steps}
+use Rattle.ion_meter.proofs.ReadOn.{read_on-same}
 use Rattle.ion_transcode.proofs.run.transcode.Goals as goal
 
 pub returns-clause-causes : goal.returns-clause-causes
@@ -46,3 +47,11 @@ returns-in-Err-clause-gives_back g c = grind (arith, common_steps)
 
 pub release-requires-2 : goal.release-requires-2
 release-requires-2 g c = grind (arith, common_steps)
+
+pub returns-in-Err-clause-taken : goal.returns-in-Err-clause-taken
+returns-in-Err-clause-taken g c =
+    read_on-same g.I.Input c.args.input c.in-Err.input c.in-Err.ensures.err
+
+pub returns-in-Err-new-clause-taken : goal.returns-in-Err-new-clause-taken
+returns-in-Err-new-clause-taken g c =
+    read_on-same g.I.Input c.args.input c.release.result (c.release.ensures.device ∙ ap (λ s. s.device) c.in-Ok.ensures.ok)

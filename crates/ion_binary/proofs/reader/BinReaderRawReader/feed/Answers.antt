@@ -1,6 +1,7 @@
 use Rattle.std.proofs.Common.{ap, sym, subst, ◌∙◌, arith}
 use Rattle.std.proofs.lemmas.Grind.{common_steps}
 use Rattle.ion_meter.specs.declared.profile.Rules.{Rules}
+use Rattle.ion_meter.proofs.ReadOn.{read_on-same}
 use Rattle.ion_value.specs.Items.{named_item}
 use Rattle.ion_value.proofs.Handing.{finished-feeds}
 use Rattle.ion_binary.specs.Lane.{joint}
@@ -63,6 +64,7 @@ returns g c =
               nothing-left input r.source c.hand_others-values.new.self.source h.further h.total over.1,
             ),
       );
+      read_on = read_on-same input r.source.device c.hand_others-values.new.self.source.device h.keeps.device;
       observable = (λ o. subst input.observable h.keeps.device o, λ o. subst input.observable (sym h.keeps.device) o);
       feeds = h.feeds;
       level = grind (arith, common_steps);

@@ -1,7 +1,14 @@
 use Rattle.std.proofs.Common.{arith, ap, Ok}
 use Rattle.std.proofs.lemmas.Bool.{not-true}
 use Rattle.std.proofs.lemmas.Grind.{common_steps}
+use Rattle.ion_meter.proofs.ReadOn.{read_on-not, reads_on-is}
 use Rattle.ion_binary.proofs.reader.BinReaderRawReader.next.Goals as goal
+
+pub returns-in-Ok-clause-read_on : goal.returns-in-Ok-clause-read_on
+returns-in-Ok-clause-read_on g c = reads_on-is g.I.Input c.args.self.now.source.device c.advance-outcome.new.self.source.device c.advance-outcome.ensures.stepped.moves.read_on
+
+pub returns-in-Err-clause-read_on : goal.returns-in-Err-clause-read_on
+returns-in-Err-clause-read_on g c = reads_on-is g.I.Input c.args.self.now.source.device c.advance-outcome.new.self.source.device c.advance-outcome.ensures.stepped.moves.read_on
 
 pub returns-in-Ok-clause-ended : goal.returns-in-Ok-clause-ended
 returns-in-Ok-clause-ended g c = grind (arith, common_steps) steps 400000
@@ -73,10 +80,10 @@ pub returns-in-Ok-clause-refuses : goal.returns-in-Ok-clause-refuses
 returns-in-Ok-clause-refuses g c = grind (arith, common_steps) steps 400000
 
 pub returns-in-Some : goal.returns-in-Some
-returns-in-Some g c = grind (arith, common_steps) steps 400000
+returns-in-Some g c = let on = read_on-not g.I.Input c.args.self.now.source.device in grind (arith, common_steps, on) steps 400000
 
 pub returns-then-self : goal.returns-then-self
-returns-then-self g c = grind (arith, common_steps) steps 400000
+returns-then-self g c = let on = read_on-not g.I.Input c.args.self.now.source.device in grind (arith, common_steps, on) steps 400000
 
 pub returns-in-Ok-clause-goes : goal.returns-in-Ok-clause-goes
 returns-in-Ok-clause-goes g c = grind (arith, common_steps) steps 400000

@@ -1,6 +1,7 @@
 use Rattle.std.proofs.Common.{◌-◌, [], List, ℕ, take, drop, arith, sym, ◌∙◌, refl, append-nil}
 use Rattle.std.proofs.lemmas.Grind.{common_steps}
 use Rattle.ion_meter.proofs.Window.{copied_through, left_read, left_unread, read_after, read_nothing}
+use Rattle.ion_meter.proofs.ReadOn.{read_on-once, reads_on-by}
 use Rattle.ion_meter.proofs.source.Source.fill.Goals as goal
 
 pub returns-in_default-clause-kept : goal.returns-in_default-clause-kept
@@ -13,6 +14,7 @@ returns-in_default-clause-kept g c =
       prefix = ([], same ∙ sym (append-nil _));
       place = omega arith;
       limit = refl;
+      read_on = reads_on-by g.I.Input s.device c.read.new.self (read_on-once g.I.Input s.device c.read.new.self [] c.in_default.ensures.yields c.read.ensures.observable (λ t. sym (c.in_default.ensures.bytes t)));
       still_observable = c.read.ensures.observable;
       same_left = λ t. left_unread buffered _ _ _ same (c.in_default.ensures.bytes t);
     })
@@ -27,6 +29,7 @@ returns-clause-kept g c =
       prefix = (take c.in-Ok.n c.read.new.into, same);
       place = omega arith;
       limit = refl;
+      read_on = reads_on-by g.I.Input s.device c.read.new.self (read_on-once g.I.Input s.device c.read.new.self (take c.in-Ok.n c.read.new.into) c.in-Ok.ensures.yields c.read.ensures.observable c.in-Ok.ensures.bytes);
       still_observable = c.read.ensures.observable;
       same_left = λ t. left_read buffered _ (take c.in-Ok.n c.read.new.into) _ _ same (c.in-Ok.ensures.bytes t);
     })

@@ -10,6 +10,7 @@ invariant-loop-fault g l =
       ready : IsReady r.sound r.opened r.failed r.ended l.self;
       well : l.self.failed ≡ None;
       observable : r.observable l.fn.self.raw ↔ r.observable l.self.raw;
+      read_on : r.read_on l.fn.self.raw l.self.raw;
       coming : r.observable l.fn.self.raw → coming_to r.reading l.fn.self ≡ coming_to r.reading l.self;
       opened : r.opened l.self.raw ≡ r.opened l.fn.self.raw;
       stays : r.ended l.fn.self.raw → (l.self ≡ l.fn.self) × (l.meter ≡ l.fn.meter);

@@ -81,7 +81,9 @@ pub returns-in-Err-read-clause-gives : goal.returns-in-Err-read-clause-gives
 returns-in-Err-read-clause-gives g c = grind (arith, common_steps)
 
 pub returns-in-Ok-true-read-clause-steps : goal.returns-in-Ok-true-read-clause-steps
-returns-in-Ok-true-read-clause-steps g c = grind (arith, common_steps)
+returns-in-Ok-true-read-clause-steps g c =
+    let on = g.met.R.RawReader.read_more c.args.self.now.raw c.next.new.self c.read.new.raw c.next.ensures.read_on c.read.ensures.leaves.read_on in
+    grind (arith, common_steps, on)
 
 pub returns-in-Ok-false-read-clause-gives : goal.returns-in-Ok-false-read-clause-gives
 returns-in-Ok-false-read-clause-gives g c = grind (arith, common_steps)
@@ -93,7 +95,9 @@ pub returns-in-Ok-false-read-clause-causes : goal.returns-in-Ok-false-read-claus
 returns-in-Ok-false-read-clause-causes g c = grind (arith, common_steps)
 
 pub returns-in-Ok-false-read-clause-steps : goal.returns-in-Ok-false-read-clause-steps
-returns-in-Ok-false-read-clause-steps g c = grind (arith, elements)
+returns-in-Ok-false-read-clause-steps g c =
+    let on = g.met.R.RawReader.read_more c.args.self.now.raw c.next.new.self c.read.new.raw c.next.ensures.read_on c.read.ensures.leaves.read_on in
+    grind (arith, elements, on)
 
 pub returns-in-Err-check_item-2-clause-steps : goal.returns-in-Err-check_item-2-clause-steps
 returns-in-Err-check_item-2-clause-steps g c = grind (arith, elements)
@@ -153,7 +157,9 @@ returns-in-Err-read-clause-causes g c =
     (c.in-Err-read.ensures.causes c.in-Ok-true.ensures.failed)
 
 pub returns-in-Err-read-clause-steps : goal.returns-in-Err-read-clause-steps
-returns-in-Err-read-clause-steps g c = grind (arith, common_steps)
+returns-in-Err-read-clause-steps g c =
+    let on = g.met.R.RawReader.read_more c.args.self.now.raw c.next.new.self c.read.new.raw c.next.ensures.read_on c.read.ensures.leaves.read_on in
+    grind (arith, common_steps, on)
 
 pub returns-in-Ok-true-read-clause-gives : goal.returns-in-Ok-true-read-clause-gives
 returns-in-Ok-true-read-clause-gives g c = grind (arith, common_steps)
@@ -216,6 +222,7 @@ returns-clause-steps g c =
       ended = λ e. absurd (item-not-end e);
       stays = λ e. absurd (more e);
       observable = c.next.ensures.observable;
+      read_on = c.next.ensures.read_on;
       exceeds = c.next.ensures.exceeds;
       bytes_left = c.next.ensures.bytes_left;
       depth = c.next.ensures.depth;

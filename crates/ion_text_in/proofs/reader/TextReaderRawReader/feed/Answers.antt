@@ -1,7 +1,9 @@
 use Rattle.std.proofs.Common.{◌≡◌, ◌∙◌, None, sym, ap, subst, arith}
 use Rattle.std.proofs.lemmas.Grind.{common_steps}
+use Rattle.ion_meter.specs.Devices.{IsReadOn}
 use Rattle.ion_meter.specs.Sources.{BytesAreLeft, Stands}
 use Rattle.ion_meter.specs.Windows.{Incoming}
+use Rattle.ion_meter.proofs.ReadOn.{read_on-not, reads_on-is}
 use Rattle.ion_value.specs.Feeding.{nothing, Feeds, Joint}
 use Rattle.ion_value.specs.Items.{named_item}
 use Rattle.ion_value.proofs.Passing.{IsPassed-moves}
@@ -38,6 +40,17 @@ returns-clause-feeds g c =
     (record { coming = to_come_by g.I.Input x; opened = opened_in x; writer = c.args.writer.now; pending = c.args.sink.now.pending; values = 0 }) new) cleared
     (feeds-reader w g.I.Input f n (g.N.Names.text c.args.names.now) (g.I.Input.observable r.source.device) c.feed_window-values.result c.args.writer.now c.feed_window-values.new.writer
     c.args.sink.now c.feed_window-values.new.sink c.forget.new.meter c.feed_window-values.new.meter finished still same e.passed stands e.moved)
+
+pub returns-then-self-clause-read_on : goal.returns-then-self-clause-read_on
+returns-then-self-clause-read_on g c = read_on-not g.I.Input c.args.self.now.source.device
+
+pub returns-clause-read_on : goal.returns-clause-read_on
+returns-clause-read_on g c =
+    let n = c.feed_window-values.new.self in
+    let p = c.feed_window-values.ensures.passed in
+    let source : c.forget.new.self.source ≡ c.args.self.now.source = ap (λ (x : TextReader g.row.I.Denot g.row.A.Denot). x.source) c.forget.ensures.cleared in
+    subst (λ (s : Incoming g.row.I.Denot). IsReadOn g.I.Input s.device n.source.device) source
+    (reads_on-is g.I.Input c.forget.new.self.source.device n.source.device (IsPassed-moves g.I.Input c.forget.new.self.source n.source p.count p.within p.passed).read_on)
 
 pub returns-clause-bytes_left : goal.returns-clause-bytes_left
 returns-clause-bytes_left g c =

@@ -1,6 +1,19 @@
 use Rattle.std.proofs.Common.{arith}
 use Rattle.std.proofs.lemmas.Grind.{common_steps}
+use Rattle.ion_meter.proofs.ReadOn.{read_on-not, reads_on-is}
 use Rattle.ion_text_in.proofs.reader.TextReaderRawReader.next.Goals as goal
+
+pub returns-in-Ok-clause-read_on : goal.returns-in-Ok-clause-read_on
+returns-in-Ok-clause-read_on g c = reads_on-is g.I.Input c.args.self.now.source.device c.advance-outcome.new.self.source.device c.advance-outcome.ensures.stepped.moves.read_on
+
+pub returns-in-Err-clause-read_on : goal.returns-in-Err-clause-read_on
+returns-in-Err-clause-read_on g c = reads_on-is g.I.Input c.args.self.now.source.device c.advance-outcome.new.self.source.device c.advance-outcome.ensures.stepped.moves.read_on
+
+pub returns-in-Some-clause-read_on : goal.returns-in-Some-clause-read_on
+returns-in-Some-clause-read_on g c = read_on-not g.I.Input c.args.self.now.source.device
+
+pub returns-then-self-clause-read_on : goal.returns-then-self-clause-read_on
+returns-then-self-clause-read_on g c = read_on-not g.I.Input c.args.self.now.source.device
 
 pub returns-in-Ok-clause-most : goal.returns-in-Ok-clause-most
 returns-in-Ok-clause-most g c = grind (arith, common_steps) steps 400000

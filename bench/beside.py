@@ -14,7 +14,7 @@ import os
 import subprocess
 import sys
 
-from streams import OPTIONS
+from streams import COMMANDS, OPTIONS
 
 HERE = os.path.dirname(os.path.abspath(__file__))
 YARD = os.environ.get('YARD') or os.path.join(HERE, 'yard', 'target', 'release', 'yard')
@@ -46,8 +46,8 @@ def works(folder, kinds):
         for form, name in (('ion', 'text'), ('10n', 'binary')):
             path = f'{folder}/{kind}.{form}'
             if os.path.exists(path):
-                for command in ('show', 'check', 'convert'):
-                    yield [command, *OPTIONS.get(kind, []), path], path, f'| {kind} | {command} {name}'
+                for command in COMMANDS:
+                    yield [*command.split(), *OPTIONS.get(kind, []), path], path, f'| {kind} | {command} {name}'
 
 
 def main(words):

@@ -7,8 +7,9 @@ usage: bench/calls.py [PROGRAM [LIBRARY]]
 PROGRAM is crates/ion_tool/out/ion_tool where it is not named, LIBRARY the proved static library,
 crates/cozgelt_c/out/libcozgelt_c.a where it is not named ((cd crates/cozgelt_c && rt lib) builds it). A message of 175 bytes, an
 order, and 20 MB of such lines, each to binary, back to text, and checked; the best of nine batches of calls, of a call where it is
-long. A process is started by Python, which is counted too, and reads and writes pipes. It needs a C compiler and cargo. Prints a
-table in Markdown.
+long. A process is started by Python, which is counted too, and reads and writes pipes. Then, from C, the message alone, and with
+imports of two tables, where there is no catalogue, one of two tables, and one of 1,000: by its bytes, and by a handle that has loaded it.
+It needs a C compiler and cargo. Prints two tables in Markdown.
 """
 import os
 import resource
@@ -68,6 +69,43 @@ def build(library, folder):
     shutil.copy(ROOT + '/bindings/python/cozgelt.py', folder)
 
 
+TABLE = '$ion_shared_symbol_table::{name: "com.example.table_%03d", version: 1, symbols: [%s]}\n'
+NAMES = ('id', 'time', 'customer', 'lines', 'sku', 'count', 'price', 'paid')
+
+
+def table(n):
+    names = NAMES if n == 500 else ['name_%03d_%d' % (n, i) for i in range(8)]
+    return (TABLE % (n, ', '.join(f'"{name}"' for name in names))).encode()
+
+
+def time_of(folder, call, stream, rounds, *more):
+    """Processor time of a call from C, and the most memory that it asks for."""
+    with open(folder + '/stream', 'wb') as file:
+        file.write(stream)
+    found = []
+    for name, times in (('calls_c', rounds), ('calls_memory', 1)):
+        words = [f'{folder}/{name}', call, folder + '/stream', str(times), *more]
+        found.append(float(subprocess.run(words, stdout=subprocess.PIPE, check=True).stdout))
+    return found
+
+
+def with_catalogs(folder):
+    """Prints what calls cost that are given a catalogue."""
+    imports = ', '.join('{name: "com.example.table_%03d", version: 1, max_id: 8}' % n for n in (500, 501))
+    alone, importing = order(1), f'$ion_symbol_table::{{imports: [{imports}]}}\n'.encode() + order(1)
+    print('\n| Stream | Catalogue | to_binary | to_text | check | memory |\n|---|---|---|---|---|---|')
+    for stream, numbers, how in ((alone, (), 'bytes'), (alone, range(1000), 'bytes'), (alone, range(1000), 'loaded'),
+                                 (importing, (500, 501), 'bytes'), (importing, range(1000), 'bytes'), (importing, range(1000), 'loaded')):
+        with open(folder + '/tables', 'wb') as file:
+            file.write(b''.join(map(table, numbers)))
+        rounds = 200 if len(numbers) == 1000 and how == 'bytes' else 20000
+        rows = [time_of(folder, call, stream, rounds, folder + '/tables', how) for call in ('to_binary', 'to_text', 'check')]
+        what = f'{len(stream)} bytes' + (', with imports' if stream == importing else '')
+        which = f'of {len(numbers):,} tables, ' + ('its bytes' if how == 'bytes' else 'loaded before') if numbers else 'none'
+        cells = [what, which, *(shown(row[0]) for row in rows), f'{max(row[1] for row in rows) / 1e3:.1f} KB']
+        print(f'| {" | ".join(cells)} |', flush=True)
+
+
 def shown(seconds):
     return f'{seconds * 1e6:.1f} µs' if seconds < 0.01 else f'{seconds:.2f} s'
 
@@ -104,6 +142,7 @@ def main():
                 peak = int(subprocess.run(words, stdout=subprocess.PIPE, check=True).stdout)
                 memory = f'{peak / 1e3:.1f} KB' if peak < 1e6 else f'{peak / 1e6:.1f} MB'
                 print(f'| {length}, {call} | ' + ' | '.join(map(shown, cells)) + f' | {memory} |', flush=True)
+        with_catalogs(folder)
 
 
 if __name__ == '__main__':

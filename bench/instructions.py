@@ -3,7 +3,7 @@
 
 usage: bench/instructions.py ION FOLDER [KIND ..]
 
-FOLDER is made by `bench/streams.py FOLDER 2` (2 MB a file). `valgrind --tool=callgrind` counts, some six minutes for all on
+FOLDER is made by `bench/streams.py FOLDER 2` (2 MB a file). `valgrind --tool=callgrind` counts, some eight minutes for all on
 two cores; JOBS (2) in the environment is how many run at a time. A row in Markdown for each file and work: millions of
 instructions of both, less those of an empty run, and the ratio (above 1: ion takes more); then the ratios' median and greatest,
 without and with strings and blobs. Both are given --floats for the kind floats. bench/beside.py says how yard is built.
@@ -16,7 +16,7 @@ import subprocess
 import sys
 from concurrent.futures import ThreadPoolExecutor
 
-from streams import OPTIONS
+from streams import COMMANDS, OPTIONS
 
 HERE = os.path.dirname(os.path.abspath(__file__))
 YARD = os.environ.get('YARD') or os.path.join(HERE, 'yard', 'target', 'release', 'yard')
@@ -61,10 +61,10 @@ def main(words):
     empty = os.path.join(folder, 'empty.ion')
     open(empty, 'w').close()
     base = counted([ion, 'show', empty]), counted([YARD, 'show', empty])
-    works = [(kind, form, command) for kind in kinds for form in ('ion', '10n') for command in ('show', 'check', 'convert')]
+    works = [(kind, form, command) for kind in kinds for form in ('ion', '10n') for command in COMMANDS]
 
     def both(work):
-        words = [work[2], *OPTIONS.get(work[0], []), f'{folder}/{work[0]}.{work[1]}']
+        words = [*work[2].split(), *OPTIONS.get(work[0], []), f'{folder}/{work[0]}.{work[1]}']
         return work, counted([ion, *words]), counted([YARD, *words])
 
     ratios = {}

@@ -27,6 +27,8 @@ KINDS = ['log', 'json', 'ints', 'strings', 'blobs', 'deep', 'config', 'fields', 
 MORE = ['bucket', 'quoted', 'noted', 'ids', 'names', 'floats']
 # the words that the streams of a kind want after a command
 OPTIONS = {'floats': ['--floats']}
+# what both programs do with a stream to be measured
+COMMANDS = ['show', 'show --pretty', 'check', 'convert']
 
 SERV = ['auth-api', 'billing', 'catalog', 'checkout', 'gateway', 'inventory', 'mailer', 'orders', 'search', 'users']
 LEVEL = ['DEBUG', 'INFO', 'INFO', 'INFO', 'INFO', 'WARN', 'ERROR']

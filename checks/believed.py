@@ -248,8 +248,11 @@ def laws():
 
 def calls():
     """The functions of the C library."""
-    with open("crates/cozgelt_c/src/lib.rt", encoding="utf-8") as file:
-        return [("cozgelt_c", "", name) for name in re.findall(r'^pub extern "C" fn (\w+)', file.read(), re.M)]
+    found = []
+    for module in ("", "loaded"):
+        with open(f"crates/cozgelt_c/src/{module or 'lib'}.rt", encoding="utf-8") as file:
+            found += [("cozgelt_c", module, name) for name in re.findall(r'^pub extern "C" fn (\w+)', file.read(), re.M)]
+    return found
 
 
 def crates():

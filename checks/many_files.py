@@ -345,13 +345,14 @@ def judge_one(counts, program, folder):
         ("a FILE that begins with -", b"done", b"-a.ion", 0, b"", {b"done/-a.10n"}),
         ("a line's end", b"done", b"a\nb.ion", 0, b"", {b"done/a\nb.10n"}),
         ("a refusal", b"done", b"bad.ion", 1, b"bad.ion" + refused, set()),
-        ("backslashes", b"done", b"bs/a\\tb\\c.ion", 1, b"bs/a\\tb\\c.ion" + refused, set()),
+        ("backslashes", b"done", b"bs/a\\tb\\c.ion", 1, b"'bs/a\\tb\\c.ion'" + refused, set()),
+        ("a line's end of what is refused", b"done", b"a\nb\x1b.ion", 1, b"'a'$'\\n''b'$'\\033''.ion'" + refused, set()),
         ("a folder of the result's name", b"in the way", b"logs/x.ion", 3, b"", {b"in the way/logs/x.10n/y"}),
         ("out of DEST", b"done", b"../at/logs/a.ion", 2, b"", set()),
         ("out of DEST further on", b"done", b"logs/../../at/a.ion", 2, b"", set()),
         ("two dots in a name", b"done", b"logs/..a.ion", 0, b"", {b"done/logs/..a.10n"}),
         ("no DEST", b"", b"a.ion", 2, b"", set()),
-        ("no such file", b"done", b"nowhere.ion", None, None, set()),
+        ("no such file", b"done", b"no\nwhere.ion", None, b"'no'$'\\n''where.ion': cannot be opened\n", set()),
     ]
     for what, dest, name, status, said, made in rows:
         with tempfile.TemporaryDirectory(dir=folder) as there:
@@ -362,7 +363,7 @@ def judge_one(counts, program, folder):
             before = files_of(os.fsencode(there)) - {b"at/" + path for path in made}
             done = subprocess.run([script, dest, name], cwd=at, env=environment, capture_output=True, timeout=60)
             after = files_of(os.fsencode(there))
-            right = done.returncode == status and done.stdout == said or status is None and done.returncode and name in done.stdout
+            right = done.returncode == (3 if status is None else status) and done.stdout == said
             counts.judge(right and after == before | {b"at/" + path for path in made}, f"convert_one: {what}", (done, after - before))
 
 

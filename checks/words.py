@@ -59,6 +59,7 @@ FILES = {
     "ends in a blank ": b"8",
     "ends in a line\n": b"9",
     "\ttables ": b'$ion_shared_symbol_table::{name:"x",version:1,symbols:["r","s"]}',
+    "long.ion": b"1\n" * 69_999 + b"[2] 4e0\n5\n",
 }
 ALL_FOUR = ["--depth", "1", "--scalar", "3", "--symbols", "17", "--value", "7"]
 # [1,"abc"] in binary; then the declaration of `a` and its symbol
@@ -94,6 +95,11 @@ ROWS = [
     ("controls in the place of a command", ["\t\u009b2J\u00a0"], b"", 2, b"",
      b"error: unrecognized subcommand '\\t\\xc2\\x9b2J\xc2\xa0'\n\n  tip: to show a file, use 'ion show \\t\\xc2\\x9b2J\xc2\xa0'\n\n"
      b"Usage: ion <show|check|convert> [OPTIONS] [FILE]...\n       as in: ion show data.ion\n" + TRY),
+    ("a line's end in the place of a command", ["a'\n\\"], b"", 2, b"",
+     b"error: unrecognized subcommand 'a'\\n\\\\'\n\n  tip: to show a file, use 'ion show a'\\n\\\\'\n\n"
+     b"Usage: ion <show|check|convert> [OPTIONS] [FILE]...\n       as in: ion show data.ion\n" + TRY),
+    ("a line's end in the number of an option", ["show", "--depth=1\n"], b"", 2, b"",
+     b"error: invalid value '1\\n' for '--depth <N>': invalid digit found in string\n" + TRY),
     ("a name that is not there with a blank", ["show", "five.10n "], b"", 3, b"", b"cannot open five.10n : No such file or directory\n"),
     ("check, standard input", "check", b"1 2", 0, b"ok 2 values\n", b""),
     ("check -", "check -", SIX, 0, b"ok 6 values\n", b""),
@@ -281,6 +287,33 @@ SEVERAL = [
     (["check", "a.ion: ok 3 values\nb.ion", "ends in a line\n"], b"", 1, b"ends in a line\\n: ok 1 values\n",
      b"a.ion: ok 3 values\\nb.ion: refused BadToken at 3\n"),
 ]
+# With `--lines` a refusal of a text says the line and the column too.
+MANY = 65_536
+LINED = [
+    ("check --lines", b"]", 1, b"", b"refused BadToken at 0 (line 1, column 1)\n"),
+    ("check --lines -", b"1 4e0", 1, b"", b"refused Float at 2 (line 1, column 3)\n"),
+    ("show --lines", b"1\n2\n 4e0", 1, b"1\n2\n", b"refused Float at 5 (line 3, column 2)\n"),
+    ("show --lines", b"1\r\n2\r\n 4e0", 1, b"1\n2\n", b"refused Float at 7 (line 3, column 2)\n"),
+    ("show --lines", b"1\r2\r 4e0", 1, b"1\n2\n", b"refused Float at 5 (line 1, column 6)\n"),
+    ("check --lines", b"[1,\n", 1, b"", b"refused Truncated at 4 (line 2, column 1)\n"),
+    ("check --lines", b'"\xc3\xa9" ]', 1, b"", b"refused BadToken at 5 (line 1, column 6)\n"),
+    ("check --lines", b" " * 4095 + b"\n]", 1, b"", b"refused BadToken at 4096 (line 2, column 1)\n"),
+    ("convert --lines bad.ion", b"", 1, MARKER + bytes.fromhex("21 01 B4 21 02 21 03"), b"refused Float at 9 (line 1, column 10)\n"),
+    ("show --lines six.ion", b"", 0, LINES, b""),
+    ("check --lines", b"1 2", 0, b"ok 2 values\n", b""),
+    ("check --lines long.ion", b"", 1, b"", b"refused Float at 140002 (line 70000, column 5)\n"),
+    ("check --lines", FILES["long.ion"], 1, b"", b"refused Float at 140002 (line 70000, column 5)\n"),
+    ("check long.ion", b"", 1, b"", b"refused Float at 140002\n"),
+    ("check --lines cut.10n", b"", 1, b"", b"refused Truncated at 6\n"),
+    ("convert --lines --to binary", SIX, 1, b"", b"refused SameForm at 0\n"),
+    ("check --lines six.ion bad.ion cut.10n -", b"1\n2\n]", 1, b"six.ion: ok 6 values\n",
+     b"bad.ion: refused Float at 9 (line 1, column 10)\ncut.10n: refused Truncated at 6\n-: refused BadToken at 4 (line 3, column 1)\n"),
+    ("show --lines nowhere.ion", b"", 3, b"", NOWHERE),
+    ("show --lines --catalog notables.ion six.ion", b"", 1, b"", b"catalog refused CatalogEntry at 0\n"),
+    # the value is refused as too long once its second member is read, so many ends of lines after its beginning
+    ("convert --lines --to binary --value 3", b"0\n[1" + b"\n" * (MANY - 1) + b",2]", 1, MARKER + b"\x20", b"refused ValueLimit at 2 (line 2, column 1)\n"),
+    ("convert --lines --to binary --value 3", b"0\n[1" + b"\n" * MANY + b",2]", 1, MARKER + b"\x20", b"refused ValueLimit at 2\n"),
+]
 # Words that name a catalogue, and the same stream without one.
 CATALOGUED = [
     ("show --catalog tables.ion", IMPORT_AND_A, 0, b"a\np\n", b""),
@@ -309,6 +342,7 @@ HELPED = [
 # Words that are refused with status 2, as some of ROWS are; of what these print the first word alone is compared.
 USAGE = [
     "show --floats=1 six.ion",
+    "show --lines=1 six.ion",
     "x",
     "write",
     "--",
@@ -374,6 +408,8 @@ def compared_whole():
         yield "a file", *row
     for row in SEVERAL:
         yield "several files", *row
+    for row in LINED:
+        yield "line and column", *row
     for row in CATALOGUED:
         yield "a catalogue", *row
 

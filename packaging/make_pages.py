@@ -26,7 +26,7 @@ WORDS = {FORMS: ("text", "binary")}
 NOTES = """\
 With FILE -, which may stand once, or without FILE standard input is read. Outputs of several files follow one another, cut ones
 too, on the same line; lines of check and of refusals begin with FILE, and the status is the greatest. What several files are
-converted to is named by --to. In the names that lines have, control characters and backslashes are escaped, as \\n, \\x1b and \\\\.
+converted to is named by --to. In names and wrong words control characters and backslashes are escaped, as \\n, \\x1b and \\\\.
 After --catalog a - is a file of that name in the present folder, since standard input is most often the stream itself. A
 catalogue that comes by a pipe is read from /dev/stdin, and the stream then has a name:
 
@@ -34,6 +34,12 @@ catalogue that comes by a pipe is read from /dev/stdin, and the stream then has 
 
 A stream is binary if its first byte is E0, whatever the file is called. A script that may run twice says --to, since convert
 alone would turn everything back. Without --rewrite binary is not written again as binary: that is refused as SameForm at 0.
+
+--pretty goes with show, and with convert --to text; --rewrite with convert --to binary.
+
+With --lines a refusal of a text ends in the line and the column of OFFSET, both counted from 1, the column in bytes. A line
+ends with LF, so that CR LF ends one and CR alone none. They are left out of a catalogue's fault, and where 65,536 lines or more
+ended from OFFSET on before the fault was known. With --lines a run holds 524,288 bytes more.
 
 Without --floats a float other than null.float is refused, as Float, and so is a number of JSON with an exponent, which is one.
 
@@ -46,7 +52,7 @@ Check the status before you trust the output: values are written as they are rea
 stands before it. In a pipe "set -o pipefail" keeps the status."""
 
 DIAGNOSTICS = (
-    ("refused REASON at OFFSET",
+    ("refused REASON at OFFSET [(line L, column C)]",
      "The stream is not valid, passes a limit or, without --floats, has a float. OFFSET is the number of bytes before the faulty part. Status 1."),
     ("catalog refused REASON at OFFSET", "So of --catalog's file, with any float. Status 1."),
     ("cannot open FILE: WHY", "The file is not there, or may not be read. Status 3."),
@@ -54,11 +60,8 @@ DIAGNOSTICS = (
 )
 
 BUGS = """\
-A file whose name is not UTF-8 is read by standard input alone. What is said of one stream names neither file nor line:
-
-  head -c OFFSET FILE | wc -l
-
-counts the line ends before the fault. Controls from U+0080 to U+009F and marks of direction in a text are shown as they are."""
+A file whose name is not UTF-8 is read by standard input alone. What is said of one stream does not name its file. Controls from
+U+0080 to U+009F and marks of direction in a text are shown as they are."""
 SEE_ALSO = """\
 share/doc/cozgelt below /usr, or below the prefix of a tarball: REFUSALS.md has an input for each reason, DIFFERENCES.md what other
 readers of Ion do, LIBRARY.md the same calls from C, Rust and Python."""

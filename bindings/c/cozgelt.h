@@ -8,12 +8,14 @@
  *  - limits and answer point at whole structs, which were set as COZGELT_LIMITS and COZGELT_ANSWER set them;
  *  - room and answer overlap neither one another nor limits, catalog or stream (these may overlap one another), and nobody else
  *    uses them during the call, nor changes limits, catalog or stream;
+ *  - a CozgeltCatalog was set as COZGELT_CATALOG sets it, and since then by the calls of this header alone; it overlaps nothing else,
+ *    and nobody else uses it during a call; a copy of one is given to no call;
  *  - malloc, realloc and free belong together, and malloc aligns as C asks of it;
  *  - the CPU is an x86-64-v2 (SSE4.2), and the stack has 24 KB left;
  *  - no call is made from a signal handler, nor in a forked child of a process that had threads.
  *
- * A call keeps nothing. It takes memory by malloc, for output too, at most the room's length, and gives all of it back before it
- * returns. There is no state, so any number of threads may call at once.
+ * A call keeps nothing but the tables of a CozgeltCatalog. It takes memory by malloc, for output too, at most the room's length, and
+ * gives all else of it back before it returns. There is no other state, so any number of threads may call at once.
  *
  * The statuses 2 and 4 come where malloc gave nothing, 4 also for a room above 2^47 bytes; no proof sees malloc: this is only
  * tested.
@@ -116,6 +118,46 @@ uint32_t cozgelt_to_pretty_with(uint32_t profile, const CozgeltLimits *limits, c
 /* The stream, text or binary, as canonical binary, with a profile. */
 uint32_t cozgelt_rewrite_with(uint32_t profile, const CozgeltLimits *limits, const uint8_t *catalog, size_t catalog_len,
                               const uint8_t *stream, size_t stream_len, uint8_t *room, size_t room_len, CozgeltAnswer *answer);
+
+/* A catalogue that is loaded once, for any number of calls: one handle to its tables, or to none. What it points to is the library's.
+ * Each thread takes a handle of its own, by cozgelt_catalog_share; or one goes from thread to thread, by a lock, the start of a
+ * thread or its join. */
+typedef struct {
+    void *tables;
+} CozgeltCatalog;
+
+/* No tables. */
+#define COZGELT_CATALOG {0}
+
+/* Loads a catalogue, with the statuses, reason and place of the calls that are given its bytes. At COZGELT_ACCEPTED the handle has its
+ * tables, and those that it had are given back; else it is as it was. It keeps limits->symbols at most, as they are counted, and two
+ * small blocks; while it loads, what a call counts for a catalogue, beside the tables that it had. */
+uint32_t cozgelt_catalog_load(const CozgeltLimits *limits, const uint8_t *catalog, size_t catalog_len, CozgeltCatalog *loaded,
+                              CozgeltAnswer *answer);
+
+/* Lets another handle have the tables of one too, which takes a small block; those that the other had are given back. COZGELT_ACCEPTED,
+ * or COZGELT_NO_MEMORY, and then the other is as it was. */
+uint32_t cozgelt_catalog_share(CozgeltCatalog *loaded, CozgeltCatalog *other);
+
+/* Leaves a handle without tables, so that a second call does nothing. They are freed with the last handle that has them. */
+void cozgelt_catalog_free(CozgeltCatalog *loaded);
+
+/* The calls with a profile, with the tables of a handle for the stream's imports: they answer what those calls answer for the bytes of
+ * the catalogue, where they are one under these limits too. */
+uint32_t cozgelt_to_text_loaded(uint32_t profile, const CozgeltLimits *limits, CozgeltCatalog *loaded, const uint8_t *stream,
+                                size_t stream_len, uint8_t *room, size_t room_len, CozgeltAnswer *answer);
+
+uint32_t cozgelt_to_pretty_loaded(uint32_t profile, const CozgeltLimits *limits, CozgeltCatalog *loaded, const uint8_t *stream,
+                                  size_t stream_len, uint8_t *room, size_t room_len, CozgeltAnswer *answer);
+
+uint32_t cozgelt_to_binary_loaded(uint32_t profile, const CozgeltLimits *limits, CozgeltCatalog *loaded, const uint8_t *stream,
+                                  size_t stream_len, uint8_t *room, size_t room_len, CozgeltAnswer *answer);
+
+uint32_t cozgelt_rewrite_loaded(uint32_t profile, const CozgeltLimits *limits, CozgeltCatalog *loaded, const uint8_t *stream,
+                                size_t stream_len, uint8_t *room, size_t room_len, CozgeltAnswer *answer);
+
+uint32_t cozgelt_check_loaded(uint32_t profile, const CozgeltLimits *limits, CozgeltCatalog *loaded, const uint8_t *stream,
+                              size_t stream_len, uint8_t *room, size_t room_len, CozgeltAnswer *answer);
 
 /* The name of a reason, as REFUSALS.md has it; "" of any other number. */
 static inline const char *cozgelt_reason(uint32_t number) {

@@ -21,6 +21,9 @@ cozgelt.Refused: refused DepthLimit at 1
 >>> tables = b'$ion_shared_symbol_table::{name: "x", version: 1, symbols: ["p", "q"]}'
 >>> to_text(b'$ion_symbol_table::{imports: [{name: "x", version: 1, max_id: 2}]} $10 $11', catalog=tables)
 b'p\\nq\\n'
+>>> loaded = Catalog(tables)
+>>> to_text(b'$ion_symbol_table::{imports: [{name: "x", version: 1, max_id: 1}]} $10', catalog=loaded)
+b'p\\n'
 >>> to_text(b"[1.5e0, nan]", floats=True)
 b'[1.5e0,nan]\\n'
 
@@ -28,15 +31,17 @@ It is a transcoder: no value can be read from it but out of what it writes. A fl
 unless floats=True is given; one of the catalogue always is.
 
 Catalogue, limits and floats go by keyword, with the defaults of the program. Stream and catalogue are bytes, or a bytearray or
-memoryview, of which a call takes a copy. libcozgelt.so is looked for at the path in COZGELT_LIBRARY, then beside this file, then
-where the system looks. Any number of threads may call at once.
+memoryview, of which a call takes a copy; a Catalog serves too, which is loaded once. libcozgelt.so is looked for at the path in
+COZGELT_LIBRARY, then beside this file, then where the system looks. Any number of threads may call at once.
 """
 import ctypes
 import ctypes.util
 import os
+import threading
 from typing import Any, Tuple, Union
 
-__all__ = ["to_text", "to_pretty", "to_binary", "rewrite", "check", "version", "Refused", "CatalogRefused", "InputLimit", "Invalid"]
+__all__ = ["to_text", "to_pretty", "to_binary", "rewrite", "check", "version", "Catalog", "Refused", "CatalogRefused", "InputLimit",
+           "Invalid"]
 
 _REASONS = ("", "Truncated", "BadDescriptor", "BadVar", "Overrun", "BadVersion", "BadAnnotation", "BadNumber", "BadTimestamp",
             "Range", "BadText", "Float", "BadToken", "BadLob", "DepthLimit", "ScalarLimit", "AnnotationLimit", "BadSymbol",
@@ -89,6 +94,11 @@ class _Answer(ctypes.Structure):
                 ("needed", ctypes.c_uint64)]
 
 
+class _Handle(ctypes.Structure):
+    """A CozgeltCatalog: without tables as it is made."""
+    _fields_ = [("tables", ctypes.c_void_p)]
+
+
 def _load() -> ctypes.CDLL:
     beside = os.path.join(os.path.dirname(os.path.abspath(__file__)), "libcozgelt.so")
     path = os.environ.get("COZGELT_LIBRARY") or (beside if os.path.exists(beside) else ctypes.util.find_library("cozgelt"))
@@ -105,6 +115,17 @@ def _load() -> ctypes.CDLL:
         call.argtypes = [ctypes.c_uint32, ctypes.POINTER(_Limits), ctypes.c_char_p, ctypes.c_size_t, ctypes.c_char_p,
                          ctypes.c_size_t, ctypes.c_void_p, ctypes.c_size_t, ctypes.POINTER(_Answer)]
         call.restype = ctypes.c_uint32
+        call = getattr(library, name[:-len("with")] + "loaded")
+        call.argtypes = [ctypes.c_uint32, ctypes.POINTER(_Limits), ctypes.POINTER(_Handle), ctypes.c_char_p, ctypes.c_size_t,
+                         ctypes.c_void_p, ctypes.c_size_t, ctypes.POINTER(_Answer)]
+        call.restype = ctypes.c_uint32
+    library.cozgelt_catalog_load.argtypes = [ctypes.POINTER(_Limits), ctypes.c_char_p, ctypes.c_size_t, ctypes.POINTER(_Handle),
+                                             ctypes.POINTER(_Answer)]
+    library.cozgelt_catalog_load.restype = ctypes.c_uint32
+    library.cozgelt_catalog_share.argtypes = [ctypes.POINTER(_Handle), ctypes.POINTER(_Handle)]
+    library.cozgelt_catalog_share.restype = ctypes.c_uint32
+    library.cozgelt_catalog_free.argtypes = [ctypes.POINTER(_Handle)]
+    library.cozgelt_catalog_free.restype = None
     return library
 
 
@@ -119,25 +140,16 @@ def _fixed(what: str, given: _Bytes) -> bytes:
     return given if type(given) is bytes else memoryview(given).tobytes()
 
 
-def _call(name: str, floats: bool, stream: _Bytes, catalog: _Bytes, limits: Tuple[int, int, int, int, int],
-          writes: bool = True) -> Tuple[bytes, int]:
-    """The output, and how many values there are. The first try has room for an output as long as the stream, and for a short one in
-    any case; where that is too little, the second has as much as is needed. A call may hold as much again as its room."""
-    stream, catalog = _fixed("the stream", stream), _fixed("the catalog", catalog)
-    size = max(len(stream), 1024) if writes else 0
+def _given(limits: Tuple[int, int, int, int, int]) -> _Limits:
+    """The limits, each of which is one."""
     for number, most in zip(limits, (65535, 1 << 30, 1 << 30, 1 << 30, 1 << 48)):
         if not 0 <= number <= most:
             raise Invalid(f"{number} is no limit from 0 to {most}")
-    profile = 1 if floats else 0  # COZGELT_FLOATS, COZGELT_STRICT
-    given = _Limits(ctypes.sizeof(_Limits), *limits)
-    answer = _Answer(ctypes.sizeof(_Answer))
-    while True:
-        room = ctypes.create_string_buffer(size)
-        status = getattr(_library, name)(profile, given, catalog, len(catalog), stream, len(stream), room, size, answer)
-        if status > 1 or answer.needed <= size:
-            break
-        del room
-        size = answer.needed
+    return _Limits(ctypes.sizeof(_Limits), *limits)
+
+
+def _judge(status: int, answer: _Answer) -> None:
+    """Raises what a status says, but for those of a stream that is accepted or refused."""
     if status in (2, 4):
         raise MemoryError("no memory")
     if status == 3:
@@ -146,41 +158,105 @@ def _call(name: str, floats: bool, stream: _Bytes, catalog: _Bytes, limits: Tupl
         raise Invalid("a limit is above its maximum")
     if status == 6:
         raise CatalogRefused(_REASONS[answer.reason], answer.place)
+
+
+class Catalog:
+    """A catalogue that is loaded once, for any number of calls, also of several threads at once. tables: a stream of shared symbol
+    tables. The limits are those of the calls; they bound the loading, and those of a call its stream alone."""
+
+    def __init__(self, tables: _Bytes, *, depth: int = 64, scalar: int = 1 << 20, symbols: int = 1 << 20, value: int = 1 << 24,
+                 input: int = 1 << 48) -> None:
+        self._handle = _Handle()
+        self._lock = threading.Lock()
+        tables = _fixed("the catalog", tables)
+        answer = _Answer(ctypes.sizeof(_Answer))
+        limits = _given((depth, scalar, symbols, value, input))
+        _judge(_library.cozgelt_catalog_load(limits, tables, len(tables), self._handle, answer), answer)
+
+    def __del__(self, free: Any = _library.cozgelt_catalog_free) -> None:  # what a module names may be gone at the end
+        if hasattr(self, "_handle"):
+            free(self._handle)
+
+    def _shared(self) -> _Handle:
+        """Another handle, for one call: to be given back."""
+        handle = _Handle()
+        with self._lock:
+            status = _library.cozgelt_catalog_share(self._handle, handle)
+        _judge(status, _Answer())
+        return handle
+
+    def __reduce__(self) -> Tuple[Any, ...]:
+        raise TypeError("a Catalog stays in its process")
+
+
+_Tables = Union[_Bytes, Catalog]
+
+
+def _call(name: str, floats: bool, stream: _Bytes, catalog: _Tables, limits: Tuple[int, int, int, int, int],
+          writes: bool = True) -> Tuple[bytes, int]:
+    """The output, and how many values there are."""
+    stream = _fixed("the stream", stream)
+    if not isinstance(catalog, Catalog):
+        tables = _fixed("the catalog", catalog)
+        return _convert(getattr(_library, name + "_with"), floats, stream, (tables, len(tables)), limits, writes)
+    handle = catalog._shared()
+    try:
+        return _convert(getattr(_library, name + "_loaded"), floats, stream, (handle,), limits, writes)
+    finally:
+        _library.cozgelt_catalog_free(handle)
+
+
+def _convert(call: Any, floats: bool, stream: bytes, catalog: Tuple[Any, ...], limits: Tuple[int, int, int, int, int],
+             writes: bool) -> Tuple[bytes, int]:
+    """Output and number by a call of the library. The first try has room for an output as long as the stream, and for a short one in any
+    case; where that is too little, the second has as much as is needed. A call may hold as much again as its room."""
+    size = max(len(stream), 1024) if writes else 0
+    profile = 1 if floats else 0  # COZGELT_FLOATS, COZGELT_STRICT
+    given = _given(limits)
+    answer = _Answer(ctypes.sizeof(_Answer))
+    while True:
+        room = ctypes.create_string_buffer(size)
+        status = call(profile, given, *catalog, stream, len(stream), room, size, answer)
+        if status > 1 or answer.needed <= size:
+            break
+        del room
+        size = answer.needed
+    _judge(status, answer)
     output = memoryview(room)[:answer.needed].tobytes()  # string_at would cut its length to a C int
     if status == 1:
         raise Refused(_REASONS[answer.reason], answer.place, output)
     return output, answer.values
 
 
-def to_text(stream: _Bytes, *, catalog: _Bytes = b"", depth: int = 64, scalar: int = 1 << 20, symbols: int = 1 << 20,
+def to_text(stream: _Bytes, *, catalog: _Tables = b"", depth: int = 64, scalar: int = 1 << 20, symbols: int = 1 << 20,
             value: int = 1 << 24, input: int = 1 << 48, floats: bool = False) -> bytes:
     """The stream, text or binary, as canonical text: each value at top level is a line. catalog: a stream of shared symbol
     tables, for the imports of the other. floats: whether floats other than null.float are read."""
-    return _call("cozgelt_to_text_with", floats, stream, catalog, (depth, scalar, symbols, value, input))[0]
+    return _call("cozgelt_to_text", floats, stream, catalog, (depth, scalar, symbols, value, input))[0]
 
 
-def to_pretty(stream: _Bytes, *, catalog: _Bytes = b"", depth: int = 64, scalar: int = 1 << 20, symbols: int = 1 << 20,
+def to_pretty(stream: _Bytes, *, catalog: _Tables = b"", depth: int = 64, scalar: int = 1 << 20, symbols: int = 1 << 20,
               value: int = 1 << 24, input: int = 1 << 48, floats: bool = False) -> bytes:
     """The stream, text or binary, as pretty text: each member of a container begins a line."""
-    return _call("cozgelt_to_pretty_with", floats, stream, catalog, (depth, scalar, symbols, value, input))[0]
+    return _call("cozgelt_to_pretty", floats, stream, catalog, (depth, scalar, symbols, value, input))[0]
 
 
-def to_binary(stream: _Bytes, *, catalog: _Bytes = b"", depth: int = 64, scalar: int = 1 << 20, symbols: int = 1 << 20,
+def to_binary(stream: _Bytes, *, catalog: _Tables = b"", depth: int = 64, scalar: int = 1 << 20, symbols: int = 1 << 20,
               value: int = 1 << 24, input: int = 1 << 48, floats: bool = False) -> bytes:
     """The stream, a text, as canonical binary. One that is binary is refused as SameForm."""
-    return _call("cozgelt_to_binary_with", floats, stream, catalog, (depth, scalar, symbols, value, input))[0]
+    return _call("cozgelt_to_binary", floats, stream, catalog, (depth, scalar, symbols, value, input))[0]
 
 
-def rewrite(stream: _Bytes, *, catalog: _Bytes = b"", depth: int = 64, scalar: int = 1 << 20, symbols: int = 1 << 20,
+def rewrite(stream: _Bytes, *, catalog: _Tables = b"", depth: int = 64, scalar: int = 1 << 20, symbols: int = 1 << 20,
             value: int = 1 << 24, input: int = 1 << 48, floats: bool = False) -> bytes:
     """The stream, text or binary, as canonical binary."""
-    return _call("cozgelt_rewrite_with", floats, stream, catalog, (depth, scalar, symbols, value, input))[0]
+    return _call("cozgelt_rewrite", floats, stream, catalog, (depth, scalar, symbols, value, input))[0]
 
 
-def check(stream: _Bytes, *, catalog: _Bytes = b"", depth: int = 64, scalar: int = 1 << 20, symbols: int = 1 << 20,
+def check(stream: _Bytes, *, catalog: _Tables = b"", depth: int = 64, scalar: int = 1 << 20, symbols: int = 1 << 20,
           value: int = 1 << 24, input: int = 1 << 48, floats: bool = False) -> int:
     """How many values the stream has at top level."""
-    return _call("cozgelt_check_with", floats, stream, catalog, (depth, scalar, symbols, value, input), False)[1]
+    return _call("cozgelt_check", floats, stream, catalog, (depth, scalar, symbols, value, input), False)[1]
 
 
 def version() -> str:

@@ -1,4 +1,4 @@
-/* Right and wrong calls of each kind, then four threads at once. The last line is `N passed, M failed`. */
+/* Right and wrong calls of each kind, then four threads at once, and eight over one catalogue. The last line is `N passed, M failed`. */
 #include "cozgelt.h"
 #include <pthread.h>
 #include <stdio.h>
@@ -283,6 +283,163 @@ static void numbers_of_no_profile(void) {
     }
 }
 
+#define OTHER_TABLE "$ion_shared_symbol_table::{name:\"x\",version:1,symbols:[\"r\",\"s\"]}"
+
+static uint32_t text_by(CozgeltCatalog *loaded) {
+    return cozgelt_to_text_loaded(COZGELT_STRICT, &limits, loaded, STREAM(IMPORT), room, sizeof room, &answer);
+}
+
+static int loads(CozgeltCatalog *loaded, const uint8_t *tables, size_t length) {
+    begin();
+    return cozgelt_catalog_load(&limits, tables, length, loaded, &answer) == COZGELT_ACCEPTED && no_answer();
+}
+
+/* Whether the tables of a handle are those of a catalogue, or none where there is none. */
+static int has(CozgeltCatalog *loaded, const char *shown) {
+    begin();
+    int right = text_by(loaded) == (shown ? COZGELT_ACCEPTED : COZGELT_REFUSED);
+    return right && (!shown || (answer.values == 2 && answer.needed == strlen(shown) && !memcmp(room, shown, strlen(shown))));
+}
+
+static void handles(void) {
+    CozgeltCatalog one = COZGELT_CATALOG, two = COZGELT_CATALOG, none = COZGELT_CATALOG;
+    judge(has(&none, 0), "a handle without tables");
+    judge(loads(&one, STREAM(TABLE)) && has(&one, "p\nq\n") && has(&one, "p\nq\n"), "a handle that is used twice");
+    judge(cozgelt_catalog_share(&one, &two) == COZGELT_ACCEPTED && has(&one, "p\nq\n") && has(&two, "p\nq\n"), "two handles");
+    cozgelt_catalog_free(&one);
+    judge(has(&one, 0) && has(&two, "p\nq\n"), "one of two is freed");
+    cozgelt_catalog_free(&one);
+    judge(loads(&one, STREAM(OTHER_TABLE)) && has(&one, "r\ns\n"), "a handle that was freed twice is loaded");
+    judge(cozgelt_catalog_share(&two, &one) == COZGELT_ACCEPTED && has(&one, "p\nq\n"), "the tables that it had make room");
+    judge(loads(&one, STREAM(OTHER_TABLE)) && has(&one, "r\ns\n") && has(&two, "p\nq\n"), "loaded again, beside another handle");
+    judge(cozgelt_catalog_share(&none, &one) == COZGELT_ACCEPTED && has(&one, 0) && has(&none, 0), "none are shared");
+    judge(loads(&two, STREAM("")) && has(&two, 0), "a catalogue of no tables");
+    cozgelt_catalog_free(&one), cozgelt_catalog_free(&two), cozgelt_catalog_free(&none);
+}
+
+/* A catalogue that is not loaded leaves the tables that the handle had. */
+static void handles_that_are_not_loaded(void) {
+    CozgeltCatalog one = COZGELT_CATALOG;
+    judge(loads(&one, STREAM(TABLE)), "a catalogue");
+    begin();
+    judge(cozgelt_catalog_load(&limits, STREAM(TABLE " 5"), &one, &answer) == COZGELT_CATALOG_REFUSED && answer.reason == 23 &&
+              answer.place == sizeof TABLE && !answer.values && !answer.needed && has(&one, "p\nq\n"),
+          "a value that is no table");
+    begin();
+    judge(cozgelt_catalog_load(&limits, STREAM(FLOAT_IN_TABLE "1e0}"), &one, &answer) == COZGELT_CATALOG_REFUSED &&
+              !strcmp(cozgelt_reason(answer.reason), "Float") && has(&one, "p\nq\n"),
+          "a float in a catalogue that is loaded");
+    begin();
+    limits.symbols = 40;
+    judge(cozgelt_catalog_load(&limits, STREAM(TABLE), &one, &answer) == COZGELT_CATALOG_REFUSED &&
+              !strcmp(cozgelt_reason(answer.reason), "SymbolLimit") && has(&one, "p\nq\n"),
+          "a catalogue that costs too much");
+    begin();
+    limits.input = sizeof TABLE - 2;
+    judge(cozgelt_catalog_load(&limits, STREAM(TABLE), &one, &answer) == COZGELT_INPUT_LIMIT && no_answer() && has(&one, "p\nq\n"),
+          "a catalogue past the limit that is loaded");
+    begin();
+    limits.depth = 65536;
+    judge(cozgelt_catalog_load(&limits, STREAM(TABLE), &one, &answer) == COZGELT_INVALID && no_answer() && has(&one, "p\nq\n"),
+          "loaded with a depth past its maximum");
+    begin();
+    answer.size = 24;
+    judge(cozgelt_catalog_load(&limits, STREAM(TABLE), &one, &answer) == COZGELT_INVALID && answer.size == 24 && has(&one, "p\nq\n"),
+          "loaded with an answer of another size");
+    cozgelt_catalog_free(&one);
+}
+
+#define GIVEN(profile) profile, &limits, &one, STREAM(IMPORT " [1e0]"), room, sizeof room, &answer
+
+static void calls_with_handles(void) {
+    CozgeltCatalog one = COZGELT_CATALOG;
+    judge(loads(&one, STREAM(TABLE)), "a catalogue for calls");
+    begin();
+    judge(cozgelt_to_text_loaded(GIVEN(COZGELT_FLOATS)) == COZGELT_ACCEPTED && answer.values == 3 && HOLDS("p\nq\n[1e0]\n"), "text");
+    begin();
+    judge(cozgelt_to_pretty_loaded(GIVEN(COZGELT_FLOATS)) == COZGELT_ACCEPTED && answer.values == 3 && HOLDS("p\nq\n[\n  1e0\n]\n"),
+          "pretty text with a handle");
+    begin();
+    judge(cozgelt_check_loaded(GIVEN(COZGELT_FLOATS)) == COZGELT_ACCEPTED && answer.values == 3 && HOLDS(""), "checked with a handle");
+    begin();
+    judge(cozgelt_to_binary_loaded(GIVEN(COZGELT_FLOATS)) == COZGELT_ACCEPTED && answer.values == 3, "binary with a handle");
+    uint8_t binary[sizeof room];
+    size_t length = answer.needed;
+    memcpy(binary, room, sizeof binary);
+    begin();
+    judge(cozgelt_to_binary_with(COZGELT_FLOATS, &limits, STREAM(TABLE), STREAM(IMPORT " [1e0]"), room, sizeof room, &answer) ==
+                  COZGELT_ACCEPTED &&
+              answer.needed == length && !memcmp(binary, room, sizeof binary),
+          "the binary of the catalogue's bytes");
+    begin();
+    judge(cozgelt_rewrite_loaded(COZGELT_FLOATS, &limits, &one, binary, length, room, sizeof room, &answer) == COZGELT_ACCEPTED &&
+              answer.values == 3 && answer.needed == length && !memcmp(binary, room, sizeof binary),
+          "binary again with a handle");
+    begin();
+    judge(cozgelt_to_binary_loaded(COZGELT_FLOATS, &limits, &one, binary, length, room, sizeof room, &answer) == COZGELT_REFUSED &&
+              !strcmp(cozgelt_reason(answer.reason), "SameForm"),
+          "binary asked for from binary with a handle");
+    begin();
+    judge(cozgelt_to_text_loaded(GIVEN(COZGELT_STRICT)) == COZGELT_REFUSED && !strcmp(cozgelt_reason(answer.reason), "Float") &&
+              answer.place == sizeof IMPORT + 1 && HOLDS("p\nq\n["),
+          "a float by the strict profile with a handle");
+    begin();
+    judge(cozgelt_check_loaded(GIVEN(2)) == COZGELT_INVALID && no_answer() && kept_from(0) && has(&one, "p\nq\n"),
+          "a number of no profile with a handle");
+    begin();
+    limits.symbols = ((uint64_t)1 << 30) + 1;
+    judge(cozgelt_check_loaded(GIVEN(COZGELT_STRICT)) == COZGELT_INVALID && no_answer() && kept_from(0) && has(&one, "p\nq\n"),
+          "a limit past its maximum with a handle");
+    begin();
+    limits.input = 3;
+    judge(text_by(&one) == COZGELT_INPUT_LIMIT && no_answer() && kept_from(0) && has(&one, "p\nq\n"),
+          "a stream past the limit with a handle");
+    begin();
+    judge(cozgelt_to_text_loaded(COZGELT_STRICT, &limits, &one, STREAM(IMPORT), room, 3, &answer) == COZGELT_ACCEPTED &&
+              answer.needed == 4 && kept_from(0),
+          "a room that is a byte too small with a handle");
+    cozgelt_catalog_free(&one);
+}
+
+/* A thousand calls of each kind with a thread's own handle, which it frees. */
+struct own {
+    CozgeltCatalog loaded;
+    int right;
+};
+
+static void *many_loaded(void *of) {
+    struct own *own = (struct own *)of;
+    uint8_t mine[100];
+    CozgeltLimits l = COZGELT_LIMITS;
+    CozgeltAnswer a = COZGELT_ANSWER;
+    own->right = 1;
+    for (int i = 0; i < 1000; i++) {
+        CozgeltCatalog more = COZGELT_CATALOG;
+        own->right &= cozgelt_catalog_share(&own->loaded, &more) == COZGELT_ACCEPTED;
+        own->right &= cozgelt_to_text_loaded(COZGELT_STRICT, &l, &more, STREAM(IMPORT), mine, sizeof mine, &a) == COZGELT_ACCEPTED &&
+                      a.needed == 4 && !memcmp(mine, "p\nq\n", 4);
+        cozgelt_catalog_free(&more);
+        own->right &= cozgelt_check_loaded(COZGELT_STRICT, &l, &own->loaded, STREAM(IMPORT " 4e0"), mine, 0, &a) == COZGELT_REFUSED &&
+                      a.place == sizeof IMPORT;
+    }
+    cozgelt_catalog_free(&own->loaded);
+    return 0;
+}
+
+/* Eight threads over one catalogue, whose first handle is freed while they run. */
+static void threads_over_one(void) {
+    CozgeltCatalog first = COZGELT_CATALOG;
+    pthread_t thread[8];
+    static struct own own[8];
+    judge(loads(&first, STREAM(TABLE)), "a catalogue for threads");
+    for (int i = 0; i < 8; i++)
+        judge(cozgelt_catalog_share(&first, &own[i].loaded) == COZGELT_ACCEPTED &&
+                  !pthread_create(&thread[i], 0, many_loaded, &own[i]),
+              "a thread with a handle");
+    cozgelt_catalog_free(&first);
+    for (int i = 0; i < 8; i++) judge(!pthread_join(thread[i], 0) && own[i].right, "calls of a thread beside seven others");
+}
+
 /* A thousand calls of each kind, each with the answer of the first. */
 static void *many(void *of) {
     uint8_t mine[100], first[100];
@@ -313,6 +470,10 @@ int main(void) {
     calls_of_floats();
     strict_calls();
     numbers_of_no_profile();
+    handles();
+    handles_that_are_not_loaded();
+    calls_with_handles();
+    threads_over_one();
     pthread_t thread[4];
     int right[4] = {0};
     for (int i = 0; i < 4; i++) judge(!pthread_create(&thread[i], 0, many, &right[i]), "a thread");

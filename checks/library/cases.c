@@ -1,5 +1,5 @@
-/* Answers calls that it reads from standard input, as common.py says. Each call is made on a stack that has 24 KB, as cozgelt.h asks,
- * with a page below that nobody may touch. */
+/* Answers calls that it reads from standard input, as common.py says; with the word `loaded`, by a handle that has loaded the
+ * catalogue. Each call is made on a stack that has 24 KB, as cozgelt.h asks, with a page below that nobody may touch. */
 #define _DEFAULT_SOURCE
 #include "cozgelt.h"
 #include <inttypes.h>
@@ -20,6 +20,7 @@ static uint8_t *catalog, *stream, *room;
 static size_t size;
 static uint32_t profile, status;
 static ucontext_t here, there;
+static CozgeltCatalog loaded = COZGELT_CATALOG;
 
 static uint8_t *read_bytes(size_t length) {
     uint8_t *bytes = malloc(length + 1);
@@ -40,18 +41,31 @@ static void on_small_stack(void) {
                          : cozgelt_to_binary_with(profile, GIVEN);
 }
 
-static void make_call(uint8_t *stack) {
+static void load_on_small_stack(void) { status = cozgelt_catalog_load(&limits, catalog, catalog_len, &loaded, &answer); }
+
+static void free_on_small_stack(void) { cozgelt_catalog_free(&loaded); }
+
+#define LOADED profile, &limits, &loaded, stream, stream_len, room, size, &answer
+
+static void with_handle_on_small_stack(void) {
+    status = !strcmp(name, "check")     ? cozgelt_check_loaded(LOADED)
+             : !strcmp(name, "to_text") ? cozgelt_to_text_loaded(LOADED)
+                                        : cozgelt_to_binary_loaded(LOADED);
+}
+
+static void make_call(uint8_t *stack, void (*call)(void)) {
     CozgeltAnswer none = COZGELT_ANSWER;
     answer = none;
     if (getcontext(&there)) exit(3);
     there.uc_stack.ss_sp = stack;
     there.uc_stack.ss_size = STACK;
     there.uc_link = &here;
-    makecontext(&there, on_small_stack, 0);
+    makecontext(&there, call, 0);
     if (swapcontext(&here, &there)) exit(3);
 }
 
-int main(void) {
+int main(int words, char **word) {
+    int by_handle = words == 2 && !strcmp(word[1], "loaded");
     unsigned depth;
     unsigned long long n[4];
     uint8_t *low = mmap(0, PAGE + STACK, PROT_READ | PROT_WRITE, MAP_PRIVATE | MAP_ANONYMOUS, -1, 0);
@@ -63,11 +77,16 @@ int main(void) {
         catalog = read_bytes(catalog_len), stream = read_bytes(stream_len);
         uint8_t none = 0;
         room = &none;
-        for (size = 0;; size = answer.needed) {
+        status = COZGELT_ACCEPTED;
+        if (by_handle) make_call(low + PAGE, load_on_small_stack);
+        for (size = 0; status <= COZGELT_REFUSED; size = answer.needed) {
             if (size && !(room = malloc(size))) return 3;
-            make_call(low + PAGE);
-            if (status > COZGELT_REFUSED || answer.needed == size) break;
+            make_call(low + PAGE, by_handle ? with_handle_on_small_stack : on_small_stack);
+            if (answer.needed == size) break;
         }
+        CozgeltAnswer got = answer;
+        if (by_handle) make_call(low + PAGE, free_on_small_stack);
+        answer = got;
         const char *reason = cozgelt_reason(answer.reason);
         size_t length = status > COZGELT_REFUSED ? 0 : answer.needed;
         printf("%u %s %llu %llu %zu\n", status, *reason ? reason : "-", (unsigned long long)answer.place,

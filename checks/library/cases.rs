@@ -1,8 +1,18 @@
-//! Answers calls that it reads from standard input, as common.py says.
-use cozgelt::{check, check_with, to_binary, to_binary_with, to_text, to_text_with, Error, Limits, Profile};
+//! Answers calls that it reads from standard input, as common.py says; with the word `loaded`, by a `Catalog`.
+use cozgelt::{check, check_with, to_binary, to_binary_with, to_text, to_text_with, Catalog, Error, Limits, Profile};
 use std::io::{self, BufRead, Read, Write};
 
+fn by_handle(name: &str, by: Profile, stream: &[u8], tables: &[u8], limits: &Limits) -> Result<(Vec<u8>, u64), Error> {
+    let catalog = Catalog::load(tables, limits)?;
+    match name {
+        "check" => catalog.check(by, stream, limits).map(|values| (Vec::new(), values)),
+        "to_text" => catalog.to_text(by, stream, limits).map(|text| (text, 0)),
+        _ => catalog.to_binary(by, stream, limits).map(|binary| (binary, 0)),
+    }
+}
+
 fn main() -> io::Result<()> {
+    let is_loaded = std::env::args().nth(1).as_deref() == Some("loaded");
     let (mut input, mut output) = (io::stdin().lock(), io::stdout().lock());
     let mut line = String::new();
     while input.read_line(&mut line)? > 0 {
@@ -16,6 +26,7 @@ fn main() -> io::Result<()> {
         input.read_exact(&mut stream)?;
         let by = Profile::Floats;
         let answer = match (name, floats) {
+            _ if is_loaded => by_handle(name, if floats { by } else { Profile::Strict }, &stream, &catalog, &limits),
             ("check", false) => check(&stream, &catalog, &limits).map(|values| (Vec::new(), values)),
             ("check", true) => check_with(by, &stream, &catalog, &limits).map(|values| (Vec::new(), values)),
             ("to_text", false) => to_text(&stream, &catalog, &limits).map(|text| (text, 0)),

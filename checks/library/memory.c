@@ -1,7 +1,7 @@
 /* Answers calls that it reads from standard input, as common.py says, each with no room, with room for half of the output and with
  * room for all of it, and judges the bytes that are asked of malloc: with no room at most what README counts, with a room at most
- * so much more, and none after a call. To be linked with --wrap=malloc,--wrap=realloc,--wrap=free. The last line is
- * `N passed, M failed`. */
+ * so much more, and none after a call; and each with a handle, which holds its tables alone between calls. To be linked with
+ * --wrap=malloc,--wrap=realloc,--wrap=free. The last line is `N passed, M failed`. */
 #include "cozgelt.h"
 #include "wrapped.h"
 #include <inttypes.h>
@@ -47,12 +47,41 @@ static size_t peak_with(size_t size, int pretty) {
     return peak;
 }
 
-/* What README counts, for a run and its catalogue: lengths, of which a growing buffer may take three times as much. The least that a
- * buffer takes is not counted, for which some kilobytes are let through. */
-static size_t counted(void) {
-    size_t lengths = 32 * (size_t)limits.depth + 3 * limits.scalar + 3 * limits.symbols;
+/* What README counts, for a run and so many lengths of the limit on symbols: lengths, of which a growing buffer may take three times as
+ * much. The least that a buffer takes is not counted, for which some kilobytes are let through. */
+static size_t counted_for(int symbols) {
+    size_t lengths = 32 * (size_t)limits.depth + 3 * limits.scalar + symbols * limits.symbols;
     if (!strcmp(name, "to_binary")) lengths += limits.symbols + limits.value;
     return 8192 + 3 * lengths + 4096;
+}
+
+/* For a run and its catalogue. */
+static size_t counted(void) { return counted_for(3); }
+
+/* Loads the catalogue, and makes a call with it: loading takes what README counts for it, the call what it counts for a run, and
+ * nothing is left. */
+static void by_handle(void) {
+    CozgeltAnswer none = COZGELT_ANSWER;
+    CozgeltCatalog loaded = COZGELT_CATALOG;
+    uint8_t room = 0;
+    answer = none, held = peak = 0;
+    uint32_t status = cozgelt_catalog_load(&limits, catalog, catalog_len, &loaded, &answer);
+    size_t most = 8192 + 3 * (32 * (size_t)limits.depth + 3 * limits.scalar + 3 * limits.symbols) + 4096, kept = held;
+    judge(peak <= most, "the peak of loading", peak, most);
+    judge(status ? !kept : kept <= 3 * limits.symbols + 4096, "what is kept", kept, 3 * limits.symbols + 4096);
+    peak = kept, answer = none;
+    if (!strcmp(name, "check"))
+        cozgelt_check_loaded(profile, &limits, &loaded, stream, stream_len, &room, 0, &answer);
+    else if (!strcmp(name, "to_text"))
+        cozgelt_to_text_loaded(profile, &limits, &loaded, stream, stream_len, &room, 0, &answer);
+    else
+        cozgelt_to_binary_loaded(profile, &limits, &loaded, stream, stream_len, &room, 0, &answer);
+    judge(peak - kept <= counted_for(2), "the peak with a handle", peak - kept, counted_for(2));
+    judge(held == kept, "left by the call", held, kept);
+    cozgelt_catalog_free(&loaded);
+    judge(!held, "left by the handle", held, 0);
+    cozgelt_catalog_free(&loaded);
+    judge(!held, "given back by a handle that is freed again", held, 0);
 }
 
 int main(void) {
@@ -71,6 +100,7 @@ int main(void) {
                 judge(most <= least + room, "the peak with a room", most, least + room);
             }
         }
+        by_handle();
         __real_free(catalog), __real_free(stream);
     }
     printf("%ld passed, %ld failed\n", passed, failed);

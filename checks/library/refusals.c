@@ -1,4 +1,4 @@
-/* Each allocation of a call refused in turn, alone and with all after it: the status is 2 or 4, room and answer stay, and all
+/* Each allocation of a call refused in turn, alone and with all after it: the status is 2 or 4, room, answer and handles stay, and all
  * memory is given back. To be linked with --wrap=malloc,--wrap=realloc,--wrap=free. The last line is `N passed, M failed`. */
 #include "cozgelt.h"
 #include <stdio.h>
@@ -64,17 +64,56 @@ static int answers(int call, int whole) {
            !memcmp(room, before, sizeof room);
 }
 
+/* Whether a call with a handle accepts the stream, which it does only with the tables. */
+static int has_tables(CozgeltCatalog *loaded) {
+    CozgeltLimits limits = COZGELT_LIMITS;
+    CozgeltAnswer answer = COZGELT_ANSWER;
+    uint8_t room[200];
+    return cozgelt_to_text_loaded(COZGELT_FLOATS, &limits, loaded, (const uint8_t *)stream, sizeof stream - 1, room, sizeof room,
+                                  &answer) == COZGELT_ACCEPTED;
+}
+
+/* Judges so a call with a handle that has the tables: loading them into another handle, loading them again, sharing them, and a
+ * conversion. Where it fails, each handle has what it had. */
+static int handle_answers(int call, int whole) {
+    CozgeltLimits limits = COZGELT_LIMITS;
+    CozgeltAnswer answer = COZGELT_ANSWER;
+    CozgeltCatalog one = COZGELT_CATALOG, two = COZGELT_CATALOG;
+    uint8_t room[200], before[sizeof room];
+    long from = refused_from, to = refused_to;
+    memset(room, '#', sizeof room), memcpy(before, room, sizeof room);
+    refused_from = refused_to = 0, held = 0;
+    if (cozgelt_catalog_load(&limits, (const uint8_t *)table, sizeof table - 1, &one, &answer)) return 0;
+    asked = 0, refused_from = from, refused_to = to;
+    uint32_t status = call < 2   ? cozgelt_catalog_load(&limits, (const uint8_t *)table, sizeof table - 1, call ? &one : &two, &answer)
+                      : call < 3 ? cozgelt_catalog_share(&one, &two)
+                                 : cozgelt_to_text_loaded(COZGELT_FLOATS, &limits, &one, (const uint8_t *)stream, sizeof stream - 1, room,
+                                                          sizeof room, &answer);
+    long all = asked;
+    int goes_well = whole || asked < refused_from;
+    refused_from = refused_to = 0;
+    int right = has_tables(&one) && has_tables(&two) == (goes_well && (call == 0 || call == 2));
+    right &= goes_well ? status == COZGELT_ACCEPTED
+                       : (status == COZGELT_NO_MEMORY || (call == 3 && status == COZGELT_NO_OUTPUT_MEMORY)) && !answer.reason &&
+                             !answer.needed && !memcmp(room, before, sizeof room);
+    cozgelt_catalog_free(&one), cozgelt_catalog_free(&two);
+    asked = all;
+    return right && !held;
+}
+
+static int answers_of(int call, int whole) { return call < 8 ? answers(call, whole) : handle_answers(call - 8, whole); }
+
 int main(void) {
     int passed = 0, failed = 0;
-    for (int i = 0; i < 8; i++) {
+    for (int i = 0; i < 12; i++) {
         refused_from = refused_to = 0;
-        int right = answers(i, 1);
+        int right = answers_of(i, 1);
         right ? passed++ : failed++;
         long all = asked;
         for (long n = 1; n <= all; n++)
             for (int alone = 0; alone < 2; alone++) {
                 refused_from = n, refused_to = alone ? n : all + 1000;
-                right = answers(i, 0);
+                right = answers_of(i, 0);
                 if (!right)
                     printf("FAILED call %d, allocation %ld of %ld%s\n", i, n, all, alone ? " alone" : " and all after it");
                 right ? passed++ : failed++;

@@ -141,7 +141,7 @@ def module(path):
 # Constructors of types of the crates' code that have arguments, the words of libraries that runtime.js has, and the
 # constructors of the libraries.
 VARIANTS = {'Fraction': 1, 'Refused': 2}
-NATIVE = set('''length drop take map filter reverse nat_le nat_lt nat_eq not max min is_some is_none unwrap_or option_map
+NATIVE = set('''length drop take replicate map filter reverse nat_le nat_lt nat_eq not max min is_some is_none unwrap_or option_map
  option_and_then fold flat_map sum_by slice_get slice_index_or bytes_eq is_utf8 encode_utf8 decimal encode_of decoded_of
  standard days_in_month days_from_civil int_le neg_ℤ sum eqb from_be_bytes to_be_bytes
  fits from_bits to_bits of_bits round closest num den nearest_to_decimal'''.split())

@@ -222,6 +222,7 @@ function isAlike(x, y) {
 
 const N = {
   length: (l) => ARR(l).length, drop: after, take: taken, reverse: (l) => LIST(ARR(l).reverse()),
+  replicate: (n, x) => LIST(new Array(F(n)).fill(x)),
   map: (f, l) => LIST(ARR(l).map((x) => new T(() => A(f, [x])))),
   filter: (f, l) => LIST(ARR(l).filter((x) => A(f, [x]))),
   flat_map: (f, l) => LIST(ARR(l).flatMap((x) => ARR(A(f, [x])))),

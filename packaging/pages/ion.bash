@@ -15,9 +15,9 @@ _ion() {
     fi
     if [[ $cur == -* ]]; then
         case ${COMP_WORDS[1]} in
-            show) COMPREPLY=($(compgen -W '--pretty --floats --catalog --depth --scalar --symbols -h --help' -- "$cur")) ;;
-            check) COMPREPLY=($(compgen -W '--floats --catalog --depth --scalar --symbols -h --help' -- "$cur")) ;;
-            convert) COMPREPLY=($(compgen -W '--to --pretty --rewrite --floats --catalog --depth --scalar --symbols --value -h --help' -- "$cur")) ;;
+            show) COMPREPLY=($(compgen -W '--pretty --floats --catalog --lines --depth --scalar --symbols -h --help' -- "$cur")) ;;
+            check) COMPREPLY=($(compgen -W '--floats --catalog --lines --depth --scalar --symbols -h --help' -- "$cur")) ;;
+            convert) COMPREPLY=($(compgen -W '--to --pretty --rewrite --floats --catalog --lines --depth --scalar --symbols --value -h --help' -- "$cur")) ;;
         esac
         return
     fi

@@ -1,5 +1,5 @@
 //! `yard batch`: one case a line, one result a line.
-//! `TO DEPTH SCALAR SYMBOLS VALUE 1 CATALOGUE|- INPUT|-`: what to write (`text`, `binary`, `nothing`, `other`), limits,
+//! `TO DEPTH SCALAR SYMBOLS VALUE 1 CATALOGUE|- INPUT|-`: what to write (`text`, `pretty`, `binary`, `nothing`, `other`), limits,
 //! the form of the output (there is one), and the bytes of a catalogue and of the input in hexadecimal. `--floats` holds for
 //! all lines.
 
@@ -44,6 +44,7 @@ fn case(line: &[u8], given: Limits, out: &mut Vec<u8>) -> Option<()> {
     let mut f = line.split(|&c| c == b' ');
     let to = match f.next()? {
         b"text" => To::Text,
+        b"pretty" => To::Pretty,
         b"binary" => To::Binary,
         b"nothing" => To::Nothing,
         b"other" => To::Other,

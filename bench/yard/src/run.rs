@@ -11,6 +11,7 @@ use std::io::{Read, Write};
 #[derive(Clone, Copy, PartialEq)]
 pub enum To {
     Text,
+    Pretty,
     Binary,
     Nothing,
     Other,
@@ -46,7 +47,12 @@ pub fn run(cat: &Catalog, lim: Limits, to: To, input: &mut dyn Read, output: &mu
         match to {
             To::Binary => return refuse(Reason::SameForm, 0),
             To::Text => {
-                let mut h = TextWriter::new(Out::new(output, lim.window));
+                let mut h = TextWriter::<false>::new(Out::new(output, lim.window));
+                let e = r.run(&mut h, false);
+                end(e, &mut h.o)?;
+            }
+            To::Pretty => {
+                let mut h = TextWriter::<true>::new(Out::new(output, lim.window));
                 let e = r.run(&mut h, false);
                 end(e, &mut h.o)?;
             }
@@ -57,7 +63,12 @@ pub fn run(cat: &Catalog, lim: Limits, to: To, input: &mut dyn Read, output: &mu
         let mut r = TextReader::new(w, lim, cat);
         match to {
             To::Text => {
-                let mut h = TextWriter::new(Out::new(output, lim.window));
+                let mut h = TextWriter::<false>::new(Out::new(output, lim.window));
+                let e = r.run(&mut h, false);
+                end(e, &mut h.o)?;
+            }
+            To::Pretty => {
+                let mut h = TextWriter::<true>::new(Out::new(output, lim.window));
                 let e = r.run(&mut h, false);
                 end(e, &mut h.o)?;
             }

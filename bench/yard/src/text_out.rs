@@ -1,15 +1,21 @@
-//! The text writer.
+//! The text writer: canonical text, or pretty text with each member on a line of its own.
 
 use crate::common::*;
 use crate::float;
 use crate::simd;
 
-pub struct TextWriter<'w> {
+pub struct TextWriter<'w, const PRETTY: bool> {
     pub o: Out<'w>,
     sep: u8,
+    /// pretty text: the open containers, whether a line begins before the next token, and whether the innermost container has no
+    /// member yet
+    depth: usize,
+    due: bool,
+    empty: bool,
 }
 
 const SEP: [u8; 4] = [0, b',', b' ', b','];
+const COMMA: [u8; 4] = [0, b',', 0, b','];
 
 const fn lut() -> [u8; 200] {
     let mut t = [0u8; 200];
@@ -139,24 +145,50 @@ fn letter(c: u8) -> u8 {
     }
 }
 
-impl<'w> TextWriter<'w> {
+impl<'w, const PRETTY: bool> TextWriter<'w, PRETTY> {
     pub fn new(o: Out<'w>) -> Self {
-        TextWriter { o, sep: 0 }
+        TextWriter { o, sep: 0, depth: 0, due: false, empty: false }
     }
 
-    /// Room for `n` more bytes and the separator.
+    /// Room for `n` more bytes and what stands before them.
     #[inline(always)]
     fn head(&mut self, n: usize) {
-        self.o.need(n + 2);
+        self.o.need(n + 2 + if PRETTY { 2 * self.depth + 16 } else { 0 });
         self.o.push(self.sep);
         if self.sep == 0 {
             self.o.len -= 1;
         }
+        if PRETTY && self.due {
+            self.line();
+            self.sep = 0;
+            self.due = false;
+        }
+    }
+
+    /// A new line and its blanks, for which there is room, and for 16 bytes more.
+    #[inline(always)]
+    fn line(&mut self) {
+        self.o.push(b'\n');
+        let n = 2 * self.depth;
+        // SAFETY: there is room for n bytes and for 16
+        unsafe {
+            (self.o.ptr() as *mut [u8; 16]).write([b' '; 16]);
+            if n > 16 {
+                self.o.ptr().add(16).write_bytes(b' ', n - 16);
+            }
+        }
+        self.o.len += n;
     }
 
     #[inline(always)]
     fn tail(&mut self, k: u8) -> Res {
-        self.sep = SEP[k as usize];
+        if PRETTY {
+            self.sep = COMMA[k as usize];
+            self.due = k != TOP;
+            self.empty = false;
+        } else {
+            self.sep = SEP[k as usize];
+        }
         if k == TOP {
             self.o.push(b'\n');
         }
@@ -321,7 +353,7 @@ impl<'w> TextWriter<'w> {
     }
 }
 
-impl<'w> Handler for TextWriter<'w> {
+impl<'w, const PRETTY: bool> Handler for TextWriter<'w, PRETTY> {
     const GAPS: bool = false;
 
     #[inline(always)]
@@ -330,6 +362,9 @@ impl<'w> Handler for TextWriter<'w> {
         self.sym(s);
         self.o.need(2);
         self.o.push(b':');
+        if PRETTY {
+            self.o.push(b' ');
+        }
         self.sep = 0;
     }
     #[inline(never)]
@@ -446,10 +481,22 @@ impl<'w> Handler for TextWriter<'w> {
         self.head(4);
         self.o.push(b"\0[({"[kind as usize]);
         self.sep = 0;
+        if PRETTY {
+            self.depth += 1;
+            self.due = true;
+            self.empty = true;
+        }
         self.o.commit()
     }
     #[inline(always)]
     fn end(&mut self, kind: u8, parent: u8) -> Res {
+        if PRETTY {
+            self.depth -= 1;
+            self.o.need(2 * self.depth + 24);
+            if !self.empty {
+                self.line();
+            }
+        }
         self.o.need(4);
         self.o.push(b"\0])}"[kind as usize]);
         self.tail(parent)

@@ -4,7 +4,7 @@ use crate::common::Limits;
 use crate::run::To;
 use std::ffi::OsString;
 
-pub const USAGE: &str = "Usage: yard show|check|convert [--catalog FILE] [--depth N] [--scalar N] [--symbols N] [--value N] [--floats] [FILE]\n       yard batch [--window N] [--chunk N] [--floats]\n";
+pub const USAGE: &str = "Usage: yard show [--pretty]|check|convert [--catalog FILE] [--depth N] [--scalar N] [--symbols N] [--value N] [--floats] [FILE]\n       yard batch [--window N] [--chunk N] [--floats]\n";
 
 pub struct Asked {
     pub to: To,
@@ -54,8 +54,12 @@ pub fn read(words: impl Iterator<Item = OsString>) -> Result<Wants, String> {
             if seen.contains(&name) {
                 return Err(format!("the argument '{name}' cannot be used multiple times"));
             }
-            let value = value.or_else(|| words.next_if(|v| name != "--floats" && !v.starts_with("--")));
-            option(&mut asked, to.is_none(), &name, value)?;
+            let value = value.or_else(|| words.next_if(|v| name != "--floats" && name != "--pretty" && !v.starts_with("--")));
+            if name == "--pretty" && value.is_none() && asked.to == To::Text {
+                asked.to = To::Pretty;
+            } else {
+                option(&mut asked, to.is_none(), &name, value)?;
+            }
             seen.push(name);
         }
     }

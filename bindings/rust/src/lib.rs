@@ -19,11 +19,15 @@
 //! ```
 //!
 //! Each call takes a stream and a catalogue, which is a stream of shared symbol tables for the imports of the other, and
-//! empty where there are none. Calls have no state, and any number of threads may make them at once.
+//! empty where there are none; a [`Catalog`] has loaded one, for any number of calls. Calls have no state, and any number of threads
+//! may make them at once.
 #![warn(missing_docs)]
 
+use std::ffi::c_void;
 use std::fmt;
 use std::mem::size_of;
+use std::ptr::null_mut;
+use std::sync::{Mutex, PoisonError};
 
 mod reason;
 
@@ -163,11 +167,30 @@ struct CAnswer {
     needed: u64,
 }
 
-type Call = unsafe extern "C" fn(
+#[repr(C)]
+struct CCatalog {
+    tables: *mut c_void,
+}
+
+// SAFETY: the library proves that a handle may go to another thread.
+unsafe impl Send for CCatalog {}
+
+type CallWith = unsafe extern "C" fn(
     u32,
     *const CLimits,
     *const u8,
     usize,
+    *const u8,
+    usize,
+    *mut u8,
+    usize,
+    *mut CAnswer,
+) -> u32;
+
+type CallLoaded = unsafe extern "C" fn(
+    u32,
+    *const CLimits,
+    *mut CCatalog,
     *const u8,
     usize,
     *mut u8,
@@ -232,60 +255,184 @@ extern "C" {
         room_len: usize,
         answer: *mut CAnswer,
     ) -> u32;
+    fn cozgelt_to_text_loaded(
+        profile: u32,
+        limits: *const CLimits,
+        loaded: *mut CCatalog,
+        stream: *const u8,
+        stream_len: usize,
+        room: *mut u8,
+        room_len: usize,
+        answer: *mut CAnswer,
+    ) -> u32;
+    fn cozgelt_to_pretty_loaded(
+        profile: u32,
+        limits: *const CLimits,
+        loaded: *mut CCatalog,
+        stream: *const u8,
+        stream_len: usize,
+        room: *mut u8,
+        room_len: usize,
+        answer: *mut CAnswer,
+    ) -> u32;
+    fn cozgelt_to_binary_loaded(
+        profile: u32,
+        limits: *const CLimits,
+        loaded: *mut CCatalog,
+        stream: *const u8,
+        stream_len: usize,
+        room: *mut u8,
+        room_len: usize,
+        answer: *mut CAnswer,
+    ) -> u32;
+    fn cozgelt_rewrite_loaded(
+        profile: u32,
+        limits: *const CLimits,
+        loaded: *mut CCatalog,
+        stream: *const u8,
+        stream_len: usize,
+        room: *mut u8,
+        room_len: usize,
+        answer: *mut CAnswer,
+    ) -> u32;
+    fn cozgelt_check_loaded(
+        profile: u32,
+        limits: *const CLimits,
+        loaded: *mut CCatalog,
+        stream: *const u8,
+        stream_len: usize,
+        room: *mut u8,
+        room_len: usize,
+        answer: *mut CAnswer,
+    ) -> u32;
+    fn cozgelt_catalog_load(
+        limits: *const CLimits,
+        catalog: *const u8,
+        catalog_len: usize,
+        loaded: *mut CCatalog,
+        answer: *mut CAnswer,
+    ) -> u32;
+    fn cozgelt_catalog_share(loaded: *mut CCatalog, other: *mut CCatalog) -> u32;
+    fn cozgelt_catalog_free(loaded: *mut CCatalog);
 }
 
 // ---- the calls
 
+impl CLimits {
+    fn of(limits: &Limits) -> CLimits {
+        let Limits {
+            depth,
+            scalar,
+            symbols,
+            value,
+            input,
+        } = *limits;
+        CLimits {
+            size: size_of::<CLimits>() as u32,
+            depth,
+            scalar,
+            symbols,
+            value,
+            input,
+        }
+    }
+}
+
+impl CAnswer {
+    fn new() -> CAnswer {
+        CAnswer {
+            size: size_of::<CAnswer>() as u32,
+            reason: 0,
+            place: 0,
+            values: 0,
+            needed: 0,
+        }
+    }
+}
+
+impl CCatalog {
+    fn new() -> CCatalog {
+        CCatalog { tables: null_mut() }
+    }
+}
+
+impl Drop for CCatalog {
+    fn drop(&mut self) {
+        // SAFETY: this is a handle that `new` made and calls alone changed, and it is borrowed for the call.
+        unsafe { cozgelt_catalog_free(self) }
+    }
+}
+
+/// A call, with its catalogue: by its bytes, or by a handle.
+enum Call<'a> {
+    With(CallWith, &'a [u8]),
+    Loaded(CallLoaded, CCatalog),
+}
+
 /// The status of one call with so much room, with the room and the answer.
 fn once(
-    call: Call,
+    call: &mut Call,
     profile: Profile,
     stream: &[u8],
-    catalog: &[u8],
     limits: &Limits,
     size: usize,
 ) -> Result<(u32, Vec<u8>, CAnswer), Error> {
-    let Limits {
-        depth,
-        scalar,
-        symbols,
-        value,
-        input,
-    } = *limits;
-    let limits = CLimits {
-        size: size_of::<CLimits>() as u32,
-        depth,
-        scalar,
-        symbols,
-        value,
-        input,
-    };
-    let mut answer = CAnswer {
-        size: size_of::<CAnswer>() as u32,
-        reason: 0,
-        place: 0,
-        values: 0,
-        needed: 0,
-    };
+    let limits = CLimits::of(limits);
+    let mut answer = CAnswer::new();
     let mut room = Vec::new();
     room.try_reserve_exact(size).map_err(|_| Error::NoMemory)?;
     room.resize(size, 0);
-    // SAFETY: each pointer is that of a whole slice or struct, which is borrowed for the call; room and answer are
+    // SAFETY: each pointer is that of a whole slice or struct, which is borrowed for the call; room, answer and handle are
     // borrowed mutably, so that they overlap nothing and nobody else uses them.
     let status = unsafe {
-        call(
-            profile as u32,
-            &limits,
-            catalog.as_ptr(),
-            catalog.len(),
-            stream.as_ptr(),
-            stream.len(),
-            room.as_mut_ptr(),
-            room.len(),
-            &mut answer,
-        )
+        match call {
+            Call::With(call, catalog) => call(
+                profile as u32,
+                &limits,
+                catalog.as_ptr(),
+                catalog.len(),
+                stream.as_ptr(),
+                stream.len(),
+                room.as_mut_ptr(),
+                room.len(),
+                &mut answer,
+            ),
+            Call::Loaded(call, handle) => call(
+                profile as u32,
+                &limits,
+                handle,
+                stream.as_ptr(),
+                stream.len(),
+                room.as_mut_ptr(),
+                room.len(),
+                &mut answer,
+            ),
+        }
     };
     Ok((status, room, answer))
+}
+
+/// That the library is the one that this crate goes with.
+fn same_version() -> Result<(), Error> {
+    // SAFETY: it takes nothing, and answers a number.
+    if unsafe { cozgelt_version() } == VERSION {
+        Ok(())
+    } else {
+        Err(Error::OtherVersion)
+    }
+}
+
+/// What a status says that is not of a stream.
+fn failure(status: u32, answer: &CAnswer) -> Error {
+    match status {
+        2 | 4 => Error::NoMemory,
+        3 => Error::InputLimit,
+        5 => Error::Invalid,
+        6 => Reason::of(answer.reason).map_or(Error::OtherVersion, |reason| {
+            Error::CatalogRefused(reason, answer.place)
+        }),
+        _ => Error::OtherVersion,
+    }
 }
 
 /// The room of a first try: for an output as long as the stream, and for a short one in any case.
@@ -296,37 +443,28 @@ fn first_room(stream: &[u8]) -> usize {
 /// The output, and how many values there are. size: the room of the first try; where that is too little, the second has as much as is
 /// needed. A call may hold as much again as its room.
 fn convert(
-    call: Call,
+    mut call: Call,
     profile: Profile,
     stream: &[u8],
-    catalog: &[u8],
     limits: &Limits,
     size: usize,
 ) -> Result<(Vec<u8>, u64), Error> {
-    // SAFETY: it takes nothing, and answers a number.
-    if unsafe { cozgelt_version() } != VERSION {
-        return Err(Error::OtherVersion);
-    }
-    let (mut status, mut room, mut answer) = once(call, profile, stream, catalog, limits, size)?;
+    same_version()?;
+    let (mut status, mut room, mut answer) = once(&mut call, profile, stream, limits, size)?;
     if status <= 1 && answer.needed > size as u64 {
         let needed = usize::try_from(answer.needed).map_err(|_| Error::NoMemory)?;
         drop(room);
-        (status, room, answer) = once(call, profile, stream, catalog, limits, needed)?;
+        (status, room, answer) = once(&mut call, profile, stream, limits, needed)?;
     }
-    let reason = Reason::of(answer.reason).ok_or(Error::OtherVersion);
     room.truncate(answer.needed as usize);
     match status {
         0 => Ok((room, answer.values)),
         1 => Err(Error::Refused(Refusal {
-            reason: reason?,
+            reason: Reason::of(answer.reason).ok_or(Error::OtherVersion)?,
             place: answer.place,
             output: room,
         })),
-        2 | 4 => Err(Error::NoMemory),
-        3 => Err(Error::InputLimit),
-        5 => Err(Error::Invalid),
-        6 => Err(Error::CatalogRefused(reason?, answer.place)),
-        _ => Err(Error::OtherVersion),
+        _ => Err(failure(status, &answer)),
     }
 }
 
@@ -362,15 +500,8 @@ pub fn to_text_with(
     catalog: &[u8],
     limits: &Limits,
 ) -> Result<Vec<u8>, Error> {
-    Ok(convert(
-        cozgelt_to_text_with,
-        profile,
-        stream,
-        catalog,
-        limits,
-        first_room(stream),
-    )?
-    .0)
+    let call = Call::With(cozgelt_to_text_with, catalog);
+    Ok(convert(call, profile, stream, limits, first_room(stream))?.0)
 }
 
 /// As [`to_pretty`], with a profile.
@@ -380,15 +511,8 @@ pub fn to_pretty_with(
     catalog: &[u8],
     limits: &Limits,
 ) -> Result<Vec<u8>, Error> {
-    Ok(convert(
-        cozgelt_to_pretty_with,
-        profile,
-        stream,
-        catalog,
-        limits,
-        first_room(stream),
-    )?
-    .0)
+    let call = Call::With(cozgelt_to_pretty_with, catalog);
+    Ok(convert(call, profile, stream, limits, first_room(stream))?.0)
 }
 
 /// As [`to_binary`], with a profile.
@@ -398,15 +522,8 @@ pub fn to_binary_with(
     catalog: &[u8],
     limits: &Limits,
 ) -> Result<Vec<u8>, Error> {
-    Ok(convert(
-        cozgelt_to_binary_with,
-        profile,
-        stream,
-        catalog,
-        limits,
-        first_room(stream),
-    )?
-    .0)
+    let call = Call::With(cozgelt_to_binary_with, catalog);
+    Ok(convert(call, profile, stream, limits, first_room(stream))?.0)
 }
 
 /// As [`rewrite`], with a profile.
@@ -416,15 +533,8 @@ pub fn rewrite_with(
     catalog: &[u8],
     limits: &Limits,
 ) -> Result<Vec<u8>, Error> {
-    Ok(convert(
-        cozgelt_rewrite_with,
-        profile,
-        stream,
-        catalog,
-        limits,
-        first_room(stream),
-    )?
-    .0)
+    let call = Call::With(cozgelt_rewrite_with, catalog);
+    Ok(convert(call, profile, stream, limits, first_room(stream))?.0)
 }
 
 /// As [`check`], with a profile.
@@ -434,7 +544,139 @@ pub fn check_with(
     catalog: &[u8],
     limits: &Limits,
 ) -> Result<u64, Error> {
-    Ok(convert(cozgelt_check_with, profile, stream, catalog, limits, 0)?.1)
+    let call = Call::With(cozgelt_check_with, catalog);
+    Ok(convert(call, profile, stream, limits, 0)?.1)
+}
+
+/// A catalogue that is loaded once, for any number of calls, also of several threads at once.
+///
+/// ```
+/// use cozgelt::{Catalog, Limits, Profile};
+///
+/// let limits = Limits::default();
+/// let tables = b"$ion_shared_symbol_table::{name: \"x\", version: 1, symbols: [\"p\"]}";
+/// let catalog = Catalog::load(tables, &limits)?;
+/// let stream = b"$ion_symbol_table::{imports: [{name: \"x\", version: 1, max_id: 1}]} $10";
+/// assert_eq!(catalog.to_text(Profile::Strict, stream, &limits)?, b"p\n");
+/// # Ok::<(), cozgelt::Error>(())
+/// ```
+pub struct Catalog {
+    // A handle goes to one call at a time, so each call takes one of its own.
+    handle: Mutex<CCatalog>,
+}
+
+impl fmt::Debug for Catalog {
+    fn fmt(&self, f: &mut fmt::Formatter<'_>) -> fmt::Result {
+        f.debug_struct("Catalog").finish_non_exhaustive()
+    }
+}
+
+impl Catalog {
+    /// Loads a catalogue, a stream of shared symbol tables. The limits bound the loading; those of a call bound its stream alone.
+    pub fn load(tables: &[u8], limits: &Limits) -> Result<Catalog, Error> {
+        same_version()?;
+        let limits = CLimits::of(limits);
+        let mut handle = CCatalog::new();
+        let mut answer = CAnswer::new();
+        // SAFETY: as in `once`.
+        let status = unsafe {
+            cozgelt_catalog_load(
+                &limits,
+                tables.as_ptr(),
+                tables.len(),
+                &mut handle,
+                &mut answer,
+            )
+        };
+        match status {
+            0 => Ok(Catalog {
+                handle: Mutex::new(handle),
+            }),
+            _ => Err(failure(status, &answer)),
+        }
+    }
+
+    /// Another handle to the tables.
+    fn shared(&self) -> Result<CCatalog, Error> {
+        let mut other = CCatalog::new();
+        let mut handle = self.handle.lock().unwrap_or_else(PoisonError::into_inner);
+        // SAFETY: both handles are borrowed mutably, so that they do not overlap and nobody else uses them.
+        match unsafe { cozgelt_catalog_share(&mut *handle, &mut other) } {
+            0 => Ok(other),
+            _ => Err(Error::NoMemory),
+        }
+    }
+
+    fn convert(
+        &self,
+        call: CallLoaded,
+        profile: Profile,
+        stream: &[u8],
+        limits: &Limits,
+        size: usize,
+    ) -> Result<(Vec<u8>, u64), Error> {
+        let call = Call::Loaded(call, self.shared()?);
+        convert(call, profile, stream, limits, size)
+    }
+
+    /// As [`to_text_with`], with these tables.
+    pub fn to_text(
+        &self,
+        profile: Profile,
+        stream: &[u8],
+        limits: &Limits,
+    ) -> Result<Vec<u8>, Error> {
+        let size = first_room(stream);
+        Ok(self
+            .convert(cozgelt_to_text_loaded, profile, stream, limits, size)?
+            .0)
+    }
+
+    /// As [`to_pretty_with`], with these tables.
+    pub fn to_pretty(
+        &self,
+        profile: Profile,
+        stream: &[u8],
+        limits: &Limits,
+    ) -> Result<Vec<u8>, Error> {
+        let size = first_room(stream);
+        Ok(self
+            .convert(cozgelt_to_pretty_loaded, profile, stream, limits, size)?
+            .0)
+    }
+
+    /// As [`to_binary_with`], with these tables.
+    pub fn to_binary(
+        &self,
+        profile: Profile,
+        stream: &[u8],
+        limits: &Limits,
+    ) -> Result<Vec<u8>, Error> {
+        let size = first_room(stream);
+        Ok(self
+            .convert(cozgelt_to_binary_loaded, profile, stream, limits, size)?
+            .0)
+    }
+
+    /// As [`rewrite_with`], with these tables.
+    pub fn rewrite(
+        &self,
+        profile: Profile,
+        stream: &[u8],
+        limits: &Limits,
+    ) -> Result<Vec<u8>, Error> {
+        let size = first_room(stream);
+        Ok(self
+            .convert(cozgelt_rewrite_loaded, profile, stream, limits, size)?
+            .0)
+    }
+
+    /// As [`check_with`], with these tables.
+    pub fn check(&self, profile: Profile, stream: &[u8], limits: &Limits) -> Result<u64, Error> {
+        Ok(self
+            .convert(cozgelt_check_loaded, profile, stream, limits, 0)?
+            .1)
+    }
 }
 
 /// The version of the library, as three numbers.

@@ -1,9 +1,11 @@
-//! One call of each kind, refusals, wrong calls, and four threads at once.
+//! One call of each kind, refusals, wrong calls, four threads at once, and eight over one catalogue.
 use cozgelt::{check, check_with, to_binary, to_binary_with, to_text, to_text_with, version};
 use cozgelt::{rewrite, rewrite_with, to_pretty, to_pretty_with};
-use cozgelt::{Error, Limits, Profile, Reason};
+use cozgelt::{Catalog, Error, Limits, Profile, Reason};
 
 const TABLES: &[u8] = b"$ion_shared_symbol_table::{name:\"x\",version:1,symbols:[\"p\",\"q\"]}";
+
+const IMPORT: &[u8] = b"$ion_symbol_table::{imports:[{name:\"x\",version:1,max_id:2}]} $10 $11";
 
 fn refused(answer: Result<Vec<u8>, Error>) -> (Reason, u64, Vec<u8>) {
     match answer {
@@ -90,15 +92,85 @@ fn refusals_have_a_place_and_what_stands_before() {
 
 #[test]
 fn imports_are_found_in_the_catalogue() {
-    let stream = b"$ion_symbol_table::{imports:[{name:\"x\",version:1,max_id:2}]} $10 $11";
     assert_eq!(
-        to_text(stream, TABLES, &Limits::default()).unwrap(),
+        to_text(IMPORT, TABLES, &Limits::default()).unwrap(),
         b"p\nq\n"
     );
     assert_eq!(
-        check(stream, b"1", &Limits::default()),
+        check(IMPORT, b"1", &Limits::default()),
         Err(Error::CatalogRefused(Reason::CatalogEntry, 0))
     );
+}
+
+#[test]
+fn a_catalogue_is_loaded_once() {
+    let (by, limits) = (Profile::Strict, Limits::default());
+    let catalog = Catalog::load(TABLES, &limits).unwrap();
+    assert_eq!(catalog.to_text(by, IMPORT, &limits).unwrap(), b"p\nq\n");
+    assert_eq!(catalog.to_pretty(by, IMPORT, &limits).unwrap(), b"p\nq\n");
+    assert_eq!(catalog.check(by, IMPORT, &limits), Ok(2));
+    let binary = to_binary(IMPORT, TABLES, &limits).unwrap();
+    assert_eq!(catalog.to_binary(by, IMPORT, &limits).unwrap(), binary);
+    assert_eq!(catalog.rewrite(by, &binary, &limits).unwrap(), binary);
+    let floats = [IMPORT, b" [4e0]"].concat();
+    let at = IMPORT.len() as u64 + 2;
+    assert_eq!(
+        refused(catalog.to_text(by, &floats, &limits)),
+        (Reason::Float, at, b"p\nq\n[".to_vec())
+    );
+    assert_eq!(
+        catalog.to_text(Profile::Floats, &floats, &limits).unwrap(),
+        b"p\nq\n[4e0]\n"
+    );
+    assert_eq!(
+        catalog.check(by, IMPORT, &limits.depth(65_536)),
+        Err(Error::Invalid)
+    );
+    assert_eq!(
+        catalog.check(by, IMPORT, &limits.input(2)),
+        Err(Error::InputLimit)
+    );
+    assert_eq!(
+        Catalog::load(&[], &limits)
+            .unwrap()
+            .check(by, b"1", &limits),
+        Ok(1)
+    );
+}
+
+#[test]
+fn catalogues_that_are_not_loaded() {
+    let limits = Limits::default();
+    let failure = |tables: &[u8], limits: &Limits| Catalog::load(tables, limits).unwrap_err();
+    assert_eq!(
+        failure(&[TABLES, b" 5"].concat(), &limits),
+        Error::CatalogRefused(Reason::CatalogEntry, TABLES.len() as u64 + 1)
+    );
+    assert_eq!(
+        failure(TABLES, &limits.symbols((1 << 30) + 1)),
+        Error::Invalid
+    );
+    assert_eq!(failure(TABLES, &limits.input(2)), Error::InputLimit);
+}
+
+#[test]
+fn eight_threads_over_one_catalogue() {
+    fn crosses<T: Send + Sync>(_: &T) {}
+    let limits = Limits::default();
+    let catalog = Catalog::load(TABLES, &limits).unwrap();
+    crosses(&catalog);
+    std::thread::scope(|scope| {
+        for _ in 0..8 {
+            scope.spawn(|| {
+                for _ in 0..1000 {
+                    let text = catalog.to_text(Profile::Strict, IMPORT, &limits).unwrap();
+                    assert_eq!(text, b"p\nq\n");
+                }
+            });
+        }
+    });
+    let last = std::thread::spawn(move || catalog.check(Profile::Strict, IMPORT, &limits));
+    assert_eq!(last.join().unwrap(), Ok(2));
 }
 
 #[test]

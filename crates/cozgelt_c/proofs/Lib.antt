@@ -1,1 +1,3 @@
+mod Handled
 mod Kept
+mod LooseParts

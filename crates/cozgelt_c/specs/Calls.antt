@@ -79,3 +79,44 @@ Answers limits to catalog stream status old new before after = AnswersBy strict 
 pub record AnswersAt (number : ℕ) (limits : CozgeltLimits) (to : To) (catalog stream : List ℕ) (status : ℕ) (old new : CozgeltAnswer) (before after : List ℕ) : Type 0 where
   pub named : (profile : Profile) → profile_of number ≡ Some profile → AnswersBy profile limits to catalog stream status old new before after
   pub unnamed : profile_of number ≡ None → (status ≡ 5) × (new ≡ old) × (after ≡ before)
+
+-- ---- of a catalogue that is loaded once
+
+-- why a catalogue is not loaded, by status, and the answer beside it. 2: no memory; 3: it is longer than the limit on the input; 6: it is refused
+pub record WhyNotLoaded (limits : Limits) (catalog : List ℕ) (status : ℕ) (old new : CozgeltAnswer) : Type 0 where
+  pub long : status ≡ 3 → limits.input < length catalog
+  pub refused : status ≡ 6 → (r : Reason) × (new.reason ≡ number_of r) × HasCatalogVerdict limits catalog (Rejected r new.place)
+  pub above : 1 < status
+  pub known : status ≤ 6
+  pub no_others : (status ≢ 4) × (status ≢ 5)
+  pub refused_keeps : status ≡ 6 → new ≡ record old { reason = new.reason; place = new.place }
+  pub answer_kept : status ≢ 6 → new ≡ old
+
+-- a status of the loading of a catalogue, the tables of the handle before and after it, and the answer beside it. 0: they are those of the catalogue;
+-- 5: structs of another size, or limits above their maxima; 2, 3 and 6 as above. But for 0 the handle has the tables that it had
+pub record Loads (limits : CozgeltLimits) (catalog : List ℕ) (status : ℕ) (before after : List Shared) (old new : CozgeltAnswer) : Type 0 where
+  pub loaded : status ≡ 0 → IsCatalog (limits_of limits) catalog after
+  pub tables_kept : status ≢ 0 → after ≡ before
+  pub long : status ≡ 3 → limits.input < length catalog
+  pub valid : status ≢ 5 → AreValid limits old
+  pub invalid : status ≡ 5 → AreValid limits old → ⊥
+  pub refused : status ≡ 6 → (r : Reason) × (new.reason ≡ number_of r) × HasCatalogVerdict (limits_of limits) catalog (Rejected r new.place)
+  pub known : status ≤ 6
+  pub no_others : (status ≢ 1) × (status ≢ 4)
+  pub refused_keeps : status ≡ 6 → new ≡ record old { reason = new.reason; place = new.place }
+  pub answer_kept : status ≢ 6 → new ≡ old
+
+-- a status of a call under a profile with the tables of a handle: that of the stream with these tables; and 5 as above, where room and answer are as
+-- they were
+pub record AnswersFrom (profile : Profile) (limits : CozgeltLimits) (to : To) (tables : List Shared) (stream : List ℕ) (status : ℕ) (old new : CozgeltAnswer) (before after : List ℕ) : Type 0 where
+  pub answers : status ≢ 5 → AnswersWith profile tables (limits_of limits) to stream status old new before after
+  pub valid : status ≢ 5 → AreValid limits old
+  pub invalid : status ≡ 5 → AreValid limits old → ⊥
+  pub invalid_keeps : status ≡ 5 → (new ≡ old) × (after ≡ before)
+
+-- of a call that is given the number of a profile; and whatever catalogue the tables are of under these limits, the call that is given its bytes
+-- answers so
+pub record AnswersLoaded (number : ℕ) (limits : CozgeltLimits) (to : To) (tables : List Shared) (stream : List ℕ) (status : ℕ) (old new : CozgeltAnswer) (before after : List ℕ) : Type 0 where
+  pub named : (profile : Profile) → profile_of number ≡ Some profile → AnswersFrom profile limits to tables stream status old new before after
+  pub unnamed : profile_of number ≡ None → (status ≡ 5) × (new ≡ old) × (after ≡ before)
+  pub as_of_bytes : (catalog : List ℕ) → IsCatalog (limits_of limits) catalog tables → AnswersAt number limits to catalog stream status old new before after

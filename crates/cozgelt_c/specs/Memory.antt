@@ -1,7 +1,8 @@
 -- What a call of the C library holds.
-use Rattle.std.specs.Prelude.{◌≡◌, ℕ, ◌+◌, ◌≤◌, max, List, length}
+use Rattle.std.specs.Prelude.{◌≡◌, ℕ, ◌+◌, ◌≤◌, max, List, length, Result, Ok, Err}
 use Rattle.ion_meter.specs.Counts.{Counts}
 use Rattle.ion_meter.specs.declared.limits.Limits.{Limits}
+use Rattle.ion_symbols.specs.Table.{Shared, catalog_cost}
 use Rattle.ion_transcode.specs.declared.to.To.{To}
 use Rattle.ion_transcode.specs.declared.to.Form.TheVariants as form
 use Rattle.ion_transcode.specs.Bound.{bound}
@@ -33,3 +34,8 @@ room_bound limits to room = bound limits form.Text to + room
 -- the most that a call may hold: the catalogue, and that
 abbrev pub call_bound : Limits → To → ℕ → ℕ
 call_bound limits to room = limits.symbols + room_bound limits to room
+
+-- what the tables cost that were loaded, or nothing where there is a status
+abbrev pub cost_of : Result (List Shared) ℕ → ℕ
+cost_of (Ok tables) = catalog_cost tables
+cost_of (Err status) = 0

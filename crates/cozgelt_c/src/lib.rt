@@ -3,7 +3,7 @@
 //! `bindings/c/cozgelt.h` declares them, and says what a caller has to keep that no contract can say.
 #![tactic(auto)]
 
-ghost use Rattle.std.specs.Prelude.{◌≡◌, ◌≢◌, ◌≤◌, ◌<◌, ◌-◌, ◌^◌, ◌++◌, length, drop, None, IfSome};
+ghost use Rattle.std.specs.Prelude.{◌≡◌, ◌≢◌, ◌≤◌, ◌<◌, ◌-◌, ◌^◌, ◌++◌, length, drop, None, IfSome, IfOk, IfErr, OnOk};
 ghost use Rattle.std.specs.Prelude.{ℕ, [], Ok, Err};
 ghost use Rattle.ion_meter.specs.Limits.{AreChecked};
 ghost use Rattle.ion_meter.specs.Reasons.{number_of};
@@ -15,9 +15,10 @@ ghost use Rattle.ion_transcode.specs.Verdict.{HasVerdictWith};
 ghost use Rattle.ion_transcode.specs.declared.to.To.TheVariants as to;
 ghost use Rattle.ion_transcode.specs.declared.to.Form.TheVariants as form;
 ghost use Rattle.ion_transcode.specs.Bound.{bound};
-ghost use Rattle.cozgelt_c.specs.Calls.{Answers, AnswersAt, AnswersBy, AnswersWith};
+ghost use Rattle.ion_transcode.specs.Catalogues.{IsCatalog, LoadCharges};
+ghost use Rattle.cozgelt_c.specs.Calls.{Answers, AnswersAt, AnswersBy, AnswersWith, WhyNotLoaded};
 ghost use Rattle.cozgelt_c.specs.Calls.{AreValid, limits_of, profile_of};
-ghost use Rattle.cozgelt_c.specs.Memory.{HoldsAtMost, call_bound, room_bound};
+ghost use Rattle.cozgelt_c.specs.Memory.{HoldsAtMost, call_bound, cost_of, room_bound};
 
 use crate::buffer::Bounded;
 use ion_meter::fault::{Fault, Reason};
@@ -32,6 +33,9 @@ use ion_transcode::to::{Summary, To};
 use std::alloc::Global;
 
 mod buffer;
+mod handle;
+mod loaded;
+mod loose;
 mod written;
 
 /// The limits of a call.
@@ -238,6 +242,35 @@ fn convert_with(
     }
 }
 
+/// Loads a catalogue, or tells by a status why there is none.
+fn load(
+    meter: &mut Meter<Global>,
+    limits: Limits,
+    catalog: &[u8],
+    answer: &mut CozgeltAnswer,
+) -> Result<Catalog<Global>, u32>
+    requires checked { AreChecked limits }
+    requires held { meter.old.held ≤ 2 ^ 46 }
+    requires countable { meter.old.refused < 2 ^ 64 - 1 }
+    ensures loaded { IfOk result (λ tables. IsCatalog limits catalog.now tables) }
+    ensures told { OnOk result (answer.new ≡ answer.old) }
+    ensures why { IfErr result (λ status.
+        WhyNotLoaded limits catalog.now status answer.old answer.new) }
+    ensures counted { OnOk result (meter.new.refused ≡ meter.old.refused) }
+    ensures charges { LoadCharges limits (cost_of result) meter.old meter.new }
+{
+    let (loaded, _) = load_catalog(meter, limits, FromRead::new(catalog));
+    match loaded {
+        Ok(tables) => Ok(tables),
+        Err(Fault::Refused(reason, place)) => {
+            refuse(reason, place, answer);
+            Err(CATALOG_REFUSED)
+        }
+        Err(Fault::InputLimit) => Err(INPUT_LIMIT),
+        Err(Fault::Memory | Fault::ReadFault | Fault::WriteFault) => Err(NO_MEMORY),
+    }
+}
+
 /// Converts a stream, its imports from a catalogue.
 fn convert_by(
     alloc: Global,
@@ -259,19 +292,13 @@ fn convert_by(
     let Some(limits) = checked(limits, answer) else {
         return INVALID;
     };
-    let (loaded, _) = load_catalog(meter, limits, FromRead::new(catalog));
-    match loaded {
+    match load(meter, limits, catalog, answer) {
         Ok(tables) => {
             let status = convert_with(alloc, meter, &tables, limits, task, stream, room, answer);
             tables.release(meter);
             status
         }
-        Err(Fault::Refused(reason, place)) => {
-            refuse(reason, place, answer);
-            CATALOG_REFUSED
-        }
-        Err(Fault::InputLimit) => INPUT_LIMIT,
-        Err(Fault::Memory | Fault::ReadFault | Fault::WriteFault) => NO_MEMORY,
+        Err(status) => status,
     }
 }
 

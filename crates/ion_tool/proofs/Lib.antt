@@ -1,10 +1,16 @@
 pub mod Acts
 pub mod Asking
+pub mod Counted
 pub mod InTurn
 pub mod LimitsRead
+pub mod LineEnds
+pub mod LineRows
 pub mod Loading
+pub mod MarksOf
 pub mod NamesInLines
 pub mod OneRun
+pub mod Placing
+pub mod Serves
 pub mod ShowWord
 pub mod Turns
 pub mod Writing

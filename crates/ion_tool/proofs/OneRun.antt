@@ -8,7 +8,7 @@ use Rattle.ion_transcode.specs.declared.to.Form.TheVariants as form
 use Rattle.ion_tool.specs.declared.words.Action.{Action}
 use Rattle.ion_tool.specs.declared.words.Action.TheVariants.{Show, ShowPretty, Check, Convert, ConvertPretty, Rewrite}
 use Rattle.ion_tool.specs.declared.words.Task.{Task}
-use Rattle.ion_tool.specs.Words.{action_name, catalog_in, files_in, form_in, form_name, form_word, limits_in, profile_in, IsRun, Names, is_pretty, is_rewritten, pretty_in, rewrite_in}
+use Rattle.ion_tool.specs.Words.{action_name, catalog_in, files_in, form_in, form_name, form_word, limits_in, lines_in, profile_in, IsRun, Names, is_pretty, is_rewritten, pretty_in, rewrite_in}
 
 pub some_is : {T : Type 0} {x y : T} → Some x ≡ Some y → x ≡ y
 some_is e = cc e
@@ -71,9 +71,9 @@ same_limits l m r q same lr lq = some_is (sym lr ∙ (ap limits_in same ∙ lq))
 same_part : {T : Type 0} (name : List Row → T) (f h : T) (r q : List Row) → r ≡ q → name r ≡ f → name q ≡ h → f ≡ h
 same_part name f h r q same fr fq = sym fr ∙ (ap name same ∙ fq)
 
--- a task is its action and its profile
-task_is : (a b : Task) → a.action ≡ b.action → a.profile ≡ b.profile → a ≡ b
-task_is a b e p = rw (e, p) refl
+-- a task is its action, its profile and what is said of its fault
+task_is : (a b : Task) → a.action ≡ b.action → a.profile ≡ b.profile → a.lines ≡ b.lines → a ≡ b
+task_is a b e p l = rw (e, p, l) refl
 
 pub one_run : (words : List Text) (a b : Task) (l m : Limits) (c d : Option Text) (f h : List Text) → IsRun words a l c f → IsRun words b m d h
     → (a ≡ b) × (l ≡ m) × (c ≡ d) × (f ≡ h)
@@ -84,7 +84,8 @@ one_run words a b l m c d f h (inr n) (inl none) = absurd (names_nothing a l c f
 one_run words a b l m c d f h (inr n) (inr o) =
     let both : (action_name a.action, n.rows) ≡ (action_name b.action, o.rows) = some_is (sym n.named ∙ o.named) in
     let same = ap (λ p. p.1) both in (
-      task_is a b (action_is a.action b.action (ap (λ p. p.0) both) (sym n.formed ∙ (ap form_in same ∙ o.formed)) (sym n.laid_out ∙ (ap pretty_in same ∙ o.laid_out)) (sym n.rewritten ∙ (ap rewrite_in same ∙ o.rewritten))) (sym n.profiled ∙ (ap profile_in same ∙ o.profiled)),
+      task_is a b (action_is a.action b.action (ap (λ p. p.0) both) (sym n.formed ∙ (ap form_in same ∙ o.formed)) (sym n.laid_out ∙ (ap pretty_in same ∙ o.laid_out)) (sym n.rewritten ∙ (ap rewrite_in same ∙ o.rewritten))) (sym n.profiled ∙ (ap profile_in same ∙ o.profiled))
+          (sym n.lined ∙ (ap lines_in same ∙ o.lined)),
       same_limits l m n.rows o.rows same n.limited o.limited,
       same_part catalog_in c d n.rows o.rows same n.catalogued o.catalogued,
       same_part files_in f h n.rows o.rows same n.filed o.filed,

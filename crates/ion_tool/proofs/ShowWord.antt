@@ -20,17 +20,22 @@ usual_limits = refl
 
 -- without `--floats` no floats are read
 abbrev strictly : Action → Task
-strictly a = record { action = a; profile = strict }
+strictly a = record { action = a; profile = strict; lines = false }
 
 -- the one word `show` names what no words ask for
 pub show_is_named : Names (codes "show" ∷ []) (strictly Show) default_limits None []
 unfolding clap_on_literals
-show_is_named = record { rows = _; faultless = refl; named = refl; formed = refl; laid_out = refl; rewritten = refl; profiled = refl; limited = refl; catalogued = refl; filed = refl; joined = refl }
+show_is_named = record { rows = _; faultless = refl; named = refl; formed = refl; laid_out = refl; rewritten = refl; profiled = refl; lined = refl; limited = refl; catalogued = refl; filed = refl; joined = refl }
 
 -- with it they are
-pub floats_are_named : Names (codes "show" ∷ codes "--floats" ∷ codes "data.ion" ∷ []) (record { action = Show; profile = floats }) default_limits None (codes "data.ion" ∷ [])
+pub floats_are_named : Names (codes "show" ∷ codes "--floats" ∷ codes "data.ion" ∷ []) (record { action = Show; profile = floats; lines = false }) default_limits None (codes "data.ion" ∷ [])
 unfolding clap_on_literals
-floats_are_named = record { rows = _; faultless = refl; named = refl; formed = refl; laid_out = refl; rewritten = refl; profiled = refl; limited = refl; catalogued = refl; filed = refl; joined = refl }
+floats_are_named = record { rows = _; faultless = refl; named = refl; formed = refl; laid_out = refl; rewritten = refl; profiled = refl; lined = refl; limited = refl; catalogued = refl; filed = refl; joined = refl }
+
+-- with `--lines` the line on a refusal says the line and the column too
+pub lines_are_named : Names (codes "check" ∷ codes "--lines" ∷ codes "data.ion" ∷ []) (record { action = Check; profile = strict; lines = true }) default_limits None (codes "data.ion" ∷ [])
+unfolding clap_on_literals
+lines_are_named = record { rows = _; faultless = refl; named = refl; formed = refl; laid_out = refl; rewritten = refl; profiled = refl; lined = refl; limited = refl; catalogued = refl; filed = refl; joined = refl }
 
 abbrev words : List Text
 words = codes "check" ∷ codes "--depth" ∷ codes "65535" ∷ codes "--scalar=0" ∷ codes "data.10n" ∷ []
@@ -41,35 +46,35 @@ limits = record default_limits { depth = 65535; scalar = 0 }
 -- options change their limits, and a word more is the file
 pub check_is_named : Names words (strictly Check) limits None (codes "data.10n" ∷ [])
 unfolding clap_on_literals
-check_is_named = record { rows = _; faultless = refl; named = refl; formed = refl; laid_out = refl; rewritten = refl; profiled = refl; limited = refl; catalogued = refl; filed = refl; joined = refl }
+check_is_named = record { rows = _; faultless = refl; named = refl; formed = refl; laid_out = refl; rewritten = refl; profiled = refl; lined = refl; limited = refl; catalogued = refl; filed = refl; joined = refl }
 
 -- the word `convert` is the third action
 pub convert_is_named : Names (codes "convert" ∷ codes "data.ion" ∷ []) (strictly (Convert None)) default_limits None (codes "data.ion" ∷ [])
 unfolding clap_on_literals
-convert_is_named = record { rows = _; faultless = refl; named = refl; formed = refl; laid_out = refl; rewritten = refl; profiled = refl; limited = refl; catalogued = refl; filed = refl; joined = refl }
+convert_is_named = record { rows = _; faultless = refl; named = refl; formed = refl; laid_out = refl; rewritten = refl; profiled = refl; lined = refl; limited = refl; catalogued = refl; filed = refl; joined = refl }
 
 -- with `--to` it has the form that is named
 pub text_is_named : Names (codes "convert" ∷ codes "--to" ∷ codes "text" ∷ codes "data.10n" ∷ []) (strictly (Convert (Some form.Text))) default_limits None (codes "data.10n" ∷ [])
 unfolding clap_on_literals
-text_is_named = record { rows = _; faultless = refl; named = refl; formed = refl; laid_out = refl; rewritten = refl; profiled = refl; limited = refl; catalogued = refl; filed = refl; joined = refl }
+text_is_named = record { rows = _; faultless = refl; named = refl; formed = refl; laid_out = refl; rewritten = refl; profiled = refl; lined = refl; limited = refl; catalogued = refl; filed = refl; joined = refl }
 
 pub binary_is_named : Names (codes "convert" ∷ codes "--to=binary" ∷ []) (strictly (Convert (Some form.Binary))) default_limits None []
 unfolding clap_on_literals
-binary_is_named = record { rows = _; faultless = refl; named = refl; formed = refl; laid_out = refl; rewritten = refl; profiled = refl; limited = refl; catalogued = refl; filed = refl; joined = refl }
+binary_is_named = record { rows = _; faultless = refl; named = refl; formed = refl; laid_out = refl; rewritten = refl; profiled = refl; lined = refl; limited = refl; catalogued = refl; filed = refl; joined = refl }
 
 -- `--pretty` stands for text for people, after `show` and after `--to text`
 pub pretty_is_named : Names (codes "show" ∷ codes "--pretty" ∷ codes "data.ion" ∷ []) (strictly ShowPretty) default_limits None (codes "data.ion" ∷ [])
 unfolding clap_on_literals
-pretty_is_named = record { rows = _; faultless = refl; named = refl; formed = refl; laid_out = refl; rewritten = refl; profiled = refl; limited = refl; catalogued = refl; filed = refl; joined = refl }
+pretty_is_named = record { rows = _; faultless = refl; named = refl; formed = refl; laid_out = refl; rewritten = refl; profiled = refl; lined = refl; limited = refl; catalogued = refl; filed = refl; joined = refl }
 
 pub pretty_text_is_named : Names (codes "convert" ∷ codes "--pretty" ∷ codes "--to" ∷ codes "text" ∷ []) (strictly ConvertPretty) default_limits None []
 unfolding clap_on_literals
-pretty_text_is_named = record { rows = _; faultless = refl; named = refl; formed = refl; laid_out = refl; rewritten = refl; profiled = refl; limited = refl; catalogued = refl; filed = refl; joined = refl }
+pretty_text_is_named = record { rows = _; faultless = refl; named = refl; formed = refl; laid_out = refl; rewritten = refl; profiled = refl; lined = refl; limited = refl; catalogued = refl; filed = refl; joined = refl }
 
 -- `--rewrite` stands for binary also of binary, after `--to binary`
 pub rewrite_is_named : Names (codes "convert" ∷ codes "--to" ∷ codes "binary" ∷ codes "--rewrite" ∷ []) (strictly Rewrite) default_limits None []
 unfolding clap_on_literals
-rewrite_is_named = record { rows = _; faultless = refl; named = refl; formed = refl; laid_out = refl; rewritten = refl; profiled = refl; limited = refl; catalogued = refl; filed = refl; joined = refl }
+rewrite_is_named = record { rows = _; faultless = refl; named = refl; formed = refl; laid_out = refl; rewritten = refl; profiled = refl; lined = refl; limited = refl; catalogued = refl; filed = refl; joined = refl }
 
 -- `show` does not have it
 pub show_does_not_rewrite : fault_of ion_app (codes "show" ∷ codes "--rewrite" ∷ []) ≡ UnknownArgument ∷ []
@@ -118,16 +123,16 @@ no_such_form asks = no_run_of_others asks.0 asks.1 asks.2 asks.3 asks.4
 -- the catalogue has its option
 pub catalog_is_named : Names (codes "show" ∷ codes "--catalog" ∷ codes "tables.ion" ∷ codes "-" ∷ []) (strictly Show) default_limits (Some (codes "tables.ion")) (codes "-" ∷ [])
 unfolding clap_on_literals
-catalog_is_named = record { rows = _; faultless = refl; named = refl; formed = refl; laid_out = refl; rewritten = refl; profiled = refl; limited = refl; catalogued = refl; filed = refl; joined = refl }
+catalog_is_named = record { rows = _; faultless = refl; named = refl; formed = refl; laid_out = refl; rewritten = refl; profiled = refl; lined = refl; limited = refl; catalogued = refl; filed = refl; joined = refl }
 
 -- and the word `-` names no file
 pub dash_is_input : file_for (codes "-") ≡ None
 dash_is_input = refl
 
 -- several words are several files
-pub files_are_named : Names (codes "check" ∷ codes "a" ∷ codes "--floats" ∷ codes "-" ∷ codes "a" ∷ []) (record { action = Check; profile = floats }) default_limits None (codes "a" ∷ codes "-" ∷ codes "a" ∷ [])
+pub files_are_named : Names (codes "check" ∷ codes "a" ∷ codes "--floats" ∷ codes "-" ∷ codes "a" ∷ []) (record { action = Check; profile = floats; lines = false }) default_limits None (codes "a" ∷ codes "-" ∷ codes "a" ∷ [])
 unfolding clap_on_literals
-files_are_named = record { rows = _; faultless = refl; named = refl; formed = refl; laid_out = refl; rewritten = refl; profiled = refl; limited = refl; catalogued = refl; filed = refl; joined = refl }
+files_are_named = record { rows = _; faultless = refl; named = refl; formed = refl; laid_out = refl; rewritten = refl; profiled = refl; lined = refl; limited = refl; catalogued = refl; filed = refl; joined = refl }
 
 -- standard input may be among them, but not twice
 abbrev twice : List Text
@@ -153,7 +158,7 @@ input_twice asks = no_run_of_twice asks.0 asks.1 asks.2 asks.3 asks.4
 -- after that option `-` is a name as any other
 pub dash_is_named : Names (codes "show" ∷ codes "--catalog" ∷ codes "-" ∷ []) (strictly Show) default_limits (Some (codes "-")) []
 unfolding clap_on_literals
-dash_is_named = record { rows = _; faultless = refl; named = refl; formed = refl; laid_out = refl; rewritten = refl; profiled = refl; limited = refl; catalogued = refl; filed = refl; joined = refl }
+dash_is_named = record { rows = _; faultless = refl; named = refl; formed = refl; laid_out = refl; rewritten = refl; profiled = refl; lined = refl; limited = refl; catalogued = refl; filed = refl; joined = refl }
 
 -- the version is asked for before any subcommand
 pub version_is_asked : fault_of ion_app (codes "--version" ∷ []) ≡ DisplayVersion ∷ []

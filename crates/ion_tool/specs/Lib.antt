@@ -1,2 +1,4 @@
 pub mod Words
+pub mod LineNumbers
+pub mod Counting
 pub mod Serving

@@ -47,6 +47,10 @@ rewrite_rule = record (new_rule (codes "rewrite")) { long = Some (codes "rewrite
 abbrev pub floats_rule : Rule
 floats_rule = record (new_rule (codes "floats")) { long = Some (codes "floats"); action = Some SetTrue }
 
+-- `--lines`
+abbrev pub lines_rule : Rule
+lines_rule = record (new_rule (codes "lines")) { long = Some (codes "lines"); action = Some SetTrue }
+
 -- `[FILE]..`
 abbrev pub files_rule : Rule
 files_rule = record (new_rule (codes "FILE")) { action = Some Append }
@@ -60,9 +64,9 @@ with_limits app =
     (limit_rule (codes "symbols") 1073741824))
     (limit_rule (codes "value") 1073741824)
 
--- a subcommand after what it has of its own: `[--floats] [--catalog FILE] [--depth N] [--scalar N] [--symbols N] [--value N] [FILE]..`
+-- a subcommand after what it has of its own: `[--floats] [--catalog FILE] [--lines] [--depth N] [--scalar N] [--symbols N] [--value N] [FILE]..`
 abbrev pub action_app : App → App
-action_app app = with_rule (with_limits (with_rule (with_rule app floats_rule) catalog_rule)) files_rule
+action_app app = with_rule (with_limits (with_rule (with_rule (with_rule app floats_rule) catalog_rule) lines_rule)) files_rule
 
 -- the program's name, before its subcommands, of which one has to be named; it has a version
 abbrev pub bare_app : App
@@ -142,6 +146,10 @@ is_set (Some word) = bytes_eq word (codes "true")
 abbrev pub profile_in : List Row → Profile
 profile_in rows = record { floats = is_set (first_of (codes "floats") rows) }
 
+-- whether the line on a refusal says the line and the column too: where `--lines` stands
+abbrev pub lines_in : List Row → Bool
+lines_in rows = is_set (first_of (codes "lines") rows)
+
 -- whether a subcommand is given `--pretty`
 abbrev pub pretty_in : List Row → Bool
 pretty_in rows = is_set (first_of (codes "pretty") rows)
@@ -190,8 +198,8 @@ reads_input_once files = nat_le (count_by (λ word. is_none (file_for word)) fil
 abbrev pub go_together : Action → List Text → Bool
 go_together action files = has_one_form action files && reads_input_once files
 
--- `clap` finds no fault in the words, and they name the subcommand, the form and the layout for the task's action, and its profile, with these limits, this catalogue and
--- these words for files
+-- `clap` finds no fault in the words, and they name the subcommand, the form and the layout for the task's action, its profile, and what is said of its fault, with these
+-- limits, this catalogue and these words for files
 pub record Names (words : List Text) (task : Task) (limits : Limits) (catalog : Option Text) (files : List Text) : Type 0 where
   pub rows : List Row
   pub faultless : fault_of ion_app words ≡ []
@@ -200,6 +208,7 @@ pub record Names (words : List Text) (task : Task) (limits : Limits) (catalog : 
   pub laid_out : pretty_in rows ≡ is_pretty task.action
   pub rewritten : rewrite_in rows ≡ is_rewritten task.action
   pub profiled : profile_in rows ≡ task.profile
+  pub lined : lines_in rows ≡ task.lines
   pub limited : limits_in rows ≡ Some limits
   pub catalogued : catalog_in rows ≡ catalog
   pub filed : files_in rows ≡ files
@@ -208,7 +217,7 @@ pub record Names (words : List Text) (task : Task) (limits : Limits) (catalog : 
 -- the words ask for this run: there are none, for standard input to be shown with the usual limits and no tables, or they name it
 abbrev pub IsRun : List Text → Task → Limits → Option Text → List Text → Type 0
 IsRun words task limits catalog files =
-    ((words ≡ []) × (task ≡ record { action = Show; profile = strict }) × (limits ≡ default_limits) × (catalog ≡ None) × (files ≡ [])) ⊎ Names words task limits catalog files
+    ((words ≡ []) × (task ≡ record { action = Show; profile = strict; lines = false }) × (limits ≡ default_limits) × (catalog ≡ None) × (files ≡ [])) ⊎ Names words task limits catalog files
 
 -- the words ask for some run
 abbrev pub AsksRun : List Text → Type 0

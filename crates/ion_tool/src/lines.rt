@@ -1,11 +1,13 @@
 //! The lines that the program writes.
-ghost use Rattle.std.specs.Prelude.{◌≡◌, ◌+◌, ◌-◌, ◌^◌, ◌<◌, ◌≤◌, ◌++◌, Err, codes, length, option_map};
+ghost use Rattle.std.specs.Prelude.{◌≡◌, ◌+◌, ◌-◌, ◌^◌, ◌<◌, ◌≤◌, ◌++◌, Err, [], codes, length, option_map};
 ghost use Rattle.std.specs.List.{flat_map};
 ghost use Rattle.ion_text_out.specs.Escape.{hex_digit, letter};
-ghost use Rattle.ion_tool.specs.Serving.{catalog_line, fault_line, label_of, line_of, reason_text};
-ghost use Rattle.ion_tool.specs.Serving.{refusal_text, status_of, unopened_line, Gets, Puts};
+ghost use Rattle.ion_tool.specs.Serving.{catalog_line, fault_line, fault_text, label_of, line_of};
+ghost use Rattle.ion_tool.specs.Serving.{line_with, found_text, reason_text, refusal_text};
+ghost use Rattle.ion_tool.specs.Serving.{status_of, unopened_line, Gets, Puts};
 ghost use Rattle.ion_tool.specs.Serving.{char_in_name, escape, name_in_line};
 
+use crate::marks::Position;
 use arrayvec::{ArrayString, ArrayVec};
 use ion_meter::device::{Output, write_all};
 use ion_meter::fault::Fault;
@@ -199,18 +201,53 @@ fn phrase(words: &str) -> ArrayString<80>
     text
 }
 
-/// The line on a fault.
-fn line_on(fault: Fault) -> ArrayString<80>
-    ensures text { result.bytes ≡ fault_line fault }
-    ensures short { length result.bytes ≤ 69 }
+/// What is said of a fault.
+fn text_on(fault: Fault) -> ArrayString<80>
+    ensures text { result.bytes ≡ fault_text fault }
+    ensures short { length result.bytes ≤ 68 }
 {
-    let mut line = match fault {
+    match fault {
         Fault::Refused(reason, place) => refusal(reason.name(), place),
         Fault::InputLimit => refusal("InputLimit", INPUT_LIMIT),
         Fault::Memory => phrase("no memory"),
         Fault::ReadFault => phrase("read fault"),
         Fault::WriteFault => phrase("write fault"),
-    };
+    }
+}
+
+/// The line on a fault.
+fn line_on(fault: Fault) -> ArrayString<80>
+    ensures text { result.bytes ≡ fault_line fault }
+    ensures short { length result.bytes ≤ 69 }
+{
+    let mut line = text_on(fault);
+    line.push_str("\n");
+    line
+}
+
+/// What is said of a position, where there is one: the line and the column, from 1.
+fn position_text(position: Option<Position>) -> ArrayString<96>
+    ensures text { result.bytes ≡ found_text position }
+    ensures short { length result.bytes ≤ 96 }
+{
+    let mut text = ArrayString::new();
+    if let Some(Position { lines, bytes }) = position {
+        text.push_str(" (line ");
+        text.push_str(Buffer::new().format(1 + u128::from(lines)));
+        text.push_str(", column ");
+        text.push_str(Buffer::new().format(1 + u128::from(bytes)));
+        text.push_str(")");
+    }
+    text
+}
+
+/// The line on a fault, with its position where there is one.
+fn line_at(fault: Fault, position: Option<Position>) -> ArrayString<192>
+    ensures { result.bytes ≡ line_with fault (found_text position) }
+{
+    let mut line = ArrayString::new();
+    line.push_str(text_on(fault).as_str());
+    line.push_str(position_text(position).as_str());
     line.push_str("\n");
     line
 }
@@ -241,18 +278,33 @@ fn status_after(answer: Result<Summary, Fault>) -> u8
     }
 }
 
-/// Says on standard error, after a label where there is one, how a run failed, if it did, and gives
-/// the status of its answer.
-pub fn report<E: Output>(label: Option<&str>, answer: Result<Summary, Fault>, err: &mut E) -> u8
+/// Says on standard error, after a label where there is one, how a run failed, if it did, and at which
+/// position, where that is given; and gives the status of its answer.
+pub fn report_at<E: Output>(
+    label: Option<&str>,
+    answer: Result<Summary, Fault>,
+    position: Option<Position>,
+    err: &mut E,
+) -> u8
     requires { E.failure_count err.old < 2 ^ 64 - 1 }
     ensures status { result ≡ status_of answer }
     ensures said { Gets E.Output
-        (line_of (label_of (option_map (λ s. s.now) label.entry)) answer) err.old err.new }
+        (line_of (label_of (option_map (λ s. s.now) label.entry)) answer (found_text position))
+        err.old err.new }
 {
     if let Err(fault) = answer {
-        let _ = put_line(err, label, line_on(fault).as_str());
+        let _ = put_line(err, label, line_at(fault, position).as_str());
     }
     status_after(answer)
+}
+
+/// Says on standard error how a run failed, if it did, and gives the status of its answer.
+pub fn report<E: Output>(answer: Result<Summary, Fault>, err: &mut E) -> u8
+    requires { E.failure_count err.old < 2 ^ 64 - 1 }
+    ensures status { result ≡ status_of answer }
+    ensures said { Gets E.Output (line_of [] answer []) err.old err.new }
+{
+    report_at(None, answer, None, err)
 }
 
 /// Says on standard error why there is no catalogue, and gives the status.

@@ -4,8 +4,10 @@
 ghost use Rattle.std.specs.Prelude.{⊤};
 
 mod act;
+mod counter;
 mod files;
 mod lines;
+mod marks;
 mod serve;
 mod streams;
 mod words;
@@ -105,7 +107,7 @@ fn main(rt: HostRuntime) -> io::Result<ExitCode> {
         Err(_) => None,
     };
     let Some(words) = words else {
-        return Ok(ExitCode::from(report(None, Err(Fault::Memory), &mut err)));
+        return Ok(ExitCode::from(report(Err(Fault::Memory), &mut err)));
     };
     let lines = Lines::new(Retried::new(rt.stdout()), &is_open);
     let out = ToWrite::new(Escaped::new(alloc, lines, is_check(words.as_slice())));

@@ -14,8 +14,9 @@ ghost use Rattle.ion_tool.specs.Words.{AsksRun, IsRun};
 ghost use Rattle.ion_tool.specs.declared.words.Task.{Task};
 
 use crate::act::act;
+use crate::counter::LineCounter;
 use crate::files::{FileSource, UsedFile};
-use crate::lines::{put, report, report_catalog, say_unopened};
+use crate::lines::{put, report, report_at, report_catalog, say_unopened};
 use crate::words::{Job, Request, Task, file_of, read_words};
 use ion_meter::device::{Broken, Input, Output, write_all};
 use ion_meter::fault::Fault;
@@ -39,7 +40,7 @@ fn give_help<O: Output, E: Output>(text: &[u8], out: &mut O, err: &mut E) -> u8
 {
     match write_all(out, text) {
         Ok(()) => 0,
-        Err(Broken) => report(None, Err(Fault::WriteFault), err),
+        Err(Broken) => report(Err(Fault::WriteFault), err),
     }
 }
 
@@ -70,7 +71,7 @@ fn serve_input<I: Input, O: Output, E: Output>(
     out: O,
     mut err: E,
 ) -> (u8, I, O, E)
-    requires held { meter.old.held ≤ 2 ^ 48 }
+    requires held { meter.old.held ≤ 2 ^ 48 - 524288 }
     requires countable { meter.old.refused < 2 ^ 64 - 1 }
     requires in_failures { I.failure_count input < 2 ^ 64 - 1 }
     requires out_failures { O.failure_count out < 2 ^ 64 - 1 }
@@ -87,9 +88,17 @@ fn serve_input<I: Input, O: Output, E: Output>(
         limits,
         label,
     } = manner;
-    let (answer, input, out) = act(meter, catalog, task, limits, label, input, out);
-    let status = report(label, answer, &mut err);
-    (status, input, out, err)
+    let input = match LineCounter::new(meter, task.lines, input) {
+        Ok(counter) => counter,
+        Err(input) => {
+            let status = report_at(label, Err(Fault::Memory), None, &mut err);
+            return (status, input, out, err);
+        }
+    };
+    let (answer, mut input, out) = act(meter, catalog, task, limits, label, input, out);
+    let (answer, position) = input.place(answer);
+    let status = report_at(label, answer, position, &mut err);
+    (status, input.release(meter), out, err)
 }
 
 /// Runs over a file, hands it back, and says on standard error how the run failed, if it did.
@@ -102,7 +111,7 @@ fn serve_file<F: FileSource, O: Output, E: Output>(
     out: O,
     mut err: E,
 ) -> (u8, O, E)
-    requires held { meter.old.held ≤ 2 ^ 48 }
+    requires held { meter.old.held ≤ 2 ^ 48 - 524288 }
     requires countable { meter.old.refused < 2 ^ 64 - 1 }
     requires out_failures { O.failure_count out < 2 ^ 64 - 1 }
     requires err_failures { E.failure_count err < 2 ^ 64 - 1 }
@@ -138,7 +147,7 @@ fn serve_one<F: FileSource, I: Input, O: Output, E: Output>(
     out: O,
     err: E,
 ) -> (u8, I, O, E)
-    requires held { meter.old.held ≤ 2 ^ 48 }
+    requires held { meter.old.held ≤ 2 ^ 48 - 524288 }
     requires countable { meter.old.refused < 2 ^ 64 - 1 }
     requires in_failures { I.failure_count input < 2 ^ 64 - 1 }
     requires out_failures { O.failure_count out < 2 ^ 64 - 1 }
@@ -194,7 +203,7 @@ fn serve_each<F: FileSource, I: Input, O: Output, E: Output>(
     mut out: O,
     mut err: E,
 ) -> (u8, I, O, E)
-    requires room { HasRoom (2 ^ 48) 0 meter.old }
+    requires room { HasRoom (2 ^ 48 - 524288) 0 meter.old }
     requires in_failures { I.failure_count input < 2 ^ 64 - 1 }
     requires out_failures { O.failure_count out < 2 ^ 64 - 1 }
     requires err_failures { E.failure_count err < 2 ^ 64 - 1 }
@@ -243,7 +252,7 @@ fn serve_job<F: FileSource, I: Input, O: Output, E: Output>(
     out: O,
     err: E,
 ) -> (u8, I, O, E)
-    requires room { HasRoom (2 ^ 48) 0 meter.old }
+    requires room { HasRoom (2 ^ 48 - 524288) 0 meter.old }
     requires in_failures { I.failure_count input < 2 ^ 64 - 1 }
     requires out_failures { O.failure_count out < 2 ^ 64 - 1 }
     requires err_failures { E.failure_count err < 2 ^ 64 - 1 }
@@ -299,7 +308,7 @@ fn serve_loaded<F: FileSource, I: Input, O: Output, E: Output>(
     out: O,
     mut err: E,
 ) -> (u8, I, O, E)
-    requires room { HasRoom (2 ^ 48) 0 meter.old }
+    requires room { HasRoom (2 ^ 48 - 524288) 0 meter.old }
     requires in_failures { I.failure_count input < 2 ^ 64 - 1 }
     requires out_failures { O.failure_count out < 2 ^ 64 - 1 }
     requires err_failures { E.failure_count err < 2 ^ 64 - 1 }
@@ -335,7 +344,7 @@ fn serve_named<F: FileSource, I: Input, O: Output, E: Output>(
     out: O,
     mut err: E,
 ) -> (u8, I, O, E)
-    requires room { HasRoom (2 ^ 48) 0 meter.old }
+    requires room { HasRoom (2 ^ 48 - 524288) 0 meter.old }
     requires in_failures { I.failure_count input < 2 ^ 64 - 1 }
     requires out_failures { O.failure_count out < 2 ^ 64 - 1 }
     requires err_failures { E.failure_count err < 2 ^ 64 - 1 }
@@ -369,7 +378,7 @@ fn serve_run<F: FileSource, I: Input, O: Output, E: Output>(
     out: O,
     err: E,
 ) -> (u8, I, O, E)
-    requires room { HasRoom (2 ^ 48) 0 meter.old }
+    requires room { HasRoom (2 ^ 48 - 524288) 0 meter.old }
     requires in_failures { I.failure_count input < 2 ^ 64 - 1 }
     requires out_failures { O.failure_count out < 2 ^ 64 - 1 }
     requires err_failures { E.failure_count err < 2 ^ 64 - 1 }
@@ -409,7 +418,7 @@ pub fn serve<F: FileSource, I: Input + Drop, O: Output + Drop, E: Output + Drop>
     mut out: O,
     mut err: E,
 ) -> (u8, I, O, E)
-    requires held { meter.old.held ≤ 2 ^ 48 }
+    requires held { meter.old.held ≤ 2 ^ 48 - 524288 }
     requires countable { meter.old.refused < 2 ^ 64 - 1 }
     requires tables_room { HasRoom (2 ^ 48) 0 tables.old }
     requires in_failures { I.failure_count input < 2 ^ 64 - 1 }
@@ -466,7 +475,7 @@ pub fn serve<F: FileSource, I: Input + Drop, O: Output + Drop, E: Output + Drop>
         }
         Ok(Request::Help(text)) => give_help(text.as_bytes(), &mut out, &mut err),
         Ok(Request::Usage(text)) => give_usage(text.as_bytes(), &mut err),
-        Err(AllocError) => report(None, Err(Fault::Memory), &mut err),
+        Err(AllocError) => report(Err(Fault::Memory), &mut err),
     };
     (status, input, out, err)
 }

@@ -59,8 +59,8 @@ impl<D: Write> Write for Retried<D> {
 }
 
 /// A writer to which control characters, but for ends of lines, go by their escapes, as `\x1b`,
-/// where it has lines with names: on a terminal they would be followed. Names come without them, but
-/// not the words that `clap` says something of. Such a line is held until its end, since what other
+/// where it has lines with names: on a terminal they would be followed. Names and wrong words come
+/// without them; this keeps them from all else. Such a line is held until its end, since what other
 /// processes write at the same time would stand between its parts.
 #[derive(Drop)]
 pub struct Escaped<W> {

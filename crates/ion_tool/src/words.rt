@@ -3,9 +3,10 @@ ghost use Rattle.std.specs.Prelude.{◌≡◌, ◌≢◌, ◌≤◌, false, true
 ghost use Rattle.clap.specs.Words.{Row, app_of, first_of, found_of, kind_of, rows_of, rule_of, fault_of, FailsBy, new_app, subcommand_of, subcommand_rows_of, with_rule, with_subcommand};
 ghost use Rattle.clap.specs.declared.builder.command.Command.TheViews.{out-Command};
 ghost use Rattle.ion_meter.specs.Limits.{AreChecked};
-ghost use Rattle.ion_tool.specs.Words.{action_app, with_limits, action_name, all_named, bare_app, catalog_in, catalog_rule, file_for, files_in, files_rule, form_in, has_one_form, form_rule, form_word, ion_app, limit_in, limit_rule, limits_in, floats_rule, is_pretty, is_rewritten, is_set, pretty_in, pretty_rule, profile_in, rewrite_in, rewrite_rule, Asks, AnswersError, IsRequestFor};
+ghost use Rattle.ion_tool.specs.Words.{action_app, with_limits, action_name, all_named, bare_app, catalog_in, catalog_rule, file_for, files_in, files_rule, form_in, has_one_form, form_rule, form_word, ion_app, limit_in, limit_rule, limits_in, lines_in, lines_rule, floats_rule, is_pretty, is_rewritten, is_set, pretty_in, pretty_rule, profile_in, rewrite_in, rewrite_rule, Asks, AnswersError, IsRequestFor};
 ghost use Rattle.ion_tool.specs.Words.{go_together, reads_input_once};
 
+use crate::lines::escape;
 use clap::builder::ValueParser;
 use clap::error::ErrorKind;
 use clap::{Arg, ArgAction, ArgMatches, Command, Error};
@@ -32,11 +33,13 @@ pub enum Action {
     Rewrite,
 }
 
-/// What is done with the stream, and which values of Ion it may have.
+/// What is done with the stream, which values of Ion it may have, and what is said of its fault.
 #[derive(Clone, Copy, Debug, PartialEq, Eq)]
 pub struct Task {
     pub action: Action,
     pub profile: Profile,
+    /// Whether the line on a refusal says the line and the column too, if the stream is text.
+    pub lines: bool,
 }
 
 /// One run of the program.
@@ -166,6 +169,17 @@ fn floats_arg<'a>(alloc: Global) -> Arg<'a>
         .help("Accept floats, as 1.5e0, which are refused without it")
 }
 
+/// The option `--lines`.
+fn lines_arg<'a>(alloc: Global) -> Arg<'a>
+    ensures rule { rule_of result ≡ lines_rule }
+    ensures own { result.global ≡ false }
+{
+    Arg::new(alloc, "lines")
+        .long("lines")
+        .action(ArgAction::SetTrue)
+        .help("Say also the line and column where text is refused")
+}
+
 /// The argument FILE, which may be there more than once.
 fn files_arg<'a>(alloc: Global) -> Arg<'a>
     ensures rule { rule_of result ≡ files_rule }
@@ -213,6 +227,7 @@ fn action_command<'a>(
 {
     let command = command.about(about).after_help(example);
     let command = command.arg(floats_arg(alloc))?.arg(catalog_arg(alloc))?;
+    let command = command.arg(lines_arg(alloc))?;
     with_limits(alloc, command, writes_binary)?.arg(files_arg(alloc))
 }
 
@@ -333,8 +348,50 @@ fn with_tip(alloc: Global, text: &str, word: &str) -> Result<String, AllocError>
     Ok(hinted)
 }
 
-/// What is said of wrong words.
+/// Adds a character of a word, as it stands in a line where it is of a name.
+fn add_shown(text: &mut String, character: char) -> Result<(), AllocError> {
+    if character.is_control() || character == '\\' {
+        let mut room = [0; 4];
+        for byte in character.encode_utf8(&mut room).as_bytes() {
+            for letter in escape(*byte).as_slice() {
+                text.push(char::from(*letter))?;
+            }
+        }
+        return Ok(());
+    }
+    text.push(character)
+}
+
+/// The words, of which nothing ends a line or controls a terminal.
+fn shown(alloc: Global, words: &[String]) -> Result<Vec<String>, AllocError> {
+    let mut shown = Vec::new(alloc);
+    for word in words {
+        let mut text = String::new(alloc);
+        for character in word.as_str().chars() {
+            add_shown(&mut text, character)?;
+        }
+        shown.push(text)?;
+    }
+    Ok(shown)
+}
+
+/// What is said of wrong words, which `clap` reads once more as they are shown.
+#[inline(never)]
 fn usage_of(alloc: Global, error: &Error, words: &[String]) -> Result<String, AllocError>
+    ensures { IfOk result (λ text. string_bytes text ≢ []) }
+{
+    let shown = shown(alloc, words)?;
+    match matches_of(alloc, shown.as_slice()) {
+        Err(error) => match error.kind() {
+            ErrorKind::OutOfMemory => Err(AllocError),
+            _ => usage_text(alloc, &error, shown.as_slice()),
+        },
+        Ok(_) => text_of(alloc, error, USAGE),
+    }
+}
+
+/// What is said of these wrong words.
+fn usage_text(alloc: Global, error: &Error, words: &[String]) -> Result<String, AllocError>
     ensures { IfOk result (λ text. string_bytes text ≢ []) }
 {
     let text = text_of(alloc, error, USAGE)?;
@@ -472,6 +529,7 @@ fn asked_by<'m, 'a>(matches: &'m ArgMatches<'a>) -> Option<Asked<'m, 'a>>
         × (pretty_in rows ≡ is_pretty a.task.action)
         × (rewrite_in rows ≡ is_rewritten a.task.action)
         × (profile_in rows ≡ a.task.profile)
+        × (lines_in rows ≡ a.task.lines)
         × (limits_in rows ≡ Some a.limits) × AreChecked a.limits
         × (catalog_in rows ≡ option_map (λ s. s.now) a.catalog)
         × (files_in rows ≡ all_named a.files)
@@ -487,6 +545,7 @@ fn asked_by<'m, 'a>(matches: &'m ArgMatches<'a>) -> Option<Asked<'m, 'a>>
     let (name, options) = matches.subcommand()?;
     let pretty = is_set(options, "pretty");
     let rewrite = is_set(options, "rewrite");
+    let lines = is_set(options, "lines");
     let action = action_of(name, options.get_str("to"), pretty, rewrite)?;
     let limits = limits_of(options)?;
     let files = options.get_strs("FILE");
@@ -498,6 +557,7 @@ fn asked_by<'m, 'a>(matches: &'m ArgMatches<'a>) -> Option<Asked<'m, 'a>>
         profile: Profile {
             floats: is_set(options, "floats"),
         },
+        lines,
     };
     let catalog = options.get_str("catalog");
     Some(Asked {
@@ -606,6 +666,7 @@ pub fn read_words(alloc: Global, words: &[String]) -> Result<Request, AllocError
         let task = Task {
             action: Action::Show,
             profile: Profile::strict(),
+            lines: false,
         };
         let job = Job {
             task,

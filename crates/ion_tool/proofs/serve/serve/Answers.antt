@@ -36,6 +36,12 @@ returns-in-Ok-Run-clause-unread g c none =
     let asks = rw (c.in-Ok-Run.field-0-is, c.as_slice.ensures.value) at c.in-Ok-Run.ensures.asks in
     absurd (none (job.task, job.limits, option_map string_bytes c.in-Ok-Run.catalog, map string_bytes job.files.items, asks.0))
 
+pub returns-in-Ok-Run-clause-other : goal.returns-in-Ok-Run-clause-other
+returns-in-Ok-Run-clause-other g c none =
+    let job = c.in-Ok-Run.job in
+    let asks = rw (c.in-Ok-Run.field-0-is, c.as_slice.ensures.value) at c.in-Ok-Run.ensures.asks in
+    absurd (none (job.task, job.limits, option_map string_bytes c.in-Ok-Run.catalog, map string_bytes job.files.items, asks.0))
+
 pub returns-clause-ran : goal.returns-clause-ran
 returns-clause-ran g c task limits names run =
     elim c.match-read_words.branch [

@@ -17,6 +17,7 @@ returns-clause-some c =
       sym c.is_set-pretty.ensures ∙ c.in_ok-action.ensures.some.2,
       sym c.is_set-rewrite.ensures ∙ c.in_ok-action.ensures.some.3,
       sym (ap (λ (b : Bool). record { floats = b }) c.is_set.ensures),
+      sym c.is_set-lines.ensures,
       search rules,
       search rules,
       sym (c.get_str-catalog.ensures ∙ first_value-rows found (codes "catalog")),

@@ -1,3 +1,4 @@
+mod Below
 mod Rows
 mod Elements
 mod Termination

@@ -9,6 +9,10 @@ mod Bodies
 mod Narrow
 mod Refused
 mod Stable
+mod Cutting
+mod Elsewhere
+mod FirstMarker
+mod EachEnd
 mod Free
 mod ExactLimits
 mod PassedLimits

@@ -21,7 +21,7 @@ narrower-limit limits wide same reason (inl is) = is
 narrower-limit limits wide same reason (inr differ) = absurd (differ.1 same)
 
 -- a reading that is cut short so stops at a limit
-cut-limit : (limits wide : Rules) → limits.floats ≡ wide.floats → (r s : Reading) → IsCut limits wide r s → (reason : Reason) (place : ℕ) → ending_of r ≡ Stopped reason place → IsLimit reason
+pub cut-limit : (limits wide : Rules) → limits.floats ≡ wide.floats → (r s : Reading) → IsCut limits wide r s → (reason : Reason) (place : ℕ) → ending_of r ≡ Stopped reason place → IsLimit reason
 cut-limit limits wide same _ _ (here why q s is) reason place e = let why_is : why ≡ reason = cc e in rw (← why_is) (narrower-limit limits wide same why is)
 cut-limit limits wide same _ _ (later item r s cut) reason place e = cut-limit limits wide same r s cut reason place e
 

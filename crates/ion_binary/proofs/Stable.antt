@@ -57,13 +57,13 @@ part-Grows G place _ _ (err e) = err (e, place)
 part-Grows G place _ _ (ended e r is) = ended (e, place) (part place r) is
 
 -- more bytes follow
-abbrev extend : List ℕ → Cursor → Cursor
+abbrev pub extend : List ℕ → Cursor → Cursor
 extend more c = record { place = c.place; rest = c.rest ++ more }
 
 abbrev extend_after : {A : Type 0} → List ℕ → A × Cursor → A × Cursor
 extend_after more p = (p.0, extend more p.1)
 
-abbrev extend_state : List ℕ → State → State
+abbrev pub extend_state : List ℕ → State → State
 extend_state more s = record { frames = s.frames; top = s.top; cursor = extend more s.cursor }
 
 abbrev extend_step : List ℕ → Step State → Step State
@@ -283,7 +283,7 @@ module _ (limits : Rules) (more : List ℕ) where
 -- ---- a step, and all of them
 
 -- one step, and the one where more bytes follow
-data StepGrows (more : List ℕ) : Step State → Step State → Type 0 where
+pub data StepGrows (more : List ℕ) : Step State → Step State → Type 0 where
   ends : (s : Step State) → StepGrows more Ends s
   stops : (reason : Reason) (place : ℕ) → StepGrows more (Stops reason place) (Stops reason place)
   ended_step : (place : ℕ) (s : Step State) → StepGrows more (Stops Truncated place) s
@@ -316,7 +316,7 @@ module _ (limits : Rules) (more : List ℕ) where
       by_end true = gives (placed_item top None [] c.place value.end) (record { frames = frames; top = top; cursor = c })
       by_end false = step_of-Grows more _ _ (member_at-Grows limits more (f ∷ frames) top c)
 
-  one_step-Grows : (s : State) → StepGrows more (step limits s) (step limits (extend_state more s))
+  pub one_step-Grows : (s : State) → StepGrows more (step limits s) (step limits (extend_state more s))
   unfolding step
   one_step-Grows s = step_in-Grows s.frames s.top s.cursor
 

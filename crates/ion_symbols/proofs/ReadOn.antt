@@ -6,7 +6,7 @@ use Rattle.ion_value.specs.Standing.{is_marker}
 use Rattle.ion_value.specs.Value.{PlacedItem}
 use Rattle.ion_symbols.specs.Declaration as d
 use Rattle.ion_symbols.specs.Declaration.{Ground, Declaring, Turn, on, made, stop, turn, item_view}
-use Rattle.ion_symbols.specs.Onward.{Led, with_own, led_by, led, resets, kept_by, declarations_from, UsersReadOn, DeclarationsLeaveTheTable, ValuesKeepTheTable}
+use Rattle.ion_symbols.specs.Onward.{Led, with_own, led_by, led, resets, kept_by, declarations_from, declarations, UsersReadOn, DeclarationsLeaveTheTable, ValuesKeepTheTable}
 use Rattle.ion_symbols.specs.Table.{Shared, Table, system, text_at}
 use Rattle.ion_symbols.specs.Users.{Checked, fine, bad, checked, resolve, Mode, plain, declaring, State, at_start, level_after, is_struct, declares, begins_declaration, after_check, turned, plain_step, mode_step, user_step, by_step, users}
 
@@ -136,7 +136,7 @@ module _ (catalog : List Shared) (limit : ℕ) where
   step-keeps t m w i _ kept f k l (given own n bare) sunk is more e =
       let kept_is : led catalog limit at_start kept ≡ Some (record { mine = []; after = record { table = t; mode = plain 0 } }) =
       is ∙ ap (λ (w : Mode). Some (record { mine = []; after = record { table = t; mode = w } })) bare in
-      own-keeps own (f (record { table = t; mode = plain n })) l (k (record { table = t; mode = plain n }) kept) (λ x leads. more (record { table = t; mode = plain n }) kept x (plain 0, plainly n, kept_is) leads) e
+      own-keeps own (f (record { table = t; mode = plain n })) l _ (λ x leads. more (record { table = t; mode = plain n }) kept x (plain 0, plainly n, kept_is) leads) e
   step-keeps t m w i _ kept f k l (started set) sunk is more e =
       rw set (more at_start [] l (plain 0, plainly 0, refl) e)
   step-keeps t m w i _ kept f k l (taken u n v unset after same) sunk is more e =

@@ -68,7 +68,7 @@ module _ (streams : StreamsAreRead) (one : OneVerdict) (accepted_read : WhatIsAc
     (profile : Profile) (catalog : List Shared) (limits : Limits) (to : To) where
   -- ---- verdicts as they are found
 
-  abbrev pub Has : List ℕ → Verdict → List ℕ → Type 0
+  abbrev Has : List ℕ → Verdict → List ℕ → Type 0
   Has bytes v out = HasVerdictWith profile catalog limits to bytes v out
 
   found : (bytes : List ℕ) (v : Verdict) (out : List ℕ) → Has bytes v out → (v ≡ verdict_for profile catalog limits to bytes) × (out ≡ output_for profile catalog limits to bytes)
@@ -97,10 +97,10 @@ module _ (streams : StreamsAreRead) (one : OneVerdict) (accepted_read : WhatIsAc
       (trees.0, trees.2)
 
   module _ (kept part next then_kept bytes out more : List ℕ) (values : ℕ) (v : Verdict) (taken : IsTaken profile catalog limits to kept part next values out then_kept) (prefix : HasPrefix bytes next) where
-    abbrev pub before : List ℕ
+    abbrev before : List ℕ
     before = kept ++ part
 
-    abbrev pub f : Form
+    abbrev f : Form
     f = form_of before
 
     abbrev mine : List PlacedItem

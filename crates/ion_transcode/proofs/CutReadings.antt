@@ -1,5 +1,5 @@
 -- A stream that is cut behind whole values: its reading, and what a user is given of it.
-use Rattle.std.proofs.Common.{◌≡◌, ◌⊎◌, ℕ, Bool, true, false, ◌&&◌, ◌||◌, List, [], ◌∷◌, ◌++◌, length, inl, inr, refl, ap, ◌∙◌}
+use Rattle.std.proofs.Common.{◌≡◌, ◌⊎◌, ℕ, ◌+◌, Bool, true, false, ◌&&◌, ◌||◌, List, [], ◌∷◌, ◌++◌, length, inl, inr, refl, ap, ◌∙◌}
 use Rattle.ion_meter.specs.Rules.{rules}
 use Rattle.ion_meter.specs.Windows.{HasPrefix}
 use Rattle.ion_meter.specs.declared.limits.Limits.{Limits}

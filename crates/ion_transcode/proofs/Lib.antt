@@ -49,3 +49,4 @@ mod RefusalsStand
 mod KeptBytes
 mod JoinedStreams
 mod BinaryParts
+mod PartsRows

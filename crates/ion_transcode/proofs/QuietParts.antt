@@ -194,25 +194,25 @@ module _ (layout : Layout) where
 
 -- nothing is refused; no place is written; and what is behind whole values is written behind them
 pub record IsQuiet (o : Outputs) : Type 0 where
-  pub none_refused : o.refusal ≡ never
+  pub never : o.refusal ≡ never
   pub moved : (far : ℕ) (xs : List PlacedItem) → o.open_output (map (item_further far) xs) ≡ o.open_output xs
   pub joins : (far : ℕ) (mine xs : List PlacedItem) (us : List (Top UserSymbol ℕ)) → user_items mine ≡ top_items us
       → o.open_output (mine ++ map (item_further far) xs) ≡ o.open_output mine ++ o.open_output xs
 
 pub text-quiet : (layout : Layout) → IsQuiet (to_text_by layout)
-text-quiet layout = record { none_refused = refl; moved = λ far xs. text-further layout far [] xs; joins = text-behind layout }
+text-quiet layout = record { never = refl; moved = λ far xs. text-further layout far [] xs; joins = text-behind layout }
 
 pub nothing-quiet : IsQuiet to_nothing
-nothing-quiet = record { none_refused = refl; moved = λ far xs. refl; joins = λ far mine xs us e. refl }
+nothing-quiet = record { never = refl; moved = λ far xs. refl; joins = λ far mine xs us e. refl }
 
 -- ---- the verdict and the output behind whole values
 
 module _ (o : Outputs) (quiet : IsQuiet o) where
   pub quiet-verdict : (r : Reading) → verdict_after o.refusal [] r ≡ ended (ending_of r) (values_in [] (items_of r))
-  quiet-verdict r = ap (λ (refusal : List PlacedItem → PlacedItem → Option (Reason × ℕ)). verdict_after refusal [] r) quiet.none_refused ∙ never-verdict [] r
+  quiet-verdict r = ap (λ (refusal : List PlacedItem → PlacedItem → Option (Reason × ℕ)). verdict_after refusal [] r) quiet.never ∙ never-verdict [] r
 
   pub quiet-output : (r : Reading) → output_after o.open_output o.refusal [] r ≡ o.open_output (items_of r)
-  quiet-output r = ap (λ (refusal : List PlacedItem → PlacedItem → Option (Reason × ℕ)). output_after o.open_output refusal [] r) quiet.none_refused ∙ never-output o.open_output [] r
+  quiet-output r = ap (λ (refusal : List PlacedItem → PlacedItem → Option (Reason × ℕ)). output_after o.open_output refusal [] r) quiet.never ∙ never-output o.open_output [] r
 
   -- of items further on alone
   pub verdict-further : (far : ℕ) (r : Reading) → verdict_after o.refusal [] (further far r) ≡ ended (ending_of (further far r)) (values_in [] (items_of r))

@@ -1,7 +1,7 @@
 -- A stream that is run in parts. Behind a whole value at top level all that the rest of a stream depends on is its symbol table, and a
 -- table is what declarations say: so all that is kept between two calls is bytes that leave the same table and give no user value. A
 -- part is run behind what is kept of the parts before it; `PartsAreTheWhole` says that all parts together are the whole.
-use Rattle.std.specs.Prelude.{◌≡◌, ℕ, ◌+◌, ◌≤◌, Bool, true, false, ◌&&◌, ◌||◌, List, [], ◌∷◌, ◌++◌, length, Some}
+use Rattle.std.specs.Prelude.{◌≡◌, ℕ, ◌+◌, ◌≤◌, Bool, true, false, ◌&&◌, ◌||◌, List, [], ◌∷◌, ◌++◌, length, take, drop, Some}
 use Rattle.ion_meter.specs.Limits.{AreChecked}
 use Rattle.ion_meter.specs.Rules.{rules}
 use Rattle.ion_meter.specs.Windows.{HasPrefix}
@@ -154,3 +154,11 @@ ValuesChangeNothingKept =
     → (leaves : Leaves profile catalog limits (form_of before) (before ++ part) next mine table)
     → length mine + length stands.leaves.items ≡ length leaves.items + length stands.mine
     → StandsFor profile catalog limits kept (before ++ part) next
+
+-- ---- a call
+
+-- what a call took of a part that is not the last: nothing, and all is as it was; or some bytes, whose output was written after what was there
+pub data Takes (profile : Profile) (catalog : List Shared) (limits : Limits) (to : To) (kept bytes : List ℕ) (taken values : ℕ) (then_kept : List ℕ) (observable : Type 0) (before after : List ℕ) : Type 0 where
+  nothing : taken ≡ 0 → then_kept ≡ kept → (observable → after ≡ before) → Takes profile catalog limits to kept bytes taken values then_kept observable before after
+  taken_some : (out : List ℕ) → IsTaken profile catalog limits to kept (take taken bytes) (drop taken bytes) values out then_kept → (observable → after ≡ before ++ out)
+      → Takes profile catalog limits to kept bytes taken values then_kept observable before after

@@ -10,8 +10,8 @@ use ion_transcode::laws::{
     round_trip, show_once, streams_are_read, tables_are_catalogs, text_is_complete, text_is_read,
     text_is_read_within, text_is_sound, text_is_spelled_once, there_and_back,
     trees_in_order_are_accepted, values_of_streams, what_is_accepted_is_read,
-    what_is_accepted_leaves_a_table, what_is_read_is_accepted, what_is_read_is_no_deeper,
-    what_is_shown_is_accepted, what_may_be_kept, written_binary_is_accepted,
+    what_is_read_is_accepted, what_is_read_is_no_deeper, what_is_shown_is_accepted,
+    what_may_be_kept, written_binary_is_accepted,
 };
 
 #[test]

@@ -271,8 +271,7 @@ impl<I: Input, A: Allocator + Copy> BinReader<I, A> {
     {
         let place = self.source.place();
         let values = self.hand_run::<N, W, O, NOTED>(values, meter, names, writer, sink);
-        let after = self.source.place();
-        if after != place {
+        if self.source.place() != place {
             return values;
         }
         self.hand_run::<N, W, O, QUOTED>(values, meter, names, writer, sink)

@@ -4,7 +4,6 @@ use Rattle.ion_value.specs.Parts.{◌>>=◌, part}
 use Rattle.ion_binary.specs.Reading.{step_for}
 use Rattle.ion_meter.specs.Sources.{cursor}
 use Rattle.ion_value.specs.Answers.{Answers}
-use Rattle.ion_value.proofs.Cursors.{moves-then}
 use Rattle.ion_binary.specs.Finds.{as_typed_value}
 use Rattle.ion_binary.specs.Scanned.{itself_found, part_at, rest_at}
 use Rattle.ion_binary.proofs.ReadParts.{inner_at-found, inner_at-parts}
@@ -80,14 +79,10 @@ pub returns-in-Err-clause-deep : goal.returns-in-Err-clause-deep
 returns-in-Err-clause-deep g c = grind (arith, common_steps) steps 400000
 
 pub returns-in-Ok-next_rest-clause-reads : goal.returns-in-Ok-next_rest-clause-reads
-returns-in-Ok-next_rest-clause-reads g c =
-    let moves = moves-then g.I.Input c.args.source.now c.next_part.new.source c.next_rest.new.source c.in-Ok.ensures.reads.moves c.in-Ok-next_rest.ensures.reads.moves in
-    grind (arith, common_steps, moves) steps 1200000
+returns-in-Ok-next_rest-clause-reads g c = grind (arith, common_steps) steps 1200000
 
 pub returns-in-Err-next_rest-clause-reads : goal.returns-in-Err-next_rest-clause-reads
-returns-in-Err-next_rest-clause-reads g c =
-    let moves = moves-then g.I.Input c.args.source.now c.next_part.new.source c.next_rest.new.source c.in-Ok.ensures.reads.moves c.in-Err-next_rest.ensures.reads.moves in
-    grind (arith, common_steps, moves) steps 1200000
+returns-in-Err-next_rest-clause-reads g c = grind (arith, common_steps) steps 1200000
 
 pub returns-in-Err-clause-no_marker : goal.returns-in-Err-clause-no_marker
 returns-in-Err-clause-no_marker g c = grind (arith, common_steps) steps 400000

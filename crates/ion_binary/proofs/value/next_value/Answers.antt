@@ -154,9 +154,7 @@ pub returns-in-Err-next_rest-clause-marker : goal.returns-in-Err-next_rest-claus
 returns-in-Err-next_rest-clause-marker g c = grind (arith, common_steps) steps 400000
 
 pub returns-in-Err-next_rest-clause-reads : goal.returns-in-Err-next_rest-clause-reads
-returns-in-Err-next_rest-clause-reads g c =
-    let moves = moves-then g.I.Input c.args.source.now c.next_part.new.source c.next_rest.new.source c.in-Ok.ensures.reads.moves c.in-Err-next_rest.ensures.reads.moves in
-    grind (arith, common_steps, moves) steps 1200000
+returns-in-Err-next_rest-clause-reads g c = grind (arith, common_steps) steps 1200000
 
 pub returns-in-Err-next_rest-clause-goes : goal.returns-in-Err-next_rest-clause-goes
 returns-in-Err-next_rest-clause-goes g c = grind (arith, common_steps) steps 400000
@@ -176,9 +174,7 @@ pub returns-in-Ok-next_rest-clause-marker : goal.returns-in-Ok-next_rest-clause-
 returns-in-Ok-next_rest-clause-marker g c = grind (arith, common_steps) steps 400000
 
 pub returns-in-Ok-next_rest-clause-reads : goal.returns-in-Ok-next_rest-clause-reads
-returns-in-Ok-next_rest-clause-reads g c =
-    let moves = moves-then g.I.Input c.args.source.now c.next_part.new.source c.next_rest.new.source c.in-Ok.ensures.reads.moves c.in-Ok-next_rest.ensures.reads.moves in
-    grind (arith, common_steps, moves) steps 1200000
+returns-in-Ok-next_rest-clause-reads g c = grind (arith, common_steps) steps 1200000
 
 pub returns-in-Ok-next_rest-clause-goes : goal.returns-in-Ok-next_rest-clause-goes
 returns-in-Ok-next_rest-clause-goes g c = grind (arith, common_steps) steps 400000

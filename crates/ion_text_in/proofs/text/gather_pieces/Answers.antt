@@ -25,11 +25,6 @@ returns-in_err-put_meant-in-Text-clause-gives g c = λ h.
     rw (handed-on c.from_residual-in_err-put_meant-in-Text.result f c.from_residual-in_err-put_meant-in-Text.ensures) (continues-err _ _ f c.args.place (λ e k. same ∙ k)
     (continues-puts {T = Unit {0}} (Err f) c.take_plain.new.text c.put_meant.new.text (bytes_of c.in-Text.meant) limit c.args.place (λ (l : List ℕ). onward (quote_of c.args.quote) limit l d) c.in_err-put_meant-in-Text.ensures.puts))
 
--- a run of plain bytes was put after the text
-plain-then : {I T : Type 0} (device : InputOf I) (limits : Rules) (s t u : Incoming I) (a b c : Counts) (k l n : List ℕ) (x : T) → length k ≤ a.held
-    → Gathers {T = Unit {0}} device limits s t a b k l (Ok tt) → Gathers device limits t u b c l n (Ok x) → Gathers {T = Unit {0}} device limits s u a c k n (Ok tt)
-plain-then device limits s t u a b c k l n x holds one two = record { reads = grind (arith, common_steps); goes = grind (arith, common_steps) }
-
 -- a piece was passed over, and a few bytes put after the text
 put-then : {I T : Type 0} (device : InputOf I) (limits : Rules) (s t u : Incoming I) (a b c : Counts) (k l n bytes : List ℕ) (place : ℕ) (x : T) → length k ≤ a.held
     → Gathers {T = Unit {0}} device limits s t a b k l (Ok tt) → Reads device t u (Ok x) → t.place < u.place → length bytes ≤ 4 → Puts {T = Unit {0}} limits b c l n bytes place (Ok tt)
@@ -44,14 +39,9 @@ pieces-preserved g c =
     let limit = c.args.limits.scalar in
     let puts = c.in_ok-put_meant-in-Text.ensures.puts in
     let few = meant-few c.in-Text.meant in
-    let earlier = c.pieces.invariant.gathers in
-    let plain = c.in_ok-take_plain.ensures.gathers in
-    let holds = c.requires.can_gather.grows.holds in
     record {
       gathers = put-then g.I.Input c.args.limits c.args.source.now c.take_plain.new.source c.next_piece.new.source c.args.meter.now c.take_plain.new.meter c.put_meant.new.meter c.args.text.now
-          c.take_plain.new.text c.put_meant.new.text (bytes_of c.in-Text.meant) c.args.place c.in_ok-meant.field-0 holds
-          (plain-then g.I.Input c.args.limits c.args.source.now c.pieces.source c.take_plain.new.source c.args.meter.now c.pieces.meter c.take_plain.new.meter c.args.text.now c.pieces.text c.take_plain.new.text _ holds earlier plain)
-          c.in_ok-meant.ensures.reads
+          c.take_plain.new.text c.put_meant.new.text (bytes_of c.in-Text.meant) c.args.place c.in_ok-meant.field-0 c.requires.can_gather.grows.holds (grind (arith, common_steps)) c.in_ok-meant.ensures.reads
           (rw c.in-Text.is at c.in_ok-meant.ensures.further) few c.in_ok-put_meant-in-Text.ensures;
       longer = grown-longer c.args.text.now c.take_plain.new.text c.put_meant.new.text (bytes_of c.in-Text.meant) puts.0 (omega (arith, c.pieces.invariant.longer, c.in_ok-take_plain.ensures.longer));
       same = λ h.

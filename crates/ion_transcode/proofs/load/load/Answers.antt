@@ -1,6 +1,5 @@
-use Rattle.std.proofs.Common.{ap, ◌∙◌, arith}
+use Rattle.std.proofs.Common.{arith}
 use Rattle.std.proofs.lemmas.Grind.{common_steps}
-use Rattle.ion_meter.proofs.ReadOn.{read_on-same}
 use Rattle.ion_transcode.proofs.load.load.Goals as goal
 
 pub returns-clause-bytes : goal.returns-clause-bytes
@@ -32,10 +31,3 @@ returns-in-Err-new-clause-input g c = grind (arith, common_steps)
 
 pub returns-in-Err-new-clause-charges : goal.returns-in-Err-new-clause-charges
 returns-in-Err-new-clause-charges g c = grind (arith, common_steps)
-
-pub returns-in-Err-clause-taken : goal.returns-in-Err-clause-taken
-returns-in-Err-clause-taken g c = read_on-same g.I.Input c.args.input c.in-Err.input c.in-Err.ensures.err
-
-pub returns-in-Err-new-clause-taken : goal.returns-in-Err-new-clause-taken
-returns-in-Err-new-clause-taken g c =
-    read_on-same g.I.Input c.args.input c.release.result (c.release.ensures.device ∙ ap (λ s. s.device) c.in-Ok.ensures.ok)

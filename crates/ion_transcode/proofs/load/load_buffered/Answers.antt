@@ -1,8 +1,6 @@
-use Rattle.std.proofs.Common.{rules, ap, sym, subst, ◌≡◌, List, ℕ, ◌∙◌, arith}
+use Rattle.std.proofs.Common.{rules, ◌≡◌, List, ℕ, ◌∙◌, arith}
 use Rattle.std.proofs.lemmas.Grind.{common_steps}
-use Rattle.ion_meter.specs.Devices.{IsReadOn}
 use Rattle.ion_meter.specs.Windows.{left}
-use Rattle.ion_meter.proofs.ReadOn.{read_on-then, reads_on-is}
 use Rattle.ion_transcode.specs.declared.to.Form.TheVariants as form
 use Rattle.ion_transcode.specs.Forms.{form_of}
 use Rattle.ion_transcode.proofs.LoadParts.{form-first, says-as}
@@ -55,21 +53,3 @@ returns-in-Text-clause-cheap g c = grind (arith, common_steps)
 
 pub returns-in-Binary-clause-cheap : goal.returns-in-Binary-clause-cheap
 returns-in-Binary-clause-cheap g c = grind (arith, common_steps)
-
-pub returns-in-Err-clause-taken : goal.returns-in-Err-clause-taken
-returns-in-Err-clause-taken g c =
-    subst (λ d. IsReadOn g.I.Input c.args.source.device d) (sym c.release.ensures.device) (reads_on-is g.I.Input c.args.source.device c.peek.new.self.device c.peek.ensures.kept.read_on)
-
-pub returns-in-Binary-clause-taken : goal.returns-in-Binary-clause-taken
-returns-in-Binary-clause-taken g c =
-    let peeked = reads_on-is g.I.Input c.args.source.device c.peek.new.self.device c.peek.ensures.kept.read_on in
-    let built : IsReadOn g.I.Input c.new-raw.result.source.device c.build-outcome.result.1.source.device = c.build-outcome.ensures.taken in
-    let begun = subst (λ d. IsReadOn g.I.Input d c.build-outcome.result.1.source.device) (ap (λ s. s.device) c.new-raw.ensures.source.0) built in
-    subst (λ d. IsReadOn g.I.Input c.args.source.device d) (sym c.release-in-Binary.ensures.device) (read_on-then g.I.Input c.args.source.device c.peek.new.self.device c.build-outcome.result.1.source.device peeked begun)
-
-pub returns-in-Text-clause-taken : goal.returns-in-Text-clause-taken
-returns-in-Text-clause-taken g c =
-    let peeked = reads_on-is g.I.Input c.args.source.device c.peek.new.self.device c.peek.ensures.kept.read_on in
-    let built : IsReadOn g.I.Input c.new-raw-in-Text.result.source.device c.build-outcome-in-Text.result.1.source.device = c.build-outcome-in-Text.ensures.taken in
-    let begun = subst (λ d. IsReadOn g.I.Input d c.build-outcome-in-Text.result.1.source.device) (ap (λ s. s.device) c.new-raw-in-Text.ensures.source.0) built in
-    subst (λ d. IsReadOn g.I.Input c.args.source.device d) (sym c.release-in-Text.ensures.device) (read_on-then g.I.Input c.args.source.device c.peek.new.self.device c.build-outcome-in-Text.result.1.source.device peeked begun)

@@ -1,6 +1,5 @@
-use Rattle.std.proofs.Common.{rules, sym, subst, arith}
+use Rattle.std.proofs.Common.{rules, arith}
 use Rattle.std.proofs.lemmas.Grind.{common_steps}
-use Rattle.ion_meter.specs.Devices.{IsReadOn}
 use Rattle.ion_meter.proofs.ReadOn.{read_on-then, reads_on-is}
 use Rattle.ion_transcode.proofs.run.run_buffered.Goals as goal
 
@@ -56,11 +55,3 @@ returns-in-Binary-clause-taken g c =
 pub returns-in-Text-clause-taken : goal.returns-in-Text-clause-taken
 returns-in-Text-clause-taken g c =
     read_on-then g.I.Input c.args.source.device c.peek.new.self.device c.text-outcome.result.1 (reads_on-is g.I.Input c.args.source.device c.peek.new.self.device c.peek.ensures.kept.read_on) c.text-outcome.ensures.taken
-
-pub returns-in-Err-clause-taken : goal.returns-in-Err-clause-taken
-returns-in-Err-clause-taken g c =
-    subst (λ d. IsReadOn g.I.Input c.args.source.device d) (sym c.release.ensures.device) (reads_on-is g.I.Input c.args.source.device c.peek.new.self.device c.peek.ensures.kept.read_on)
-
-pub returns-in_default-clause-taken : goal.returns-in_default-clause-taken
-returns-in_default-clause-taken g c =
-    subst (λ d. IsReadOn g.I.Input c.args.source.device d) (sym c.release-in_default.ensures.device) (reads_on-is g.I.Input c.args.source.device c.peek.new.self.device c.peek.ensures.kept.read_on)

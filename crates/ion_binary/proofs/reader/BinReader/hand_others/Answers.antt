@@ -11,6 +11,3 @@ returns g c =
     let quoted = c.hand_run in
     hands_on-then g.I.Input g.W.ValueWriter (named_item (g.N.Names.text c.args.names.now)) c.args.self.now noted.new.self quoted.new.self c.args.writer.now noted.new.writer quoted.new.writer c.args.sink.now noted.new.sink quoted.new.sink
     c.args.meter.now noted.new.meter quoted.new.meter c.args.values noted.result quoted.result c.requires.held noted.ensures quoted.ensures
-
-pub returns-then-after-place : goal.returns-then-after-place
-returns-then-after-place g c = c.hand_run-values.ensures

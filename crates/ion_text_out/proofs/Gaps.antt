@@ -1,15 +1,10 @@
 -- What stands between parts: which it is, how long, and how its blanks are put.
-use Rattle.std.proofs.Common.{◌≡◌, ℕ, suc, ◌+◌, ◌-◌, ◌*◌, ◌<◌, ◌≤◌, Bool, true, false, List, [], ◌∷◌, ◌++◌, length, take, Option, Some, None, refl, sym, subst, ap, ◌∙◌, arith, append_assoc}
-use Rattle.std.specs.Prelude.{replicate, reverse, slice_get, codes}
-use Rattle.std.proofs.lemmas.List.{length-append, length-map, length-replicate, length-reverse, replicate-append-replicate, take-replicate}
-use Rattle.ion_meter.specs.Windows.{Outgoing}
-use Rattle.ion_value.specs.declared.ion_type.Kind.{Kind}
+use Rattle.ion_text_out.proofs.Below.{◌≡◌, ℕ, suc, ◌+◌, ◌-◌, ◌*◌, ◌<◌, ◌≤◌, Bool, true, false, List, [], ◌∷◌, ◌++◌, length, take, Some, None, refl, sym, subst, ap, ◌∙◌, arith, append_assoc, replicate, reverse, slice_get, codes, length-append, length-map, length-replicate, length-reverse, replicate-append-replicate, take-replicate, Outgoing, Kind}
 use Rattle.ion_value.specs.declared.ion_type.Kind.TheVariants as kind
-use Rattle.ion_text_out.specs.declared.layout.Gap.{Gap}
-use Rattle.ion_text_out.specs.Layout.{Layout, new_line}
+use Rattle.ion_text_out.specs.Layout.{new_line, Layout}
 use Rattle.ion_text_out.specs.Lane.{marked, plain_front}
 use Rattle.ion_text_out.specs.Text.{before_item}
-use Rattle.ion_text_out.specs.Writing.{before_end, byte_in, gap_text, innermost, line_in, shown, shown_in}
+use Rattle.ion_text_out.specs.Writing.{before_end, innermost, shown, shown_in}
 
 -- ---- before a member, and before a bracket that closes
 
@@ -52,40 +47,25 @@ end_none layout kinds empty none = end_none_in layout (reverse kinds) empty (len
 
 -- ---- lengths
 
-pub line-length : (depth : ℕ) → length (new_line depth) ≡ 1 + 2 * depth
-line-length depth = let blanks = length-replicate {A = ℕ} (2 * depth) 32 in omega (arith, blanks)
-
-byte-length : (mark : Option ℕ) → length (byte_in mark) ≤ 1
-byte-length None = omega arith
-byte-length (Some b) = omega arith
-
-gap_of-length : (mark line : Option ℕ) (n : ℕ) → length (line_in line) ≤ n → length (byte_in mark ++ line_in line) ≤ 1 + n
-gap_of-length mark line n few =
-    let one = byte-length mark in
-    let both = length-append (byte_in mark) (line_in line) in
-    omega (arith, few, one, both)
-
--- what has no new line
-pub gap-short : (gap : Gap) → gap.line ≡ None → length (gap_text gap) ≤ 1
-gap-short gap is = rw is (gap_of-length gap.mark None 0 (omega arith))
-
--- and what has one
-pub gap-long : (gap : Gap) (depth : ℕ) → gap.line ≡ Some depth → length (gap_text gap) ≤ 1 + (1 + 2 * depth)
-gap-long gap depth is = rw is (gap_of-length gap.mark (Some depth) (1 + 2 * depth) (omega (arith, line-length depth)))
-
-within_in : (layout : Layout) (kinds : List Kind) (empty : Bool) (room n : ℕ) → length kinds ≡ n
-    → ((kind : Kind) (first : Bool) → length (layout.before_member kind first n) + length layout.after_name + 3 ≤ room)
-    → length (before_item layout (shown_in kinds empty)) + length layout.after_name + 3 ≤ room
-within_in layout [] empty room n same fits = let any = fits kind.List true in omega (arith, any)
-within_in layout (k ∷ kinds) empty room n same fits =
-    subst (λ (l : List ℕ). length l + length layout.after_name + 3 ≤ room)
-    (sym (item_in layout (k ∷ kinds) empty k refl ∙ ap (λ m. layout.before_member k empty m) same)) (fits k empty)
+each_in : (layout : Layout) (kinds : List Kind) (empty : Bool) (n : ℕ) (holds : List ℕ → Type 0) → length kinds ≡ n → holds []
+    → ((kind : Kind) (first : Bool) → holds (layout.before_member kind first n)) → holds (before_item layout (shown_in kinds empty))
+each_in layout [] empty n holds same none each = none
+each_in layout (k ∷ kinds) empty n holds same none each =
+    subst holds (sym (item_in layout (k ∷ kinds) empty k refl ∙ ap (λ m. layout.before_member k empty m) same)) (each k empty)
 
 -- what stands before a value is within what may stand before one
 pub item-within : (layout : Layout) (kinds : List Kind) (empty : Bool) (room : ℕ)
     → ((kind : Kind) (first : Bool) → length (layout.before_member kind first (length kinds)) + length layout.after_name + 3 ≤ room)
     → length (before_item layout (shown kinds empty)) + length layout.after_name + 3 ≤ room
-item-within layout kinds empty room fits = within_in layout (reverse kinds) empty room (length kinds) (length-reverse kinds) fits
+item-within layout kinds empty room fits =
+    each_in layout (reverse kinds) empty (length kinds) (λ (l : List ℕ). length l + length layout.after_name + 3 ≤ room) (length-reverse kinds)
+    (let any = fits kind.List true in omega (arith, any)) fits
+
+-- and short if that is
+pub item-short : (layout : Layout) (kinds : List Kind) (empty : Bool) → ((kind : Kind) (first : Bool) → length (layout.before_member kind first (length kinds)) ≤ 258)
+    → length (before_item layout (shown kinds empty)) ≤ 258
+item-short layout kinds empty short =
+    each_in layout (reverse kinds) empty (length kinds) (λ (l : List ℕ). length l ≤ 258) (length-reverse kinds) (omega arith) short
 
 marked-length : (mark text : List ℕ) → length (marked mark text) ≤ length text + length mark
 marked-length mark [] = omega arith
@@ -108,6 +88,13 @@ blanks_then left more =
 
 pub blanks_last : (left : ℕ) → left ≤ 128 → take {A = ℕ} (2 * left) (replicate {A = ℕ} 256 32) ≡ replicate {A = ℕ} (2 * left) 32
 blanks_last left few = take-replicate {X = ℕ} (2 * left) 256 32 (omega (arith, few))
+
+-- a short line has few
+pub line-short : (mark : List ℕ) (depth : ℕ) → length (mark ++ new_line depth) ≤ 258 → depth ≤ 128
+line-short mark depth short =
+    let both = length-append mark (new_line depth) in
+    let blanks = length-replicate {A = ℕ} (2 * depth) 32 in
+    omega (arith, short, both, blanks)
 
 -- what is put after some of it, and then the rest
 pub put_before : {O : Type 0} (now new : Outgoing O) (first rest : List ℕ) → new ≡ record now { pending = now.pending ++ first }

@@ -38,8 +38,8 @@ pub fn all(name: bool, note: bool, alone: bool) -> bool
     name && note && alone
 }
 
-/// Whether there is room for what stands before a value, a name and annotations, so many bytes, and
-/// a mark of a byte.
+/// Whether what stands before a value is short, and there is room for it, a name and annotations, so
+/// many bytes, and a mark of a byte.
 #[inline(always)]
 pub fn has_room<L: Layout, O: Output, A: Allocator + Copy>(
     sink: &Sink<O, A>,
@@ -48,9 +48,11 @@ pub fn has_room<L: Layout, O: Output, A: Allocator + Copy>(
     note: &[u8],
     more: usize,
 ) -> bool
-    ensures { result ≡ true → (empty : Bool) → length sink.now.pending
+    ensures room { result ≡ true → (empty : Bool) → length sink.now.pending
         + length (before_item L.layout (shown kinds.now empty))
         + length (plain_front L.layout name.now note.now) + more + 1 ≤ 4096 }
+    ensures short { result ≡ true → (empty : Bool)
+        → length (before_item L.layout (shown kinds.now empty)) ≤ 258 }
 {
     let room = sink.room();
     let texts = name.len() + note.len();
@@ -91,8 +93,19 @@ pub fn put_front<L: Layout, O: Output, A: Allocator + Copy>(
     }
     if !note.is_empty() {
         sink.put_within(note);
-        sink.put_within(b"::");
+        put_colons(sink);
     }
+}
+
+// Puts two colons, one after the other: with one more copy in line, callers would be too large to be
+// put in line themselves.
+#[inline(always)]
+fn put_colons<O: Output, A: Allocator + Copy>(sink: &mut Sink<O, A>)
+    requires { length sink.old.pending + 2 ≤ 4096 }
+    ensures { sink.new ≡ record sink.old { pending = sink.old.pending ++ codes "::" } }
+{
+    sink.put_byte(b':');
+    sink.put_byte(b':');
 }
 
 // Puts a few bytes. As the length of one is told apart here, no call copies it.

@@ -5,6 +5,12 @@ ghost use Rattle.ion_text_out.specs.Writing.{byte_in, gap_text};
 
 use ion_value::ion_type::Kind;
 
+/// How many containers may be open where blanks are put by one copy.
+pub const LEVELS: usize = 128;
+
+/// The most bytes that a gap has then: a mark, the end of a line, and two blanks for each.
+const LONGEST: usize = 258;
+
 /// What stands between two parts: a byte or none, and then perhaps a new line, with two blanks for
 /// each of so many open containers.
 #[derive(Clone, Copy)]
@@ -14,18 +20,19 @@ pub struct Gap {
 }
 
 impl Gap {
-    /// Whether there is room for this, and for so many bytes more. The mark is counted as one byte
-    /// whether or not it is there.
+    /// Whether this is short, and there is room for it and for so many bytes more. A line is counted
+    /// as the longest.
     #[inline(always)]
     pub fn fits(self, more: usize, room: usize) -> bool
-        ensures { result ≡ true → length (gap_text self) + more ≤ room }
+        ensures room { result ≡ true → length (gap_text self) + more ≤ room }
+        ensures short { result ≡ true → length (gap_text self) ≤ 258 }
     {
         if room <= more {
             return false;
         }
         match self.line {
             None => true,
-            Some(depth) => room - more >= 2 && depth <= (room - more - 2) / 2,
+            Some(depth) => depth <= LEVELS && LONGEST <= room - more,
         }
     }
 }
@@ -40,15 +47,17 @@ pub trait Layout {
     fn before_member(kind: Kind, first: bool, depth: usize) -> Gap
         ensures { gap_text result ≡ layout.before_member kind first depth };
 
-    /// Whether there is room for what may stand before a member with so many containers open around
-    /// it, for what stands after a name, and for three bytes more.
+    /// Whether what may stand before a member with so many containers open around it is short, and
+    /// there is room for it, for what stands after a name, and for three bytes more.
     ///
     /// It is asked before `before_member`: what that answers would be kept in registers over the
     /// branch, which costs 2 % of all instructions.
     fn has_room(depth: usize, room: usize) -> bool
-        ensures { result ≡ true → (kind : Kind) (first : Bool)
+        ensures room { result ≡ true → (kind : Kind) (first : Bool)
             → length (layout.before_member kind first depth) + length layout.after_name + 3
-            ≤ room };
+            ≤ room }
+        ensures short { result ≡ true → (kind : Kind) (first : Bool)
+            → length (layout.before_member kind first depth) ≤ 258 };
 
     /// What stands between the name of a field and its value.
     fn after_name() -> &'static [u8]
@@ -136,7 +145,7 @@ impl Layout for Pretty {
 
     #[inline(always)]
     fn has_room(depth: usize, room: usize) -> bool {
-        7 <= room && depth <= (room - 7) / 2
+        depth <= LEVELS && LONGEST + 5 <= room
     }
 
     #[inline(always)]

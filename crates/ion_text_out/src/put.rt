@@ -1,11 +1,11 @@
 //! Bytes that are put in parts.
-ghost use Rattle.std.specs.Prelude.{◌≡◌, ◌+◌, ◌*◌, ◌≤◌, ◌++◌, None, length, replicate};
+ghost use Rattle.std.specs.Prelude.{◌≡◌, ◌+◌, ◌*◌, ◌≤◌, ◌++◌, ◌∷◌, [], None, length, replicate};
 ghost use Rattle.ion_meter.specs.Sinks.{IsPut};
 ghost use Rattle.ion_text_out.specs.Layout.{new_line};
 ghost use Rattle.ion_text_out.specs.Steps.{PutsUnlessFailed};
 ghost use Rattle.ion_text_out.specs.Writing.{byte_in, gap_text};
 
-use crate::layout::Gap;
+use crate::layout::{Gap, LEVELS};
 use ion_meter::device::Output;
 use ion_meter::fault::Fault;
 use ion_meter::sink::Sink;
@@ -35,10 +35,7 @@ pub fn put_mark<O: Output, A: Allocator + Copy>(
     }
 }
 
-/// How many containers the blanks are for that are put at once.
-const LEVELS: usize = 128;
-
-/// These blanks, two for each.
+/// Two blanks for each of so many containers.
 static BLANKS: [u8; 256] = [b' '; 256];
 
 /// Puts a new line with so many containers open.
@@ -102,46 +99,44 @@ pub fn put_gap<O: Output, A: Allocator + Copy>(sink: &mut Sink<O, A>, gap: Gap) 
     }
 }
 
-// Puts a new line, for which the window has room. Most have few blanks, which are one copy in line.
-#[inline(always)]
-fn put_line_within<O: Output, A: Allocator + Copy>(sink: &mut Sink<O, A>, depth: usize)
-    requires { length sink.old.pending + length (new_line depth) ≤ 4096 }
-    ensures { sink.new ≡ record sink.old { pending = sink.old.pending ++ new_line depth } }
-{
-    sink.put_byte(b'\n');
-    if depth > LEVELS {
-        put_many_within(sink, depth);
-    } else {
-        sink.put_within(&BLANKS[..2 * depth]);
-    }
-}
-
-// Puts two blanks for each of so many containers, for which the window has room.
-#[inline(never)]
-fn put_many_within<O: Output, A: Allocator + Copy>(sink: &mut Sink<O, A>, depth: usize)
-    requires { length sink.old.pending + 2 * depth ≤ 4096 }
-    ensures { sink.new ≡ record sink.old {
-      pending = sink.old.pending ++ replicate (2 * depth) 32;
-    } }
-{
-    let mut left = depth;
-    'levels: while left > LEVELS {
-        sink.put_within(&BLANKS);
-        left -= LEVELS;
-    }
-    sink.put_within(&BLANKS[..2 * left]);
-}
-
-/// Puts what stands between two parts, for which the window has room.
+/// Puts what stands between two parts, for which the window has room, and whose blanks are one copy.
+/// Its mark and the end of the line are one copy too.
 #[inline(always)]
 pub fn put_gap_within<O: Output, A: Allocator + Copy>(sink: &mut Sink<O, A>, gap: Gap)
-    requires { length sink.old.pending + length (gap_text gap) ≤ 4096 }
+    requires room { length sink.old.pending + length (gap_text gap) ≤ 4096 }
+    requires short { length (gap_text gap) ≤ 258 }
     ensures { sink.new ≡ record sink.old { pending = sink.old.pending ++ gap_text gap } }
 {
-    if let Some(byte) = gap.mark {
+    match gap.line {
+        None => put_byte_within(sink, gap.mark),
+        Some(depth) => {
+            put_line_within(sink, gap.mark);
+            sink.put_within(&BLANKS[..2 * depth]);
+        }
+    }
+}
+
+// Puts a byte, for which the window has room, or nothing.
+#[inline(always)]
+fn put_byte_within<O: Output, A: Allocator + Copy>(sink: &mut Sink<O, A>, mark: Option<u8>)
+    requires { length sink.old.pending + length (byte_in mark) ≤ 4096 }
+    ensures { sink.new ≡ record sink.old { pending = sink.old.pending ++ byte_in mark } }
+{
+    if let Some(byte) = mark {
         sink.put_byte(byte);
     }
-    if let Some(depth) = gap.line {
-        put_line_within(sink, depth);
+}
+
+// Puts a byte or nothing, and the end of a line, for which the window has room.
+#[inline(always)]
+fn put_line_within<O: Output, A: Allocator + Copy>(sink: &mut Sink<O, A>, mark: Option<u8>)
+    requires { length sink.old.pending + length (byte_in mark) + 1 ≤ 4096 }
+    ensures { sink.new ≡ record sink.old {
+      pending = sink.old.pending ++ (byte_in mark ++ 10 ∷ []);
+    } }
+{
+    match mark {
+        Some(byte) => sink.put_within(&[byte, b'\n']),
+        None => sink.put_byte(b'\n'),
     }
 }

@@ -1,5 +1,5 @@
 -- Items that a reader hands to a writer go on with what was put before.
-use Rattle.std.proofs.Common.{◌≡◌, ℕ, ◌+◌, ◌*◌, ◌^◌, ◌<◌, ◌≤◌, List, ◌++◌, Option, None, ap, sym, subst, ◌∙◌, append_assoc, arith}
+use Rattle.std.proofs.Common.{◌≡◌, ℕ, ◌+◌, ◌≤◌, List, ◌++◌, Option, None, ap, sym, subst, ◌∙◌, append_assoc, arith}
 use Rattle.ion_meter.specs.Counts.{Counts}
 use Rattle.ion_meter.specs.Windows.{HasPrefix}
 use Rattle.ion_meter.specs.declared.device.Output.{Ghosts as OutputOf}
@@ -80,22 +80,6 @@ charges_fed r w r_now w_now r_new w_new share most so_far fed e f held = record 
   peak = omega (arith, so_far.held, so_far.peak, fed.held, fed.peak);
   rises = omega (arith, so_far.rises, fed.rises);
 }
-
--- what is held has room for the parts
-pub held_after : {a b : Counts} (before after : ℕ) {most : ℕ} → Charges a b before after most → before ≤ a.held → after ≤ b.held
-held_after before after c held = omega (arith, c.held)
-
--- and it is so much that a call may begin
-pub room_after : {a b : Counts} (before after reader symbols writer : ℕ) → Charges a b before after ((reader + 2 * symbols) + writer) → a.held ≤ 2 ^ 59 → reader ≤ 2 ^ 59 → symbols ≤ 2 ^ 30 → writer ≤ 2 ^ 59 → b.held ≤ 2 ^ 61
-room_after before after reader symbols writer c room r s w = omega (arith, c.held, c.share)
-
--- the values and what is left keep below what was left, over the items that are handed on too
-pub left_fed : (ended count fed now then most : ℕ) → count + now ≤ most → ended ≡ count → fed + then ≤ now → (ended + fed) + then ≤ most
-left_fed ended count fed now then most h e f = omega (arith, h, e, f)
-
--- and what is left falls by the item before
-pub falls_fed : (fed then now before : ℕ) → fed + then ≤ now → now < before → then < before
-falls_fed fed then now before h f = omega (arith, h, f)
 
 -- nothing is harmed by items that are handed on
 pub unharmed_fed : {O : Type 0} {old now new : Counts} {reads_old reads_now reads_new : ℕ} {output : OutputOf O} {before at after : O}

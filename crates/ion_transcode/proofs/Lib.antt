@@ -13,6 +13,7 @@ mod UserPaths
 mod Loading
 mod Following
 mod Feeding
+mod HandingOn
 mod Copying
 mod LoadParts
 mod TableStreams
@@ -42,3 +43,10 @@ mod WrittenRows
 mod TreeRows
 mod ShownRows
 mod FloatRows
+mod CutReadings
+mod QuietParts
+mod AllParts
+mod RefusalsStand
+mod KeptBytes
+mod JoinedStreams
+mod BinaryParts

@@ -1,19 +1,21 @@
 -- What the calls below `run` require and keep: what they answer and write beside what is due, and why they fail.
-use Rattle.std.specs.Prelude.{◌≡◌, ◌≢◌, ℕ, ◌+◌, ◌-◌, ◌^◌, ◌<◌, ◌≤◌, ◌↔◌, List, [], ◌++◌, max, Option, None, Result, Ok, Err, OnOk}
+use Rattle.std.specs.Prelude.{◌≡◌, ◌≢◌, ℕ, ◌+◌, ◌-◌, ◌^◌, ◌<◌, ◌≤◌, ◌↔◌, List, [], ◌++◌, length, max, Option, None, Result, Ok, Err, OnOk, IfOk, IfErr}
 use Rattle.ion_meter.specs.Counts.{Counts}
 use Rattle.ion_meter.specs.Limits.{AreChecked}
-use Rattle.ion_meter.specs.Windows.{Incoming, Outgoing, HasPrefix}
+use Rattle.ion_meter.specs.Windows.{Incoming, Outgoing, HasPrefix, so_far, write_failures_in}
 use Rattle.ion_meter.specs.declared.device.Output.{Ghosts as OutputOf}
 use Rattle.ion_meter.specs.declared.fault.Fault.{Fault}
 use Rattle.ion_meter.specs.declared.fault.Fault.TheVariants.{Refused, Memory, ReadFault, WriteFault, InputLimit}
 use Rattle.ion_meter.specs.declared.fault.Reason.{Reason}
 use Rattle.ion_meter.specs.declared.limits.Limits.{Limits}
+use Rattle.ion_value.specs.Feeding.{Feeds}
 use Rattle.ion_value.specs.Outcome.{Verdict, Accepted, Rejected}
 use Rattle.ion_value.specs.declared.reader.RawReader.{Ghosts as ReaderOf}
 use Rattle.ion_value.specs.declared.writer.ValueWriter.{Ghosts as WriterOf}
 use Rattle.ion_meter.specs.Sources.{Stands}
-use Rattle.ion_symbols.specs.User.{IsReady}
+use Rattle.ion_symbols.specs.User.{IsReady, answered_by, coming_to, level_of, limits_of, owned_by, share_of}
 use Rattle.ion_symbols.specs.declared.user.UserReader.{UserReader}
+use Rattle.ion_transcode.specs.declared.copy_items.Copied.{Copied}
 use Rattle.ion_transcode.specs.declared.to.Form.{Form}
 use Rattle.ion_transcode.specs.declared.to.Form.TheVariants as forms
 use Rattle.ion_transcode.specs.declared.to.To.{To}
@@ -135,6 +137,72 @@ pub record Joined {R W O A T : Type 0} (reader : ReaderOf R A) (writer : WriterO
   pub reader_most : reader.most new.raw ≡ reader.most old.raw
   pub stays : StaysSound writer before after
   pub well : StaysWell answer fault
+
+-- ---- items that a reader hands to a writer, where windows of output are written between
+
+-- what takes part
+pub record Parts (R W O A : Type 0) : Type 0 where
+  pub reader : UserReader R A
+  pub writer : W
+  pub sink : Outgoing O
+  pub meter : Counts
+
+-- so many values have ended, and this is all that was put, where it was not written meanwhile; nothing has failed
+pub record HasMoved {R W O A : Type 0} (reader : ReaderOf R A) (writer : WriterOf W O A) (output : OutputOf O) (earlier values : ℕ) (put : List ℕ) (old new : Parts R W O A) : Type 0 where
+  pub feeds : Feeds writer (λ item. item) (reader.observable old.reader.raw)
+      (record {
+        coming = coming_to reader.reading old.reader;
+        opened = reader.opened old.reader.raw;
+        writer = old.writer;
+        pending = so_far output.written old.sink;
+        values = earlier;
+      })
+      (record {
+        coming = coming_to reader.reading new.reader;
+        opened = reader.opened new.reader.raw;
+        writer = new.writer;
+        pending = put;
+        values = values;
+      })
+  pub counts : values + reader.left new.reader.raw ≤ earlier + reader.left old.reader.raw
+  pub falls : reader.left new.reader.raw ≤ reader.left old.reader.raw
+  -- the reader
+  pub ready : IsReady reader.sound reader.opened reader.failed reader.ended new.reader
+  pub level : level_of new.reader ≡ length (reader.opened new.reader.raw)
+  pub observable : reader.observable new.reader.raw ↔ reader.observable old.reader.raw
+  pub read_on : reader.read_on old.reader.raw new.reader.raw
+  pub limits : limits_of new.reader ≡ limits_of old.reader
+  pub answered : answered_by new.reader ≡ answered_by old.reader
+  pub depth : reader.depth new.reader.raw ≡ reader.depth old.reader.raw
+  pub most : reader.most new.reader.raw ≡ reader.most old.reader.raw
+  pub failures : reader.failures new.reader.raw ≡ reader.failures old.reader.raw
+  pub exceeds : reader.exceeds new.reader.raw ↔ reader.exceeds old.reader.raw
+  pub bytes_left : reader.bytes_left new.reader.raw → reader.bytes_left old.reader.raw
+  -- the writer
+  pub stays : StaysSound writer old.writer new.writer
+  pub failed : writer.failed new.writer ≡ writer.failed old.writer
+  -- the meter
+  pub refused : new.meter.refused ≡ old.meter.refused
+  pub charges : Charges old.meter new.meter (owned_by reader.own old.reader + writer.own old.writer) (owned_by reader.own new.reader + writer.own new.writer)
+      (share_of reader.most old.reader + writer.most old.writer)
+
+-- all that was put is written or pending in the sink; only the device fails, and then a prefix of it is written
+pub record IsSent {T O : Type 0} (output : OutputOf O) (answer : Result T Fault) (put : List ℕ) (old new : Outgoing O) : Type 0 where
+  pub whole : OnOk answer (output.observable old.device → so_far output.written new ≡ put)
+  pub well : OnOk answer (new.fault ≡ None)
+  pub cause : IfErr answer (λ f. f ≡ WriteFault)
+  pub count : output.failure_count new.device ≡ output.failure_count old.device + write_failures_in None answer
+  pub still_observable : output.observable new.device ↔ output.observable old.device
+  pub grown : output.observable old.device → HasPrefix (output.written new.device) (output.written old.device)
+  pub prefix : output.observable old.device → HasPrefix put (output.written new.device)
+
+-- items are handed on, and what they put is sent
+pub record HandsOn {R W O A : Type 0} (reader : ReaderOf R A) (writer : WriterOf W O A) (output : OutputOf O) (start : Copied) (answer : Result Copied Fault) (old new : Parts R W O A) : Type 0 where
+  pub values : ℕ
+  pub put : List ℕ
+  pub moved : HasMoved reader writer output start.values values put old new
+  pub sent : IsSent output answer put old.sink new.sink
+  pub counts : IfOk answer (λ at. (at.values ≡ values) × (at.level ≡ length (reader.opened new.reader.raw)))
 
 -- the meter after a stream whose windows are made: that on the input is given back, and no more was held than the share of text, nor, where a stream
 -- is accepted, than that of its form

@@ -4,11 +4,13 @@ ghost use Rattle.ion_meter.specs.Windows.{so_far, write_failures_in, Puts};
 ghost use Rattle.ion_value.specs.declared.ion_type.Kind.{Kind};
 ghost use Rattle.ion_value.specs.Items.{raw_head};
 ghost use Rattle.ion_value.specs.Standing.{open_after};
+ghost use Rattle.ion_value.specs.Feeding.{CanTake};
 ghost use Rattle.ion_value.specs.Reading.{items_of};
 ghost use Rattle.ion_value.specs.Shares.{Charges};
 ghost use Rattle.ion_value.specs.Outcome.{one_if_closed, verdict_after, output_after};
-ghost use Rattle.ion_symbols.specs.User.{coming_to, owned_by, share_of};
-ghost use Rattle.ion_transcode.specs.Calls.{Causes, HasRoom, IsAtStart, Joined, MayWrite};
+ghost use Rattle.ion_symbols.specs.User.{IsReady, answered_by, coming_to, level_of, owned_by};
+ghost use Rattle.ion_symbols.specs.User.{raw_of, share_of};
+ghost use Rattle.ion_transcode.specs.Calls.{Causes, HandsOn, HasRoom, IsAtStart, Joined, MayWrite};
 ghost use Rattle.ion_transcode.specs.Calls.{PutsOutput, SaysVerdict};
 
 use ion_meter::device::Output;
@@ -21,6 +23,21 @@ use ion_value::item::Head;
 use ion_value::reader::RawReader;
 use ion_value::writer::ValueWriter;
 use std::alloc::Allocator;
+
+// The window on the output is nearly full where it has less room than this: the longest line's
+// blanks, which are one copy, and a short scalar.
+const NEARLY_FULL: usize = 320;
+
+// How far a stream was copied.
+#[derive(Clone, Copy)]
+struct Copied {
+    // How many containers are open.
+    level: u32,
+    // How many values at top level have ended.
+    values: u64,
+    // How many had ended when all that was put was written last.
+    flushed: u64,
+}
 
 // How many containers are open after an item.
 #[inline]
@@ -46,11 +63,13 @@ fn values_after(values: u64, level: u32) -> u64
     if level == 0 { values + 1 } else { values }
 }
 
-// Writes all that was put, where a value has ended since that was done last, and the reader may have
-// to wait. It answers how many values had ended when it was done last. Where nothing is to be written,
-// as of a check, the reader is not asked.
+// Writes all that was put, where `is_full` says that the window is nearly full, or where a value
+// has ended since that was done last and the reader may have to wait. It answers how many values
+// had ended when it was done last. Where nothing is to be written, as of a check, the reader is not
+// asked.
 #[inline]
 fn flush_ended<R: RawReader<A>, O: Output, A: Allocator + Copy>(
+    is_full: bool,
     values: u64,
     flushed: u64,
     reader: &UserReader<'_, R, A>,
@@ -65,7 +84,7 @@ fn flush_ended<R: RawReader<A>, O: Output, A: Allocator + Copy>(
     ensures count { O.failure_count sink.new.device
         ≡ O.failure_count sink.old.device + write_failures_in None result }
 {
-    if values == flushed || sink.room() == WINDOW || !reader.may_wait() {
+    if !is_full && (values == flushed || sink.room() == WINDOW || !reader.may_wait()) {
         return Ok(flushed);
     }
     match sink.flush() {
@@ -74,10 +93,57 @@ fn flush_ended<R: RawReader<A>, O: Output, A: Allocator + Copy>(
     }
 }
 
+// Lets the reader hand on what lies whole in its window, and again each time that this nearly
+// filled the window on the output, which is written first: the item that it has no room for would
+// go by the slow path, once for each window. The number of turns serves only to end them.
+#[inline]
+fn feed_windows<R: RawReader<A>, W: ValueWriter<O, A>, O: Output, A: Allocator + Copy>(
+    meter: &mut Meter<A>,
+    reader: &mut UserReader<'_, R, A>,
+    writer: &mut W,
+    sink: &mut Sink<O, A>,
+    start: Copied,
+) -> Result<Copied, Fault>
+    requires room { HasRoom (2 ^ 59 + (owned_by R.own reader.old + W.own writer.old))
+        (owned_by R.own reader.old + W.own writer.old) meter.old }
+    requires ready { IsReady R.sound R.opened R.failed R.ended reader.old }
+    requires fresh { answered_by reader.old ≡ None }
+    requires level { level_of reader.old ≡ length (R.opened (raw_of reader.old)) }
+    requires writer { CanTake W.ValueWriter (R.depth (raw_of reader.old))
+        (R.opened (raw_of reader.old)) writer.old sink.old }
+    requires start { start.level ≡ length (R.opened (raw_of reader.old)) }
+    requires left { start.values + R.left (raw_of reader.old) < 2 ^ 64 }
+    ensures { HandsOn R.RawReader W.ValueWriter O.Output start result
+        (record { reader = reader.old; writer = writer.old; sink = sink.old; meter = meter.old })
+        (record { reader = reader.new; writer = writer.new; sink = sink.new; meter = meter.new }) }
+{
+    let mut at = start;
+    'windows: for _ in 0..64u32 {
+        let fed = reader.feed(meter, writer, sink);
+        let values = at.values + fed.values;
+        let is_full = sink.room() < NEARLY_FULL;
+        match flush_ended(is_full, values, at.flushed, reader, sink) {
+            Err(fault) => return Err(fault),
+            Ok(flushed) => {
+                at = Copied {
+                    level: fed.level,
+                    values,
+                    flushed,
+                }
+            }
+        }
+        if !is_full {
+            return Ok(at);
+        }
+    }
+    Ok(at)
+}
+
 /// Puts each item of the user values that are read, and counts the values at top level.
 ///
 /// After each item that is read and put one at a time, the reader hands on what lies whole in its
-/// window. Where the reader may have to wait for its device, what was put is written first, if a
+/// window; where that nearly fills the window on the output, this is written, and the reader hands
+/// on more. Where the reader may have to wait for its device, what was put is written first, if a
 /// value at top level has ended since it was written last.
 pub fn copy_items<R: RawReader<A>, W: ValueWriter<O, A>, O: Output, A: Allocator + Copy>(
     meter: &mut Meter<A>,
@@ -112,25 +178,27 @@ pub fn copy_items<R: RawReader<A>, W: ValueWriter<O, A>, O: Output, A: Allocator
         (share_of R.most reader.old + W.most writer.old) }
 {
     writer.begin(sink)?;
-    let mut values: u64 = 0;
-    let mut level: u32 = 0;
-    // How many values had ended when all that was put was written last.
-    let mut flushed: u64 = 0;
+    let mut at = Copied {
+        level: 0,
+        values: 0,
+        flushed: 0,
+    };
     'items: while reader.next(meter)? {
         let item = reader.item();
         let head = item.head();
         if let Err(fault) = writer.item(meter, sink, &item) {
             return Err(fault);
         }
-        let now = depth_after(level, &head);
-        let ended = values_after(values, now);
-        let fed = reader.feed(meter, writer, sink);
-        level = fed.level;
-        values = ended + fed.values;
-        match flush_ended(values, flushed, reader, sink) {
+        let level = depth_after(at.level, &head);
+        let start = Copied {
+            level,
+            values: values_after(at.values, level),
+            flushed: at.flushed,
+        };
+        match feed_windows(meter, reader, writer, sink, start) {
             Err(fault) => return Err(fault),
-            Ok(count) => flushed = count,
+            Ok(now) => at = now,
         }
     }
-    Ok(values)
+    Ok(at.values)
 }

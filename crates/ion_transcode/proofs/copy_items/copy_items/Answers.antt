@@ -1,21 +1,23 @@
-use Rattle.std.proofs.Common.{rules, ◌≡◌, ℕ, ◌+◌, ◌<◌, ◌≤◌, List, [], ◌∷◌, ◌++◌, length, Some, None, Ok, Err, true, refl, ap, sym, subst, ◌∙◌, add-zero, le_trans, arith}
+use Rattle.std.proofs.Common.{rules, ◌≡◌, ℕ, ◌+◌, ◌<◌, ◌≤◌, [], ◌∷◌, ◌++◌, length, Some, None, Ok, Err, true, refl, ap, sym, subst, ◌∙◌, add-zero, le_trans, arith}
 use Rattle.std.proofs.lemmas.Grind.{common_steps}
-use Rattle.std.proofs.lemmas.List.{append-nil}
 use Rattle.ion_meter.specs.Windows.{so_far, HasPrefix}
-use Rattle.ion_value.specs.Items.{item_of}
+use Rattle.ion_value.specs.Items.{item_of, raw_head}
 use Rattle.ion_value.specs.Value.{PlacedItem}
 use Rattle.ion_value.specs.Reading.{More}
+use Rattle.ion_value.specs.Shares.{Charges}
 use Rattle.ion_value.specs.Standing.{Continues, open_after}
 use Rattle.ion_value.specs.Outcome.{one_if_closed, Accepted, verdict_after, output_after}
 use Rattle.ion_symbols.specs.Table.{text_at}
 use Rattle.ion_symbols.specs.User.{coming_to, lent_by, owned_by, share_of}
-use Rattle.ion_value.proofs.Outcomes.{open_after_all-append, walk-more, walk-prefix, walk-fault, walk-refused, prefix-then, prefix-after, output_after-prefix}
+use Rattle.ion_value.proofs.Outcomes.{Walk, open_after_all-append, walk-more, walk-prefix, walk-fault, walk-refused, prefix-then, prefix-after, output_after-prefix}
 use Rattle.ion_meter.specs.declared.limits.Limits.{Limits}
-use Rattle.ion_value.specs.Feeding.{Joint, Feeds}
 use Rattle.ion_value.proofs.Handing.{feeds-under}
 use Rattle.ion_transcode.proofs.Following.{followed-more, followed-all}
-use Rattle.ion_transcode.proofs.Feeding.{charges_fed, followed-feeds, falls_fed, held_after, left_fed, room_after, unharmed_fed, walk-feeds, walk-same}
+use Rattle.ion_transcode.proofs.Feeding.{charges_fed, followed-feeds, unharmed_fed, walk-same}
+use Rattle.ion_transcode.proofs.HandingOn.{left_moved, room_put, walk-moved}
 use Rattle.ion_transcode.proofs.Copying.{none_is, err_is, same_ok, ok_is, refused_as, not_refused, Unharmed, continues_with, taken_as, level_with, left_with, same_share, charges_read, charges_written, item_causes, flush_causes, whole_causes, read_causes, unharmed_read, unharmed_put}
+use Rattle.ion_transcode.proofs.copy_items.copy_items.Given.{Over}
+use Rattle.ion_transcode.proofs.copy_items.copy_items.Goals.{In_default}
 use Rattle.ion_transcode.proofs.copy_items.copy_items.Goals as goal
 
 pub returns-in_err-begin-clause-puts : goal.returns-in_err-begin-clause-puts
@@ -209,20 +211,23 @@ returns-in-Err-clause-charges g c =
     charges_written r_old w_old r_new w_now (w.own c.item.new.self) r_most w_most
     (charges_read r_old w_old r_now w_now r_new r_most w_most i.charges c.next.ensures.charges share c.requires.room.held few) c.item.ensures.charges i.writer_most c.requires.room.held most
 
-pub depth_after-now-requires : goal.depth_after-now-requires
-depth_after-now-requires g c =
+-- what is known where an item was put, and not yet what is handed on after it
+put_well : (g : Over) (c : In_default g) → Unharmed c.args.meter.now c.item.new.meter (g.R.RawReader.failures c.args.reader.now.raw) (g.R.RawReader.failures c.next.new.self.raw)
+    g.O.Output c.args.sink.now.device c.item.new.sink.device
+put_well g c =
     let i = c.items.invariant in
-    let w = g.met.R.RawReader.within c.items.reader.raw i.ready.raw in
-    subst (λ n. n ≤ 65535) i.level (le_trans w.level w.deep)
+    let walk = i.walk in
+    let may : Continues (g.W.ValueWriter.limits c.items.writer) walk.path (item_of (λ s. text_at s.table) c.item-item.result) =
+    continues_with i.limits c.requires.writer.depth_of i.depth walk.kinds_at c.item-item.ensures (c.next.ensures.comes (c.in_ok-next.was ∙ ap Ok c.if-branch.true)) in
+    let puts = c.item.ensures.part i.sink walk.path walk.stands_at may in
+    let so_good : Unharmed c.args.meter.now c.items.meter (g.R.RawReader.failures c.args.reader.now.raw) (g.R.RawReader.failures c.items.reader.raw) g.O.Output c.args.sink.now.device c.items.sink.device =
+    record { refused = i.refused; reads = i.failures; writes = i.device; observable = i.written; grown = i.grown } in
+    unharmed_put (unharmed_read so_good (c.in_ok-next.ensures.causes i.well)) (c.in_default.ensures.memory i.fresh) (c.in_default.ensures.causes i.fresh i.sink)
+    puts.still_observable (λ o. prefix-then _ _ _ (puts.grown (i.written.1 o)) (i.grown o))
 
-pub feed-fed-requires-clause-countable : goal.feed-fed-requires-clause-countable
-feed-fed-requires-clause-countable g c =
-    let i = c.items.invariant in
-    let refused = (c.in_default.ensures.memory i.fresh).counted none_is ∙ ((c.in_ok-next.ensures.causes i.well).counted none_is ∙ i.refused) in
-    subst (λ n. n < 18446744073709551615) (sym refused) c.requires.room.countable
-
-pub feed-fed-requires-clause-held : goal.feed-fed-requires-clause-held
-feed-fed-requires-clause-held g c =
+put_charges : (g : Over) (c : In_default g) → Charges c.args.meter.now c.item.new.meter (owned_by g.R.RawReader.own c.args.reader.now + g.W.ValueWriter.own c.args.writer.now)
+    (owned_by g.R.RawReader.own c.next.new.self + g.W.ValueWriter.own c.item.new.self) (share_of g.R.RawReader.most c.args.reader.now + g.W.ValueWriter.most c.args.writer.now)
+put_charges g c =
     let w = g.W.ValueWriter in
     let r = g.R.RawReader in
     let i = c.items.invariant in
@@ -236,32 +241,14 @@ feed-fed-requires-clause-held g c =
     let w_now = w.own c.items.writer in
     let r_most = share_of r.most c.args.reader.now in
     let w_most = w.most c.args.writer.now in
-    let put = charges_written r_old w_old r_new w_now (w.own c.item.new.self) r_most w_most
-    (charges_read r_old w_old r_now w_now r_new r_most w_most i.charges c.next.ensures.charges share c.requires.room.held few) c.item.ensures.charges i.writer_most c.requires.room.held most in
-    held_after _ _ put c.requires.room.held
+    charges_written r_old w_old r_new w_now (w.own c.item.new.self) r_most w_most
+    (charges_read r_old w_old r_now w_now r_new r_most w_most i.charges c.next.ensures.charges share c.requires.room.held few) c.item.ensures.charges i.writer_most c.requires.room.held most
 
-pub feed-fed-requires-clause-room : goal.feed-fed-requires-clause-room
-feed-fed-requires-clause-room g c =
-    let w = g.W.ValueWriter in
-    let r = g.R.RawReader in
-    let i = c.items.invariant in
-    let share = same_share _ _ _ _ i.most i.same in
-    let few = subst (λ n. w.own c.items.writer ≤ n) i.writer_most (g.met.W.ValueWriter.within c.items.writer i.writer).share in
-    let most = subst (λ n. owned_by r.own c.next.new.self ≤ n) share c.next.ensures.charges.share in
-    let r_old = owned_by r.own c.args.reader.now in
-    let r_now = owned_by r.own c.items.reader in
-    let r_new = owned_by r.own c.next.new.self in
-    let w_old = w.own c.args.writer.now in
-    let w_now = w.own c.items.writer in
-    let r_most = share_of r.most c.args.reader.now in
-    let w_most = w.most c.args.writer.now in
-    let put = charges_written r_old w_old r_new w_now (w.own c.item.new.self) r_most w_most
-    (charges_read r_old w_old r_now w_now r_new r_most w_most i.charges c.next.ensures.charges share c.requires.room.held few) c.item.ensures.charges i.writer_most c.requires.room.held most in
-    room_after _ _ _ _ _ put c.requires.room.room (g.met.R.RawReader.within c.args.reader.now.raw c.requires.reader.ready.raw).small c.requires.reader.ready.checked.symbols
-    (g.met.W.ValueWriter.within c.args.writer.now c.requires.writer.sound).small
-
-pub feed-fed-requires-clause-writer : goal.feed-fed-requires-clause-writer
-feed-fed-requires-clause-writer g c =
+put_walk : (g : Over) (c : In_default g) (ended : ℕ) → ended ≡ c.items.at.values + one_if_closed (g.R.RawReader.opened c.next.new.self.raw)
+    → Walk (g.W.ValueWriter.stands c.item.new.self) (g.W.ValueWriter.puts (g.W.ValueWriter.limits c.args.writer.now)) (g.W.ValueWriter.refusal (g.W.ValueWriter.limits c.args.writer.now))
+    (g.R.RawReader.observable c.args.reader.now.raw) (g.O.Output.observable c.args.sink.now.device) (g.R.RawReader.opened c.next.new.self.raw) ended
+    (coming_to g.R.RawReader.reading c.args.reader.now) (coming_to g.R.RawReader.reading c.next.new.self) (so_far g.O.Output.written c.args.sink.now) (so_far g.O.Output.written c.item.new.sink)
+put_walk g c ended counts =
     let w = g.W.ValueWriter in
     let r = g.R.RawReader in
     let out = g.O.Output in
@@ -270,9 +257,44 @@ feed-fed-requires-clause-writer g c =
     let walk = i.walk in
     let taken : c.next.result ≡ Ok true = c.in_ok-next.was ∙ ap Ok c.if-branch.true in
     let item = lent_by r.current c.next.new.self in
-    let own = item_of (λ s. text_at s.table) c.item-item.result in
     let comes = c.next.ensures.comes taken in
-    let may : Continues (w.limits c.items.writer) walk.path own = continues_with i.limits c.requires.writer.depth_of i.depth walk.kinds_at c.item-item.ensures comes in
+    let may : Continues (w.limits c.items.writer) walk.path (item_of (λ s. text_at s.table) c.item-item.result) =
+    continues_with i.limits c.requires.writer.depth_of i.depth walk.kinds_at c.item-item.ensures comes in
+    let stood = c.in_default.ensures.stands walk.path walk.stands_at may in
+    let later : w.stands c.item.new.self (walk.path ++ item ∷ []) = subst (λ (x : PlacedItem). w.stands c.item.new.self (walk.path ++ x ∷ [])) c.item-item.ensures stood.0 in
+    let none : w.refusal limits walk.path item ≡ None = taken_as (λ l x. w.refusal l walk.path x ≡ None) i.limits c.item-item.ensures stood.1 in
+    let is : r.observable c.args.reader.now.raw → coming_to r.reading c.items.reader ≡ More item (coming_to r.reading c.next.new.self) = λ o. c.next.ensures.gives (i.read.1 o) taken in
+    let put : out.observable c.args.sink.now.device → so_far out.written c.item.new.sink ≡ so_far out.written c.items.sink ++ w.adds limits walk.path item =
+    λ o. taken_as (λ l x. so_far out.written c.item.new.sink ≡ so_far out.written c.items.sink ++ w.adds l walk.path x) i.limits c.item-item.ensures (c.in_default.ensures.puts walk.path walk.stands_at may (i.written.1 o)) in
+    walk-more walk (w.adds limits) (g.met.W.ValueWriter.grows limits) item (coming_to r.reading c.next.new.self) _ _ _ is none later put comes.opens counts
+
+put_level : (g : Over) (c : In_default g) (level : ℕ) → length (open_after (g.R.RawReader.opened c.items.reader.raw) (raw_head c.head-head.result)) ≡ level
+    → length (g.R.RawReader.opened c.next.new.self.raw) ≡ level
+put_level g c level is =
+    let comes = c.next.ensures.comes (c.in_ok-next.was ∙ ap Ok c.if-branch.true) in
+    level_with (g.R.RawReader.opened c.items.reader.raw) _ _ (lent_by g.R.RawReader.current c.next.new.self) (item_of (λ s. text_at s.table) c.item-item.result) level
+    comes.opens c.item-item.ensures c.head-head.ensures is
+
+pub depth_after-level-requires : goal.depth_after-level-requires
+depth_after-level-requires g c =
+    let i = c.items.invariant in
+    let w = g.met.R.RawReader.within c.items.reader.raw i.ready.raw in
+    subst (λ n. n ≤ 65535) i.level (le_trans w.level w.deep)
+
+pub feed_windows-requires-clause-room : goal.feed_windows-requires-clause-room
+feed_windows-requires-clause-room g c =
+    let a = (goal.at.feed_windows-requires-clause-room g c).In_default in
+    room_put _ _ (put_charges g a) c.requires.room (put_well g a).refused
+
+pub feed_windows-requires-clause-writer : goal.feed_windows-requires-clause-writer
+feed_windows-requires-clause-writer g c =
+    let w = g.W.ValueWriter in
+    let i = c.items.invariant in
+    let walk = i.walk in
+    let item = lent_by g.R.RawReader.current c.next.new.self in
+    let comes = c.next.ensures.comes (c.in_ok-next.was ∙ ap Ok c.if-branch.true) in
+    let may : Continues (w.limits c.items.writer) walk.path (item_of (λ s. text_at s.table) c.item-item.result) =
+    continues_with i.limits c.requires.writer.depth_of i.depth walk.kinds_at c.item-item.ensures comes in
     let stood = c.in_default.ensures.stands walk.path walk.stands_at may in
     let later : w.stands c.item.new.self (walk.path ++ item ∷ []) = subst (λ (x : PlacedItem). w.stands c.item.new.self (walk.path ++ x ∷ [])) c.item-item.ensures stood.0 in
     record {
@@ -283,216 +305,138 @@ feed-fed-requires-clause-writer g c =
       after = (walk.path ++ item ∷ [], later, open_after_all-append [] walk.path item ∙ (ap (λ k. open_after k item.head) walk.kinds_at ∙ sym comes.opens));
     }
 
-pub flush_ended-requires : goal.flush_ended-requires
-flush_ended-requires g c = record { well = c.feed-fed.ensures.writer.fault ∙ c.in_default.ensures.well c.items.invariant.sink }
+pub feed_windows-requires-clause-start : goal.feed_windows-requires-clause-start
+feed_windows-requires-clause-start g c =
+    sym (put_level g (goal.at.feed_windows-requires-clause-start g c).In_default c.depth_after-level.result (c.depth_after-level.ensures (g.R.RawReader.opened c.items.reader.raw) c.items.invariant.level))
 
-pub returns-in-Err-flush_ended-clause-says : goal.returns-in-Err-flush_ended-clause-says
-returns-in-Err-flush_ended-clause-says g c r = record {
+pub feed_windows-requires-clause-left : goal.feed_windows-requires-clause-left
+feed_windows-requires-clause-left g c =
+    let i = c.items.invariant in
+    let a = (goal.at.feed_windows-requires-clause-left g c).In_default in
+    let level = put_level g a c.depth_after-level.result (c.depth_after-level.ensures (g.R.RawReader.opened c.items.reader.raw) i.level) in
+    let counts = c.values_after.ensures (g.R.RawReader.opened c.next.new.self.raw) level in
+    let left = left_with (g.R.RawReader.opened c.next.new.self.raw) _ _ _ _ i.left (c.next.ensures.falls (c.in_ok-next.was ∙ ap Ok c.if-branch.true)) in
+    omega (arith, counts, left, (g.met.R.RawReader.within c.args.reader.now.raw c.requires.reader.ready.raw).few)
+
+pub returns-in-Err-feed_windows-clause-says : goal.returns-in-Err-feed_windows-clause-says
+returns-in-Err-feed_windows-clause-says g c r = record {
   accepted = λ n e. absurd (err_is e);
-  rejected = λ reason place e. absurd (not_refused c.in-Err-flush_ended.ensures.cause e);
+  rejected = λ reason place e. absurd (not_refused c.in-Err-feed_windows.ensures.sent.cause e);
 }
 
-pub returns-in-Err-flush_ended-clause-puts : goal.returns-in-Err-flush_ended-clause-puts
-returns-in-Err-flush_ended-clause-puts g c reading o =
+pub returns-in-Err-feed_windows-clause-puts : goal.returns-in-Err-feed_windows-clause-puts
+returns-in-Err-feed_windows-clause-puts g c reading o =
     let w = g.W.ValueWriter in
-    let r = g.R.RawReader in
-    let out = g.O.Output in
     let limits = w.limits c.args.writer.now in
     let i = c.items.invariant in
-    let walk = i.walk in
-    let taken : c.next.result ≡ Ok true = c.in_ok-next.was ∙ ap Ok c.if-branch.true in
-    let item = lent_by r.current c.next.new.self in
-    let own = item_of (λ s. text_at s.table) c.item-item.result in
-    let comes = c.next.ensures.comes taken in
-    let may : Continues (w.limits c.items.writer) walk.path own = continues_with i.limits c.requires.writer.depth_of i.depth walk.kinds_at c.item-item.ensures comes in
-    let stood = c.in_default.ensures.stands walk.path walk.stands_at may in
-    let later : w.stands c.item.new.self (walk.path ++ item ∷ []) = subst (λ (x : PlacedItem). w.stands c.item.new.self (walk.path ++ x ∷ [])) c.item-item.ensures stood.0 in
-    let none : w.refusal limits walk.path item ≡ None = taken_as (λ l x. w.refusal l walk.path x ≡ None) i.limits c.item-item.ensures stood.1 in
-    let is : r.observable c.args.reader.now.raw → coming_to r.reading c.items.reader ≡ More item (coming_to r.reading c.next.new.self) = λ o. c.next.ensures.gives (i.read.1 o) taken in
-    let puts = c.item.ensures.part i.sink walk.path walk.stands_at may in
-    let at : out.observable c.args.sink.now.device → out.observable c.item.new.sink.device = λ o. puts.still_observable.1 (i.written.1 o) in
-    let put : out.observable c.args.sink.now.device → so_far out.written c.item.new.sink ≡ so_far out.written c.items.sink ++ w.adds limits walk.path item =
-    λ o. taken_as (λ l x. so_far out.written c.item.new.sink ≡ so_far out.written c.items.sink ++ w.adds l walk.path x) i.limits c.item-item.ensures (c.in_default.ensures.puts walk.path walk.stands_at may (i.written.1 o)) in
-    let level : length (r.opened c.next.new.self.raw) ≡ c.depth_after-now.result =
-    level_with (r.opened c.items.reader.raw) _ _ item own _ comes.opens c.item-item.ensures c.head-head.ensures (c.depth_after-now.ensures (r.opened c.items.reader.raw) i.level) in
-    let counts : c.values_after-ended.result ≡ c.items.values + one_if_closed (r.opened c.next.new.self.raw) = c.values_after-ended.ensures (r.opened c.next.new.self.raw) level in
-    let with_item = walk-more walk (w.adds limits) (g.met.W.ValueWriter.grows limits) item (coming_to r.reading c.next.new.self) _ _ _ is none later put comes.opens counts in
-    let kept = c.feed-fed.ensures.writer in
-    let before : Joint g.row.W.Denot =
-    record { coming = coming_to r.reading c.next.new.self; opened = r.opened c.next.new.self.raw; writer = c.item.new.self; pending = c.item.new.sink.pending; values = 0 } in
-    let after : Joint g.row.W.Denot =
-    record { coming = coming_to r.reading c.feed-fed.new.self; opened = r.opened c.feed-fed.new.self.raw; writer = c.feed-fed.new.writer; pending = c.feed-fed.new.sink.pending; values = c.feed-fed.result.values } in
-    let reads = r.observable c.args.reader.now.raw in
-    let feeds : Feeds w (λ x. x) reads before after = feeds-under w (λ o. c.next.ensures.observable.1 (i.read.1 o)) c.feed-fed.ensures.feeds in
-    let fed = walk-same (walk-feeds w limits reads (out.observable c.args.sink.now.device) _ _ (out.written c.item.new.sink.device) c.values_after-ended.result before after (g.met.W.ValueWriter.grows limits)
-    (c.item.ensures.limits ∙ i.limits) feeds (walk-same with_item (λ _. refl) (sym (add-zero _)))) (λ _. ap (λ d. out.written d ++ c.feed-fed.new.sink.pending) kept.device) refl in
-    let at_fed : out.observable c.args.sink.now.device → out.observable c.feed-fed.new.sink.device = λ o. subst out.observable (sym kept.device) (at o) in
-    let flushed : HasPrefix (so_far out.written c.feed-fed.new.sink) (out.written c.flush_ended.new.sink.device) =
-    subst (λ (l : List ℕ). HasPrefix l (out.written c.flush_ended.new.sink.device)) (append-nil (so_far out.written c.feed-fed.new.sink)) (c.flush_ended.ensures.puts.prefix (at_fed o)) in
+    let a = (goal.at.returns-in-Err-feed_windows-clause-puts g c).In_default in
+    let h = c.in-Err-feed_windows.ensures in
+    let level = put_level g a c.depth_after-level.result (c.depth_after-level.ensures (g.R.RawReader.opened c.items.reader.raw) i.level) in
+    let counts = c.values_after.ensures (g.R.RawReader.opened c.next.new.self.raw) level in
+    let fed = walk-moved g.R.RawReader w g.O.Output limits _ _ _ _ _ _ _ _ _ (g.met.W.ValueWriter.grows limits) (c.item.ensures.limits ∙ i.limits) (λ o. c.next.ensures.observable.1 (i.read.1 o)) h.moved
+    (put_walk g a c.values_after.result counts) in
     record {
       accepted = tt;
-      rejected = λ reason place e. absurd (not_refused c.in-Err-flush_ended.ensures.cause e);
-      prefix = walk-prefix fed (w.adds limits) (g.met.W.ValueWriter.grows limits) _ reading o flushed;
+      rejected = λ reason place e. absurd (not_refused h.sent.cause e);
+      prefix = walk-prefix fed (w.adds limits) (g.met.W.ValueWriter.grows limits) _ reading o (h.sent.prefix ((put_well g a).observable.1 o));
     }
 
-pub returns-in-Err-flush_ended-clause-causes : goal.returns-in-Err-flush_ended-clause-causes
-returns-in-Err-flush_ended-clause-causes g c =
-    let w = g.W.ValueWriter in
-    let r = g.R.RawReader in
-    let out = g.O.Output in
-    let limits = w.limits c.args.writer.now in
-    let i = c.items.invariant in
-    let walk = i.walk in
-    let taken : c.next.result ≡ Ok true = c.in_ok-next.was ∙ ap Ok c.if-branch.true in
-    let item = lent_by r.current c.next.new.self in
-    let own = item_of (λ s. text_at s.table) c.item-item.result in
-    let comes = c.next.ensures.comes taken in
-    let may : Continues (w.limits c.items.writer) walk.path own = continues_with i.limits c.requires.writer.depth_of i.depth walk.kinds_at c.item-item.ensures comes in
-    let so_good : Unharmed c.args.meter.now c.items.meter (r.failures c.args.reader.now.raw) (r.failures c.items.reader.raw) out c.args.sink.now.device c.items.sink.device =
-    record { refused = i.refused; reads = i.failures; writes = i.device; observable = i.written; grown = i.grown } in
-    let puts = c.item.ensures.part i.sink walk.path walk.stands_at may in
-    let grown : out.observable c.args.sink.now.device → HasPrefix (out.written c.item.new.sink.device) (out.written c.args.sink.now.device) = λ o. prefix-then _ _ _ (puts.grown (i.written.1 o)) (i.grown o) in
-    let put = unharmed_put (unharmed_read so_good (c.in_ok-next.ensures.causes i.well)) (c.in_default.ensures.memory i.fresh) (c.in_default.ensures.causes i.fresh i.sink) puts.still_observable grown in
-    let kept = c.feed-fed.ensures.writer in
-    let fed = unharmed_fed put kept.refused c.feed-fed.ensures.kept.2 kept.device in
-    flush_causes _ fed c.in-Err-flush_ended.ensures.cause c.in-Err-flush_ended.ensures.count
-    c.flush_ended.ensures.puts.still_observable (λ o. prefix-then _ _ _ (c.flush_ended.ensures.puts.grown (fed.observable.1 o)) (fed.grown o))
+pub returns-in-Err-feed_windows-clause-causes : goal.returns-in-Err-feed_windows-clause-causes
+returns-in-Err-feed_windows-clause-causes g c =
+    let u = put_well g (goal.at.returns-in-Err-feed_windows-clause-causes g c).In_default in
+    let m = c.in-Err-feed_windows.ensures.moved in
+    let s = c.in-Err-feed_windows.ensures.sent in
+    flush_causes _ (unharmed_fed u m.refused m.failures refl) s.cause s.count s.still_observable (λ o. prefix-then _ _ _ (s.grown (u.observable.1 o)) (u.grown o))
 
-pub returns-in-Err-flush_ended-clause-input : goal.returns-in-Err-flush_ended-clause-input
-returns-in-Err-flush_ended-clause-input g c =
+pub returns-in-Err-feed_windows-clause-input : goal.returns-in-Err-feed_windows-clause-input
+returns-in-Err-feed_windows-clause-input g c =
     let i = c.items.invariant in
-    let fed = c.feed-fed.ensures.observable in
+    let fed = c.in-Err-feed_windows.ensures.moved.observable in
     (λ o. i.read.0 (c.next.ensures.observable.0 (fed.0 o)), λ o. fed.1 (c.next.ensures.observable.1 (i.read.1 o)))
 
-pub returns-in-Err-flush_ended-clause-taken : goal.returns-in-Err-flush_ended-clause-taken
-returns-in-Err-flush_ended-clause-taken g c =
-    g.met.R.RawReader.read_more c.args.reader.now.raw c.next.new.self.raw c.feed-fed.new.self.raw
-    (g.met.R.RawReader.read_more c.args.reader.now.raw c.items.reader.raw c.next.new.self.raw c.items.invariant.taken c.next.ensures.read_on) c.feed-fed.ensures.read_on
+pub returns-in-Err-feed_windows-clause-taken : goal.returns-in-Err-feed_windows-clause-taken
+returns-in-Err-feed_windows-clause-taken g c =
+    g.met.R.RawReader.read_more c.args.reader.now.raw c.next.new.self.raw c.feed_windows.new.reader.raw
+    (g.met.R.RawReader.read_more c.args.reader.now.raw c.items.reader.raw c.next.new.self.raw c.items.invariant.taken c.next.ensures.read_on) c.in-Err-feed_windows.ensures.moved.read_on
 
-pub returns-in-Err-flush_ended-clause-joined : goal.returns-in-Err-flush_ended-clause-joined
-returns-in-Err-flush_ended-clause-joined g c =
+pub returns-in-Err-feed_windows-clause-joined : goal.returns-in-Err-feed_windows-clause-joined
+returns-in-Err-feed_windows-clause-joined g c =
     let i = c.items.invariant in
-    let kept = c.feed-fed.ensures.writer in
+    let h = c.in-Err-feed_windows.ensures in
+    let s = h.moved.stays in
     record {
-      ready = c.feed-fed.ensures.ready;
-      limits = c.feed-fed.ensures.same.0 ∙ (c.next.ensures.same.0 ∙ i.same);
-      reader_most = c.feed-fed.ensures.kept.1 ∙ (c.next.ensures.kept.1 ∙ i.most);
-      stays = record { sound = kept.sound; limits = kept.limits ∙ (c.item.ensures.limits ∙ i.limits); most = kept.most ∙ (c.item.ensures.most ∙ i.writer_most) };
-      well = record { accepted = tt; rejected = λ reason place e. absurd (not_refused c.in-Err-flush_ended.ensures.cause e) };
+      ready = h.moved.ready;
+      limits = h.moved.limits ∙ (c.next.ensures.same.0 ∙ i.same);
+      reader_most = h.moved.most ∙ (c.next.ensures.kept.1 ∙ i.most);
+      stays = record { sound = s.sound; limits = s.limits ∙ (c.item.ensures.limits ∙ i.limits); most = s.most ∙ (c.item.ensures.most ∙ i.writer_most) };
+      well = record { accepted = tt; rejected = λ reason place e. absurd (not_refused h.sent.cause e) };
     }
 
-pub returns-in-Err-flush_ended-clause-charges : goal.returns-in-Err-flush_ended-clause-charges
-returns-in-Err-flush_ended-clause-charges g c =
+pub returns-in-Err-feed_windows-clause-charges : goal.returns-in-Err-feed_windows-clause-charges
+returns-in-Err-feed_windows-clause-charges g c =
+    let i = c.items.invariant in
     let w = g.W.ValueWriter in
     let r = g.R.RawReader in
-    let i = c.items.invariant in
-    let share = same_share _ _ _ _ i.most i.same in
-    let few = subst (λ n. w.own c.items.writer ≤ n) i.writer_most (g.met.W.ValueWriter.within c.items.writer i.writer).share in
-    let most = subst (λ n. owned_by r.own c.next.new.self ≤ n) share c.next.ensures.charges.share in
-    let r_old = owned_by r.own c.args.reader.now in
-    let r_now = owned_by r.own c.items.reader in
-    let r_new = owned_by r.own c.next.new.self in
-    let w_old = w.own c.args.writer.now in
-    let w_now = w.own c.items.writer in
-    let r_most = share_of r.most c.args.reader.now in
-    let w_most = w.most c.args.writer.now in
-    let put = charges_written r_old w_old r_new w_now (w.own c.item.new.self) r_most w_most
-    (charges_read r_old w_old r_now w_now r_new r_most w_most i.charges c.next.ensures.charges share c.requires.room.held few) c.item.ensures.charges i.writer_most c.requires.room.held most in
-    let share_then = same_share _ _ _ _ (c.next.ensures.kept.1 ∙ i.most) (c.next.ensures.same.0 ∙ i.same) in
-    let fed = charges_fed r_old w_old r_new (w.own c.item.new.self) (owned_by r.own c.feed-fed.new.self) (w.own c.feed-fed.new.writer) r_most w_most put c.feed-fed.ensures.charges
-    share_then (c.item.ensures.most ∙ i.writer_most) c.requires.room.held in
-    fed
+    let share = same_share _ _ _ _ (c.next.ensures.kept.1 ∙ i.most) (c.next.ensures.same.0 ∙ i.same) in
+    let put = put_charges g (goal.at.returns-in-Err-feed_windows-clause-charges g c).In_default in
+    charges_fed (owned_by r.own c.args.reader.now) (w.own c.args.writer.now) (owned_by r.own c.next.new.self) (w.own c.item.new.self) (owned_by r.own c.feed_windows.new.reader) (w.own c.feed_windows.new.writer)
+    (share_of r.most c.args.reader.now) (w.most c.args.writer.now) put c.in-Err-feed_windows.ensures.moved.charges share (c.item.ensures.most ∙ i.writer_most) c.requires.room.held
 
 pub items-smaller : goal.items-smaller
-items-smaller g c = falls_fed _ _ _ _ c.feed-fed.ensures.falls (c.next.ensures.falls (c.in_ok-next.was ∙ ap Ok c.if-branch.true))
+items-smaller g c = omega (arith, c.in-Ok.ensures.moved.falls, c.next.ensures.falls (c.in_ok-next.was ∙ ap Ok c.if-branch.true))
 
 pub items-preserved : goal.items-preserved
 items-preserved g c =
     let w = g.W.ValueWriter in
     let r = g.R.RawReader in
-    let out = g.O.Output in
     let limits = w.limits c.args.writer.now in
     let i = c.items.invariant in
-    let walk = i.walk in
+    let a = (goal.at.items-preserved g c).In_default in
+    let next = c.next.ensures in
     let taken : c.next.result ≡ Ok true = c.in_ok-next.was ∙ ap Ok c.if-branch.true in
     let item = lent_by r.current c.next.new.self in
-    let own = item_of (λ s. text_at s.table) c.item-item.result in
-    let comes = c.next.ensures.comes taken in
-    let may : Continues (w.limits c.items.writer) walk.path own = continues_with i.limits c.requires.writer.depth_of i.depth walk.kinds_at c.item-item.ensures comes in
-    let stood = c.in_default.ensures.stands walk.path walk.stands_at may in
-    let later : w.stands c.item.new.self (walk.path ++ item ∷ []) = subst (λ (x : PlacedItem). w.stands c.item.new.self (walk.path ++ x ∷ [])) c.item-item.ensures stood.0 in
-    let none : w.refusal limits walk.path item ≡ None = taken_as (λ l x. w.refusal l walk.path x ≡ None) i.limits c.item-item.ensures stood.1 in
-    let is : r.observable c.args.reader.now.raw → coming_to r.reading c.items.reader ≡ More item (coming_to r.reading c.next.new.self) = λ o. c.next.ensures.gives (i.read.1 o) taken in
-    let puts = c.item.ensures.part i.sink walk.path walk.stands_at may in
-    let at : out.observable c.args.sink.now.device → out.observable c.item.new.sink.device = λ o. puts.still_observable.1 (i.written.1 o) in
-    let put : out.observable c.args.sink.now.device → so_far out.written c.item.new.sink ≡ so_far out.written c.items.sink ++ w.adds limits walk.path item =
-    λ o. taken_as (λ l x. so_far out.written c.item.new.sink ≡ so_far out.written c.items.sink ++ w.adds l walk.path x) i.limits c.item-item.ensures (c.in_default.ensures.puts walk.path walk.stands_at may (i.written.1 o)) in
-    let level : length (r.opened c.next.new.self.raw) ≡ c.depth_after-now.result =
-    level_with (r.opened c.items.reader.raw) _ _ item own _ comes.opens c.item-item.ensures c.head-head.ensures (c.depth_after-now.ensures (r.opened c.items.reader.raw) i.level) in
-    let counts : c.values_after-ended.result ≡ c.items.values + one_if_closed (r.opened c.next.new.self.raw) = c.values_after-ended.ensures (r.opened c.next.new.self.raw) level in
-    let with_item = walk-more walk (w.adds limits) (g.met.W.ValueWriter.grows limits) item (coming_to r.reading c.next.new.self) _ _ _ is none later put comes.opens counts in
-    let kept = c.feed-fed.ensures.writer in
-    let before : Joint g.row.W.Denot =
-    record { coming = coming_to r.reading c.next.new.self; opened = r.opened c.next.new.self.raw; writer = c.item.new.self; pending = c.item.new.sink.pending; values = 0 } in
-    let further : Joint g.row.W.Denot =
-    record { coming = coming_to r.reading c.feed-fed.new.self; opened = r.opened c.feed-fed.new.self.raw; writer = c.feed-fed.new.writer; pending = c.feed-fed.new.sink.pending; values = c.feed-fed.result.values } in
-    let reads = r.observable c.args.reader.now.raw in
-    let feeds : Feeds w (λ x. x) reads before further = feeds-under w (λ o. c.next.ensures.observable.1 (i.read.1 o)) c.feed-fed.ensures.feeds in
-    let fed = walk-same (walk-feeds w limits reads (out.observable c.args.sink.now.device) _ _ (out.written c.item.new.sink.device) c.values_after-ended.result before further (g.met.W.ValueWriter.grows limits)
-    (c.item.ensures.limits ∙ i.limits) feeds (walk-same with_item (λ _. refl) (sym (add-zero _)))) (λ _. ap (λ d. out.written d ++ c.feed-fed.new.sink.pending) kept.device) refl in
-    let at_fed : out.observable c.args.sink.now.device → out.observable c.feed-fed.new.sink.device = λ o. subst out.observable (sym kept.device) (at o) in
+    let comes = next.comes taken in
+    let level = put_level g a c.depth_after-level.result (c.depth_after-level.ensures (r.opened c.items.reader.raw) i.level) in
+    let counts = c.values_after.ensures (r.opened c.next.new.self.raw) level in
+    let u = put_well g a in
+    let h = c.in-Ok.ensures in
+    let m = h.moved in
+    let s = h.sent in
+    let reads : r.observable c.args.reader.now.raw → r.observable c.next.new.self.raw = λ o. next.observable.1 (i.read.1 o) in
+    let fed = walk-moved r w g.O.Output limits _ _ _ _ _ _ _ _ _ (g.met.W.ValueWriter.grows limits) (c.item.ensures.limits ∙ i.limits) reads m (put_walk g a c.values_after.result counts) in
     let followed = i.followed in
-    let follows : Continues (w.limits c.items.writer) followed.path own = continues_with i.limits c.requires.writer.depth_of i.depth followed.kinds_at c.item-item.ensures comes in
+    let follows : Continues (w.limits c.items.writer) followed.path (item_of (λ s. text_at s.table) c.item-item.result) =
+    continues_with i.limits c.requires.writer.depth_of i.depth followed.kinds_at c.item-item.ensures comes in
     let after : w.stands c.item.new.self (followed.path ++ item ∷ []) =
     subst (λ (x : PlacedItem). w.stands c.item.new.self (followed.path ++ x ∷ [])) c.item-item.ensures (c.in_default.ensures.stands followed.path followed.stands_at follows).0 in
-    let read_well = c.in_ok-next.ensures.causes i.well in
-    let put_well = c.in_default.ensures.causes i.fresh i.sink in
-    let observable = c.feed-fed.ensures.observable in
-    let exceeds = c.feed-fed.ensures.exceeds in
-    let flushes = c.flush_ended.ensures.puts in
     record {
-      walk = walk-same fed (λ o. c.in-Ok.ensures.same (at_fed o)) refl;
-      followed = followed-feeds w reads _ before further feeds (followed-more followed item (coming_to r.reading c.next.new.self) (r.opened c.next.new.self.raw) is after comes.opens);
-      read = (λ o. i.read.0 (c.next.ensures.observable.0 (observable.0 o)), λ o. observable.1 (c.next.ensures.observable.1 (i.read.1 o)));
-      taken = g.met.R.RawReader.read_more c.args.reader.now.raw c.next.new.self.raw c.feed-fed.new.self.raw
-          (g.met.R.RawReader.read_more c.args.reader.now.raw c.items.reader.raw c.next.new.self.raw i.taken c.next.ensures.read_on) c.feed-fed.ensures.read_on;
-      written = (λ o. i.written.0 (puts.still_observable.0 (subst out.observable kept.device (flushes.still_observable.0 o))), λ o. flushes.still_observable.1 (at_fed o));
-      prefix = λ o. (c.flush_ended.new.sink.pending, refl);
-      grown = λ o. prefix-then _ _ _ (flushes.grown (at_fed o)) (subst (λ d. HasPrefix (out.written d) (out.written c.args.sink.now.device)) (sym kept.device) (prefix-then _ _ _ (puts.grown (i.written.1 o)) (i.grown o)));
-      ready = c.feed-fed.ensures.ready;
-      well = c.feed-fed.ensures.same.2 ∙ c.in_ok-next.ensures.failed;
-      writer = kept.sound;
-      fresh = kept.failed ∙ c.in_default.ensures.failed;
-      sink = c.in-Ok.ensures.well;
-      level = sym c.feed-fed.ensures.level.1;
-      left = left_fed _ _ _ _ _ _ (left_with (r.opened c.next.new.self.raw) _ _ _ _ i.left (c.next.ensures.falls taken)) counts c.feed-fed.ensures.falls;
-      limits = kept.limits ∙ (c.item.ensures.limits ∙ i.limits);
-      depth = c.feed-fed.ensures.kept.0 ∙ (c.next.ensures.kept.0 ∙ i.depth);
-      refused = kept.refused ∙ ((c.in_default.ensures.memory i.fresh).counted none_is ∙ (read_well.counted none_is ∙ i.refused));
-      failures = c.feed-fed.ensures.kept.2 ∙ (read_well.steady none_is ∙ i.failures);
-      device = c.in-Ok.ensures.count ∙ (add-zero _ ∙ (ap out.failure_count kept.device ∙ (put_well.steady none_is ∙ i.device)));
-      exceeds = (λ e. i.exceeds.0 (c.next.ensures.exceeds.0 (exceeds.0 e)), λ e. exceeds.1 (c.next.ensures.exceeds.1 (i.exceeds.1 e)));
-      bytes_left = λ b. i.bytes_left (c.next.ensures.bytes_left (c.feed-fed.ensures.bytes_left b));
-      most = c.feed-fed.ensures.kept.1 ∙ (c.next.ensures.kept.1 ∙ i.most);
-      same = c.feed-fed.ensures.same.0 ∙ (c.next.ensures.same.0 ∙ i.same);
-      writer_most = kept.most ∙ (c.item.ensures.most ∙ i.writer_most);
-      charges =
-          let share = same_share _ _ _ _ i.most i.same in
-          let few = subst (λ n. w.own c.items.writer ≤ n) i.writer_most (g.met.W.ValueWriter.within c.items.writer i.writer).share in
-          let most = subst (λ n. owned_by r.own c.next.new.self ≤ n) share c.next.ensures.charges.share in
-          let r_old = owned_by r.own c.args.reader.now in
-          let r_now = owned_by r.own c.items.reader in
-          let r_new = owned_by r.own c.next.new.self in
-          let w_old = w.own c.args.writer.now in
-          let w_now = w.own c.items.writer in
-          let r_most = share_of r.most c.args.reader.now in
-          let w_most = w.most c.args.writer.now in
-          let put = charges_written r_old w_old r_new w_now (w.own c.item.new.self) r_most w_most
-          (charges_read r_old w_old r_now w_now r_new r_most w_most i.charges c.next.ensures.charges share c.requires.room.held few) c.item.ensures.charges i.writer_most c.requires.room.held most in
-          let share_then = same_share _ _ _ _ (c.next.ensures.kept.1 ∙ i.most) (c.next.ensures.same.0 ∙ i.same) in
-          let fed = charges_fed r_old w_old r_new (w.own c.item.new.self) (owned_by r.own c.feed-fed.new.self) (w.own c.feed-fed.new.writer) r_most w_most put c.feed-fed.ensures.charges
-          share_then (c.item.ensures.most ∙ i.writer_most) c.requires.room.held in
-          fed;
+      walk = walk-same fed (λ o. s.whole (u.observable.1 o)) (sym h.counts.0);
+      followed = followed-feeds w _ _ _ _ (feeds-under w reads m.feeds) (followed-more followed item (coming_to r.reading c.next.new.self) (r.opened c.next.new.self.raw) (λ o. next.gives (i.read.1 o) taken) after comes.opens);
+      read = (λ o. i.read.0 (next.observable.0 (m.observable.0 o)), λ o. m.observable.1 (reads o));
+      taken = g.met.R.RawReader.read_more c.args.reader.now.raw c.next.new.self.raw c.feed_windows.new.reader.raw
+          (g.met.R.RawReader.read_more c.args.reader.now.raw c.items.reader.raw c.next.new.self.raw i.taken next.read_on) m.read_on;
+      written = (λ o. u.observable.0 (s.still_observable.0 o), λ o. s.still_observable.1 (u.observable.1 o));
+      prefix = λ o. (c.feed_windows.new.sink.pending, refl);
+      grown = λ o. prefix-then _ _ _ (s.grown (u.observable.1 o)) (u.grown o);
+      ready = m.ready;
+      well = m.answered ∙ c.in_ok-next.ensures.failed;
+      writer = m.stays.sound;
+      fresh = m.failed ∙ c.in_default.ensures.failed;
+      sink = s.well;
+      level = sym h.counts.1;
+      left = left_moved _ _ _ _ _ _ _ (left_with (r.opened c.next.new.self.raw) _ _ _ _ i.left (next.falls taken)) counts m.counts h.counts.0;
+      limits = m.stays.limits ∙ (c.item.ensures.limits ∙ i.limits);
+      depth = m.depth ∙ (next.kept.0 ∙ i.depth);
+      refused = m.refused ∙ u.refused;
+      failures = m.failures ∙ u.reads;
+      device = s.count ∙ (add-zero _ ∙ u.writes);
+      exceeds = (λ e. i.exceeds.0 (next.exceeds.0 (m.exceeds.0 e)), λ e. m.exceeds.1 (next.exceeds.1 (i.exceeds.1 e)));
+      bytes_left = λ b. i.bytes_left (next.bytes_left (m.bytes_left b));
+      most = m.most ∙ (next.kept.1 ∙ i.most);
+      same = m.limits ∙ (next.same.0 ∙ i.same);
+      writer_most = m.stays.most ∙ (c.item.ensures.most ∙ i.writer_most);
+      charges = charges_fed (owned_by r.own c.args.reader.now) (w.own c.args.writer.now) (owned_by r.own c.next.new.self) (w.own c.item.new.self) (owned_by r.own c.feed_windows.new.reader) (w.own c.feed_windows.new.writer)
+          (share_of r.most c.args.reader.now) (w.most c.args.writer.now) (put_charges g a) m.charges (same_share _ _ _ _ (next.kept.1 ∙ i.most) (next.same.0 ∙ i.same)) (c.item.ensures.most ∙ i.writer_most) c.requires.room.held;
     }
 
 pub returns-clause-says : goal.returns-clause-says
@@ -531,7 +475,7 @@ returns-clause-causes g c =
     let i = c.items.invariant in
     let so_good : Unharmed c.args.meter.now c.items.meter (g.R.RawReader.failures c.args.reader.now.raw) (g.R.RawReader.failures c.items.reader.raw) g.O.Output c.args.sink.now.device c.items.sink.device =
     record { refused = i.refused; reads = i.failures; writes = i.device; observable = i.written; grown = i.grown } in
-    whole_causes c.items.values _ (unharmed_read so_good (c.in_ok-next.ensures.causes i.well))
+    whole_causes c.items.at.values _ (unharmed_read so_good (c.in_ok-next.ensures.causes i.well))
 
 pub returns-clause-input : goal.returns-clause-input
 returns-clause-input g c =
@@ -566,11 +510,8 @@ returns-clause-charges g c =
 pub items-init : goal.items-init
 items-init g c = grind (arith, common_steps, g.met.R.RawReader.not_read c.args.reader.now.raw)
 
-pub feed-fed-requires-clause-level : goal.feed-fed-requires-clause-level
-feed-fed-requires-clause-level g c = grind (arith, common_steps)
-
-pub values_after-ended-requires : goal.values_after-ended-requires
-values_after-ended-requires g c = grind (arith, common_steps)
+pub values_after-requires : goal.values_after-requires
+values_after-requires g c = grind (arith, common_steps)
 
 pub returns-in_err-begin-clause-joined : goal.returns-in_err-begin-clause-joined
 returns-in_err-begin-clause-joined g c = grind (arith, common_steps)
@@ -590,17 +531,11 @@ returns-in_err-begin-clause-says g c = grind (arith, common_steps)
 pub next-requires-clause-room : goal.next-requires-clause-room
 next-requires-clause-room g c = grind (arith, common_steps)
 
-pub feed-fed-requires-clause-fresh : goal.feed-fed-requires-clause-fresh
-feed-fed-requires-clause-fresh g c = grind (arith, common_steps)
+pub returns-in-Err-feed_windows-clause-stands : goal.returns-in-Err-feed_windows-clause-stands
+returns-in-Err-feed_windows-clause-stands g c = grind (arith, common_steps)
 
-pub feed-fed-requires-clause-ready : goal.feed-fed-requires-clause-ready
-feed-fed-requires-clause-ready g c = grind (arith, common_steps)
-
-pub returns-in-Err-flush_ended-clause-stands : goal.returns-in-Err-flush_ended-clause-stands
-returns-in-Err-flush_ended-clause-stands g c = grind (arith, common_steps)
-
-pub returns-in-Err-flush_ended-clause-bytes : goal.returns-in-Err-flush_ended-clause-bytes
-returns-in-Err-flush_ended-clause-bytes g c = grind (arith, common_steps)
+pub returns-in-Err-feed_windows-clause-bytes : goal.returns-in-Err-feed_windows-clause-bytes
+returns-in-Err-feed_windows-clause-bytes g c = grind (arith, common_steps)
 
 pub returns-in-Err-clause-stands : goal.returns-in-Err-clause-stands
 returns-in-Err-clause-stands g c = grind (arith, common_steps)

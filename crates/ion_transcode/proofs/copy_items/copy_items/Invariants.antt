@@ -13,7 +13,7 @@ invariant-items g l =
     let o = g.O.Output in
     let limits = w.limits l.fn.writer in
     record {
-      walk : Walk (w.stands l.writer) (w.puts limits) (w.refusal limits) (r.observable l.fn.reader.raw) (o.observable l.fn.sink.device) (r.opened l.reader.raw) l.values
+      walk : Walk (w.stands l.writer) (w.puts limits) (w.refusal limits) (r.observable l.fn.reader.raw) (o.observable l.fn.sink.device) (r.opened l.reader.raw) l.at.values
           (coming_to r.reading l.fn.reader) (coming_to r.reading l.reader) (so_far o.written l.fn.sink) (so_far o.written l.sink);
       followed : Followed (w.stands l.writer) (r.observable l.fn.reader.raw) (r.opened l.reader.raw) (coming_to r.reading l.fn.reader) (coming_to r.reading l.reader);
       read : r.observable l.reader.raw ↔ r.observable l.fn.reader.raw;
@@ -26,8 +26,8 @@ invariant-items g l =
       writer : w.sound l.writer;
       fresh : w.failed l.writer ≡ None;
       sink : l.sink.fault ≡ None;
-      level : length (r.opened l.reader.raw) ≡ l.level;
-      left : l.values + r.left l.reader.raw ≤ r.left l.fn.reader.raw;
+      level : length (r.opened l.reader.raw) ≡ l.at.level;
+      left : l.at.values + r.left l.reader.raw ≤ r.left l.fn.reader.raw;
       limits : w.limits l.writer ≡ limits;
       depth : r.depth l.reader.raw ≡ r.depth l.fn.reader.raw;
       refused : l.meter.refused ≡ l.fn.meter.refused;

@@ -3,8 +3,8 @@ use Rattle.std.proofs.lemmas.Grind.{common_steps}
 use Rattle.ion_meter.proofs.Putting.{Puts-nothing}
 use Rattle.ion_transcode.proofs.copy_items.flush_ended.Goals as goal
 
-pub returns-then-values-flushed-clause-puts : goal.returns-then-values-flushed-clause-puts
-returns-then-values-flushed-clause-puts g c = Puts-nothing g.O.Output.written g.O.Output.observable c.args.sink.now
+pub returns-then-not-may_wait-clause-puts : goal.returns-then-not-may_wait-clause-puts
+returns-then-not-may_wait-clause-puts g c = Puts-nothing g.O.Output.written g.O.Output.observable c.args.sink.now
 
 pub returns-in-Err-clause-same : goal.returns-in-Err-clause-same
 returns-in-Err-clause-same g c = grind (arith, common_steps) steps 400000

@@ -1,5 +1,4 @@
-use Rattle.std.proofs.Common.{ℕ, length, ap, arith}
-use Rattle.std.proofs.lemmas.List.{length-append}
+use Rattle.ion_text_out.proofs.Below.{ℕ, length, ap, arith, length-append}
 use Rattle.ion_text_out.proofs.Plain.{after_end-short, closing-short}
 use Rattle.ion_text_out.proofs.writer.LaidOut.take_end.Goals as goal
 
@@ -7,7 +6,7 @@ pub put_mark-requires-clause-room : goal.put_mark-requires-clause-room
 put_mark-requires-clause-room g c =
     omega (
       arith,
-      c.fits.ensures c.if-not-fits.false,
+      c.fits.ensures.room c.if-not-fits.false,
       c.room.ensures,
       ap (λ s. length s.pending) c.put_gap_within.ensures,
       length-append {A = ℕ},
@@ -19,7 +18,7 @@ pub put_mark-requires-2-clause-room : goal.put_mark-requires-2-clause-room
 put_mark-requires-2-clause-room g c =
     omega (
       arith,
-      c.fits.ensures c.if-not-fits.false,
+      c.fits.ensures.room c.if-not-fits.false,
       c.room.ensures,
       ap (λ s. length s.pending) c.put_gap_within.ensures,
       length-append {A = ℕ},

@@ -1,24 +1,9 @@
 -- The ids of a wrapper as a loop over them reads them.
-use Rattle.std.proofs.Common.{arith, refl, ap, sym, ◌∙◌, ◌≡◌, ℕ, zero, suc, ◌+◌, ◌-◌, ◌*◌, ◌<◌, ◌≤◌, true, false, nat_lt, nat_le, List, [], ◌∷◌, ◌++◌, length, append_assoc, append-nil, Some, Result, Ok, Err}
-use Rattle.std.proofs.lemmas.Bool.{le-leb, lt-leb, lt-ltb, le-ltb}
-use Rattle.std.proofs.lemmas.List.{map-append, length-append}
-use Rattle.ion_meter.specs.Counts.{Counts, Grows}
-use Rattle.ion_meter.specs.declared.fault.Fault.{Fault}
-use Rattle.ion_meter.specs.declared.fault.Fault.TheVariants.{Refused, Memory, ReadFault, WriteFault, InputLimit}
-use Rattle.ion_meter.specs.declared.fault.Reason.{Reason}
-use Rattle.ion_meter.specs.declared.fault.Reason.TheVariants.{AnnotationLimit}
-use Rattle.ion_meter.specs.declared.profile.Rules.{Rules}
-use Rattle.ion_value.specs.declared.item.Annotation.{Annotation}
+use Rattle.ion_binary.proofs.Below.{arith, refl, ap, sym, ◌∙◌, ◌≡◌, ℕ, zero, suc, ◌+◌, ◌-◌, ◌*◌, ◌<◌, ◌≤◌, true, false, nat_lt, nat_le, List, [], ◌∷◌, ◌++◌, length, append_assoc, append-nil, Some, Result, Ok, Err, le-leb, lt-leb, lt-ltb, le-ltb, map-append, Counts, Grows, Fault, Refused, Memory, ReadFault, WriteFault, InputLimit, Reason, AnnotationLimit, Rules, Annotation, raw_annotation, raw_id, Charges, SymbolAt, Cursor, ◌>>=◌, Placed, Answers, AnswersAt}
+use Rattle.std.proofs.lemmas.List.{length-append}
 use Rattle.ion_value.specs.declared.item.Annotation.TheVariants as annotation
-use Rattle.ion_value.specs.Items.{raw_annotation}
-use Rattle.ion_value.specs.Name.{raw_id}
-use Rattle.ion_value.specs.Shares.{Charges}
-use Rattle.ion_value.specs.Value.{SymbolAt}
 use Rattle.ion_binary.specs.Positions.{symbol_id}
-use Rattle.ion_meter.specs.Sources.{Cursor}
-use Rattle.ion_value.specs.Parts.{◌>>=◌, Placed}
 use Rattle.ion_binary.specs.Descriptor.{var_uint_at}
-use Rattle.ion_value.specs.Answers.{Answers, AnswersAt}
 use Rattle.ion_binary.specs.Reading.{ids_at}
 use Rattle.ion_binary.specs.Wrappers.{as_annotations}
 use Rattle.ion_binary.proofs.VarLoop.{positive}

@@ -1,22 +1,8 @@
 -- The bodies that are read are those of the grammar, each with its value.
-use Rattle.std.proofs.Common.{◌≡◌, ℕ, Option, Some, None, ◌^◌, ◌<◌, ◌⊎◌, inl, inr, Bool, true, false, if◌then◌else◌, nat_le, ◌==◌, nat_eq, List, refl, ap, arith, Result, Ok, Err}
-use Rattle.std.specs.Str.{is_utf8}
+use Rattle.ion_binary.proofs.Below.{◌≡◌, ℕ, Option, Some, None, ◌^◌, ◌<◌, ◌⊎◌, inl, inr, Bool, true, false, if◌then◌else◌, nat_le, ◌==◌, nat_eq, List, refl, ap, arith, Result, Ok, Err, is_utf8, eqb-true, eqb-false, ne_eqb, leb-false, lt-leb, IsUtf8-from_is_utf8, is_utf8-from_IsUtf8, Reason, BadNumber, BadText, Range, Int, uint, IsInt, int_of_bytes, decimal_of_bytes, timestamp_of_bytes, float_of_octets, with_value, string_of, float_of_body, raw_id, Symbol, Id, Scalar, decimal_of_bytes-Ok, Read-decimal_of_bytes}
 use lib.Ieee.{Float}
-use Rattle.std.proofs.lemmas.Bool.{eqb-true, eqb-false, ne_eqb, leb-false, lt-leb}
-use Rattle.std.proofs.lemmas.Str.{IsUtf8-from_is_utf8, is_utf8-from_IsUtf8}
-use Rattle.ion_meter.specs.declared.fault.Reason.{Reason}
-use Rattle.ion_meter.specs.declared.fault.Reason.TheVariants.{BadNumber, BadText, Range}
-use Rattle.ion_value.specs.declared.int.Int.{Int}
-use Rattle.ion_value.specs.Number.{uint}
-use Rattle.ion_value.specs.Int.{IsInt, int_of_bytes}
-use Rattle.ion_value.specs.Decimal.{decimal_of_bytes}
-use Rattle.ion_value.specs.Timestamp.{timestamp_of_bytes}
-use Rattle.ion_value.specs.FloatOctets.{float_of_octets}
-use Rattle.ion_value.specs.Scalar.{with_value, string_of, float_of_body, scalar_of_body}
-use Rattle.ion_value.specs.Name.{raw_id}
+use Rattle.ion_value.specs.Scalar.{scalar_of_body}
 use Rattle.ion_value.specs.Value as value
-use Rattle.ion_value.specs.Value.{Symbol, Id, Scalar}
-use Rattle.ion_value.proofs.DecimalOctets.{decimal_of_bytes-Ok, Read-decimal_of_bytes}
 use Rattle.ion_binary.specs.Grammar.{Body, positive, negative, float, decimal, timestamp, symbol, string, clob, blob}
 use Rattle.ion_binary.specs.Laws.{Bodies}
 use Rattle.ion_binary.proofs.TimestampsSpelled.{TimestampBody-read}

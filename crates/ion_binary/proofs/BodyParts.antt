@@ -1,15 +1,6 @@
 -- Bodies that the code reads, by their type codes.
-use Rattle.std.proofs.Common.{refl, ◌≡◌, ℕ, ◌≤◌, ◌↔◌, Bool, true, false, IsTrue, List, length, take, Ok, Err}
-use Rattle.std.specs.Prelude.{IsUtf8}
-use Rattle.std.specs.Str.{is_utf8}
-use Rattle.std.proofs.lemmas.Bool.{false_from_ne_true, le-ltb}
-use Rattle.std.proofs.lemmas.Str.{IsUtf8-from_is_utf8, is_utf8-from_IsUtf8}
-use Rattle.ion_meter.specs.declared.fault.Reason.TheVariants.{BadText}
-use Rattle.ion_meter.specs.declared.fault.Reason.{Reason}
-use Rattle.ion_meter.specs.declared.profile.Rules.{Rules}
+use Rattle.ion_binary.proofs.Below.{refl, ◌≡◌, ℕ, ◌≤◌, ◌↔◌, Bool, true, false, IsTrue, List, length, take, Ok, Err, IsUtf8, is_utf8, false_from_ne_true, le-ltb, IsUtf8-from_is_utf8, is_utf8-from_IsUtf8, BadText, Reason, Rules, Symbol, Scalar, string, Cursor, skip}
 use Rattle.ion_value.specs.Scalar.{scalar_of_body}
-use Rattle.ion_value.specs.Value.{Symbol, Scalar, string}
-use Rattle.ion_meter.specs.Sources.{Cursor, skip}
 use Rattle.ion_binary.specs.Parts.{body_here}
 
 -- a test that is true of UTF-8 alone is the one of the grammar

@@ -1,13 +1,7 @@
 -- The closed size of a path with an item is that of its closing.
-use Rattle.std.proofs.Common.{◌≡◌, ℕ, Bool, false, List, [], ◌∷◌, ◌++◌, length, Option, Some, None, refl, ap, sym, subst, ◌∙◌, append_assoc, append-nil, arith}
-use Rattle.std.specs.Prelude.{not, ◌&&◌}
-use Rattle.ion_value.specs.declared.ion_type.Kind.{Kind}
+use Rattle.ion_binary.proofs.Below.{◌≡◌, ℕ, Bool, false, List, [], ◌∷◌, ◌++◌, length, Option, Some, None, refl, ap, sym, subst, ◌∙◌, append_assoc, append-nil, arith, not, ◌&&◌, Kind, UserSymbol, Value, scalar, container, Members, nothing, member, Top, tree, Head, Item, member_items, top_items, Nest, outermost, inner, Path, closed, opened, begin_item, close_all, closing, nest_items, path_items, with_item, Fits, is_marker, field_symbols, members_symbols}
 use Rattle.ion_value.specs.Value as value
-use Rattle.ion_value.specs.Value.{UserSymbol, Scalar, Value, scalar, container, Members, nothing, member, Top, version, tree, Head, Item, member_items, top_items}
-use Rattle.ion_value.specs.Path.{Nest, outermost, inner, Path, closed, opened, begin_item, close_all, closing, nest_items, path_items, with_head, with_item}
 use Rattle.ion_value.specs.Path as path
-use Rattle.ion_value.specs.Standing.{Fits, is_marker}
-use Rattle.ion_value.specs.Writable.{field_symbols, members_symbols}
 use Rattle.ion_binary.specs.Grammar.{type_code}
 use Rattle.ion_binary.specs.Canonical.{binary, headed, id_in, is_over, marker_octets, member_octets, members_octets, texts_kept, value_octets, with_symbols}
 use Rattle.ion_binary.specs.Writing.{Unclosed, Written, after_all, all_closed, at_begin, closed_size, item_symbols, with_ids_given, opened_with, own_octets}

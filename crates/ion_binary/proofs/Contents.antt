@@ -1,9 +1,5 @@
 -- What more octets change of what is held.
-use Rattle.std.proofs.Common.{◌≡◌, ◌==◌, ℕ, suc, ◌+◌, ◌*◌, ◌≤◌, Bool, true, false, List, [], ◌∷◌, ◌++◌, length, Option, Some, None, Result, Ok, Err, OnOk, OnErr, refl, ap, subst, sym, ◌∙◌, arith, append-nil, length-append}
-use Rattle.std.proofs.lemmas.Bool.{eqb-true}
-use Rattle.ion_meter.specs.Counts.{Counts, Grows, IsRefused, Shrinks}
-use Rattle.ion_meter.specs.declared.fault.Fault.{Fault}
-use Rattle.ion_meter.specs.declared.fault.Fault.TheVariants.{Memory}
+use Rattle.ion_binary.proofs.Below.{◌≡◌, ◌==◌, ℕ, suc, ◌+◌, ◌*◌, ◌≤◌, Bool, true, false, List, [], ◌∷◌, ◌++◌, length, Option, Some, None, Result, Ok, Err, OnOk, OnErr, refl, ap, subst, sym, ◌∙◌, arith, append-nil, length-append, eqb-true, Counts, Grows, IsRefused, Shrinks, Fault, Memory}
 use Rattle.ion_binary.specs.declared.held_octets.LateHeader.{LateHeader}
 use Rattle.ion_binary.specs.Canonical.{length_octets}
 use Rattle.ion_binary.specs.Late.{Adds, AreLate, Content, IsCosted, Moved, appended, late_octets, missing_of, spread}
@@ -18,20 +14,11 @@ adds-costed old new c a =
     let least = c.least in
     let most = c.most in
     let late = a.late in
-    let cost = a.cost in
-    let few = c.late in
-    let longer = a.longer in
-    record { least = omega (arith, least, cost); most = omega (arith, most, late, cost); late = omega (arith, few, late, longer) }
+    record { least = omega (arith, least, a.cost); most = omega (arith, most, late, a.cost); late = omega (arith, c.late, late, a.longer) }
 
 pub adds-then : {a b c : Content} → Adds a b → Adds b c → Adds a c
 adds-then f s =
-    let fl = f.late in
-    let fc = f.cost in
-    let sl = s.late in
-    let sc = s.cost in
-    let fm = f.longer in
-    let sm = s.longer in
-    record { late = omega (arith, fl, sl); cost = omega (arith, fc, sc); longer = omega (arith, fm, sm) }
+    record { late = omega (arith, f.late, s.late); cost = omega (arith, f.cost, s.cost); longer = omega (arith, f.longer, s.longer) }
 
 -- and of a content that is said to be one with more octets
 pub adds-by : (old new : Content) (x : List ℕ) → new ≡ appended old x → Adds old new
@@ -113,45 +100,36 @@ costed-is hs xs v e l = subst (λ (c : Content). IsCosted c) e (content-costed h
 -- something grew
 pub grown-moved : (old new : Content) (m n : Counts) (k most : ℕ) → IsCosted new → Grows m n k → new.cost ≡ old.cost + k → old.cost ≤ m.held → old.cost + k ≤ most → Moved old new m n most None
 grown-moved old new m n k most costed g cost held room =
-    let gh = g.held in
-    let gp = g.peak in
     record {
       costed = costed;
       memory = record { memory = λ e. absurd (Prim.cc e); counted = λ e. g.refused };
       alone = λ f e. absurd (Prim.cc e);
-      charges = record { held = omega (arith, gh, cost); share = omega (arith, cost, room); peak = omega (arith, gh, gp, held, room); rises = omega (arith, gp) };
+      charges = record { held = omega (arith, g.held, cost); share = omega (arith, cost, room); peak = omega (arith, g.held, g.peak, held, room); rises = omega (arith, g.peak) };
     }
 
 -- memory was refused
 pub refused-moved : (old new : Content) (m n : Counts) (most : ℕ) (f : Fault) → IsCosted new → IsRefused m n → new.cost ≡ old.cost → old.cost ≤ most → f ≡ Memory → Moved old new m n most (Some f)
 refused-moved old new m n most f costed r cost room is =
-    let rh = r.held in
-    let rp = r.peak in
-    let rr = r.refused in
     record {
       costed = costed;
-      memory = record { memory = λ e. omega (arith, rr); counted = λ e. absurd (e (ap (λ (g : Fault). let x : Option Fault = Some g in x) is)) };
+      memory = record { memory = λ e. omega (arith, r.refused); counted = λ e. absurd (e (ap (λ (g : Fault). let x : Option Fault = Some g in x) is)) };
       alone = λ g e. let same : f ≡ g = Prim.cc e in sym same ∙ is;
-      charges = record { held = omega (arith, rh, cost); share = omega (arith, cost, room); peak = omega (arith, rp); rises = omega (arith, rp) };
+      charges = record { held = omega (arith, r.held, cost); share = omega (arith, cost, room); peak = omega (arith, r.peak); rises = omega (arith, r.peak) };
     }
 
 -- something grew, and more was given back
 pub settled-moved : (old new : Content) (m n o : Counts) (more less most : ℕ) → IsCosted new → Grows m n more → Shrinks n o less → old.cost + more ≡ new.cost + less
     → old.cost ≤ m.held → old.cost + more ≤ most → Moved old new m o most None
 settled-moved old new m n o more less most costed g s cost held room =
-    let gh = g.held in
-    let gp = g.peak in
-    let sh = s.held in
-    let sp = s.peak in
     record {
       costed = costed;
       memory = record { memory = λ e. absurd (Prim.cc e); counted = λ e. s.refused ∙ g.refused };
       alone = λ f e. absurd (Prim.cc e);
       charges = record {
-        held = omega (arith, gh, sh, cost);
+        held = omega (arith, g.held, s.held, cost);
         share = omega (arith, cost, room);
-        peak = omega (arith, gh, gp, sp, held, room);
-        rises = omega (arith, gp, sp);
+        peak = omega (arith, g.held, g.peak, s.peak, held, room);
+        rises = omega (arith, g.peak, s.peak);
       };
     }
 

@@ -1,12 +1,7 @@
 -- The octets of a declaration: what stands before its strings, and the strings.
-use Rattle.std.proofs.Common.{◌≡◌, ℕ, zero, suc, ◌+◌, ◌≤◌, ◌<◌, true, false, List, [], ◌∷◌, ◌++◌, length, drop, Some, None, refl, ap, sym, ◌∙◌, append_assoc, append-nil, length-append, arith, codes}
-use Rattle.std.specs.Prelude.{slice_get}
-use Rattle.ion_value.specs.Items.{is_none_left}
-use Rattle.ion_value.specs.Number.{digits_within, var_uint_octets, uint_octets}
+use Rattle.ion_binary.proofs.Below.{◌≡◌, ℕ, zero, suc, ◌+◌, ◌≤◌, ◌<◌, true, false, List, [], ◌∷◌, ◌++◌, length, drop, Some, None, refl, ap, sym, ◌∙◌, append_assoc, append-nil, length-append, arith, codes, slice_get, is_none_left, var_uint_octets, uint_octets, UserSymbol, Known, Members, scalar, member, nothing, ⊤, texts_cost}
+use Rattle.ion_value.specs.Number.{digits_within}
 use Rattle.ion_value.specs.Value as value
-use Rattle.ion_value.specs.Value.{UserSymbol, Known, Members, scalar, member, nothing}
-use Rattle.std.specs.Bool.{⊤}
-use Rattle.ion_symbols.specs.Output.{texts_cost}
 use Rattle.ion_binary.specs.Canonical.{declaration, header, headed, id_in, members_octets, string_members, wrapped}
 use Rattle.ion_binary.specs.ItemOctets.{declaration_front, opening, strings_octets}
 

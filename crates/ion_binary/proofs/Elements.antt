@@ -1,6 +1,5 @@
 -- What holds of all elements of two lists holds of both together, and of each.
-use Rattle.std.proofs.Common.{List, [], ◌∷◌, ◌++◌}
-use Rattle.std.specs.List.{AllByRecursion}
+use Rattle.ion_binary.proofs.Below.{List, [], ◌∷◌, ◌++◌, AllByRecursion}
 
 pub all-append : {A : Type 0} (P : A → Type 0) (xs ys : List A) → AllByRecursion P xs → AllByRecursion P ys → AllByRecursion P (xs ++ ys)
 all-append P [] ys h k = k

@@ -1,20 +1,8 @@
 -- A reader's loop that hands items on: what one turn adds to the counts and the places of those before it.
-use Rattle.std.proofs.Common.{◌≡◌, ℕ, ◌+◌, ◌*◌, ◌-◌, ◌^◌, ◌<◌, ◌≤◌, ◌↔◌, List, [], ◌∷◌, None, length, refl, ap, sym, subst, ◌∙◌, arith}
-use Rattle.ion_meter.specs.Counts.{Counts}
-use Rattle.ion_meter.specs.Sources.{Exceeds}
-use Rattle.ion_meter.specs.Windows.{Incoming, left}
+use Rattle.ion_binary.proofs.Below.{◌≡◌, ℕ, ◌+◌, ◌*◌, ◌-◌, ◌^◌, ◌<◌, ◌≤◌, ◌↔◌, List, [], ◌∷◌, None, length, refl, ap, sym, subst, ◌∙◌, arith, Counts, Exceeds, Incoming, left, Kind, one_if_closed, Charges, BytesAreLeft, Outgoing, Rules, CanTake, Feeds, Hands, more, WritesWithin, PlacedItem, feeds-then, feeds-under, stays-then, takes-more}
 use Rattle.ion_meter.specs.declared.device.Input.{Ghosts as InputOf}
-use Rattle.ion_value.specs.declared.ion_type.Kind.{Kind}
-use Rattle.ion_value.specs.Outcome.{one_if_closed}
-use Rattle.ion_value.specs.Shares.{Charges}
-use Rattle.ion_meter.specs.Sources.{BytesAreLeft}
-use Rattle.ion_meter.specs.Windows.{Outgoing}
-use Rattle.ion_meter.specs.declared.profile.Rules.{Rules}
 use Rattle.ion_value.specs.declared.writer.ValueWriter.{Ghosts as WriterOf}
-use Rattle.ion_value.specs.Feeding.{CanTake, Feeds, Hands, nothing, more}
-use Rattle.ion_value.specs.Standing.{WritesWithin}
-use Rattle.ion_value.specs.Value.{PlacedItem}
-use Rattle.ion_value.proofs.Handing.{feeds-then, feeds-under, stays-then, takes-more}
+use Rattle.ion_value.specs.Feeding.{nothing}
 use Rattle.ion_binary.specs.declared.reader.BinReader.{BinReader}
 use Rattle.ion_binary.specs.Lane.{CanHand, CanHandOn, HandsItem, HandsNothing, HandsOn, KeepsOn, joint}
 use Rattle.ion_binary.specs.Reader.{most_of}
@@ -187,16 +175,14 @@ module _ {I A W O : Type 0} (device : InputOf I) (w : WriterOf W O A) (see : Pla
       → HandsOn device w see r new pen then from to m n had values → CanHandOn w new then to n values
   hands-again {r} {new} {pen} {then} {from} {to} {m} {n} can h =
       let i = h.keeps in
-      let charged = i.charges.held in
       let room = can.room in
-      let falls = h.falls in
       let few = can.few in
       record {
-        room = omega (arith, charged, room);
+        room = omega (arith, i.charges.held, room);
         held = held-again (held_by r + w.own pen) (held_by new + w.own then) (share_of r + w.most pen) i.charges can.held;
         countable = subst (λ k. k < 18446744073709551615) (sym i.writer.refused) can.countable;
         sound = record { sized = i.sized; small = i.stands.small; stands = λ _. i.stands; one_ending = λ _. i.failed ∙ can.fresh };
         fresh = i.failed ∙ can.fresh;
         writer = h.takes;
-        few = omega (arith, falls, few);
+        few = omega (arith, h.falls, few);
       }

@@ -1,8 +1,6 @@
 -- A few octets in a word, and what a value begins with that is put so.
-use Rattle.std.proofs.Common.{◌≡◌, ℕ, zero, suc, ◌+◌, ◌*◌, ◌/◌, ◌%◌, ◌^◌, ◌<◌, ◌≤◌, Bool, if◌then◌else◌, List, [], ◌∷◌, ◌++◌, length, take, refl, ap, sym, ◌∙◌, arith, append_assoc, lt-ltb, le-ltb}
-use Rattle.std.specs.Int.{bytes_low_first}
-use Rattle.std.proofs.Math.Nat.{pow-zero, pow-suc, pow-le-pow_right, div-div-eq-div-mul}
-use Rattle.ion_value.specs.Number.{var_uint_octets}
+use Rattle.ion_binary.proofs.Below.{◌≡◌, ℕ, zero, suc, ◌+◌, ◌*◌, ◌/◌, ◌%◌, ◌^◌, ◌<◌, ◌≤◌, Bool, if◌then◌else◌, List, [], ◌∷◌, ◌++◌, length, take, refl, ap, sym, ◌∙◌, arith, append_assoc, bytes_low_first, pow-zero, pow-suc, pow-le-pow_right, div-div-eq-div-mul, var_uint_octets}
+use Rattle.std.proofs.Common.{lt-ltb, le-ltb}
 use Rattle.ion_binary.specs.Canonical.{header, headed, wrapped}
 use Rattle.ion_binary.specs.Held.{counted_ids}
 use Rattle.ion_binary.specs.LowOctets.{low_octets}

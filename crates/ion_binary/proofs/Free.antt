@@ -1,18 +1,11 @@
 -- Octets, lengths and bodies of scalars are never at fault for a limit.
-use Rattle.std.proofs.Common.{ℕ, zero, suc, ◌^◌, Bool, true, false, ◌&&◌, ◌==◌, nat_le, nat_lt, nat_eq, List, [], ◌∷◌, Option, Some, None, Ok, Err, refl}
-use Rattle.std.specs.Str.{is_utf8}
+use Rattle.ion_binary.proofs.Below.{ℕ, zero, suc, ◌^◌, Bool, true, false, ◌&&◌, ◌==◌, nat_le, nat_lt, nat_eq, List, [], ◌∷◌, Option, Some, None, Ok, Err, refl, is_utf8, Timestamp, uint, var_cut, int_negative, int_magnitude, var_int_negative, var_int_magnitude, signed, int_of_bytes, decimal_of_cut, is_fraction, exponent_in, utc_fields, is_date, moved, offset_minutes, in_local_time, timestamp_in_utc, timestamp_of_fields, timestamp_of_cut, fields_cut, float_of_octets, float_of_body, Cursor, Blames, bind_blames, if_blames, Free, fault_free, value-free, in_range-free, years-free}
 use Rattle.ion_meter.specs.declared.fault.Reason.TheVariants as reason
-use Rattle.ion_value.specs.declared.timestamp.Timestamp.{Timestamp}
-use Rattle.ion_value.specs.Number.{uint, var_cut, int_negative, int_magnitude, var_int_negative, var_int_magnitude, signed}
-use Rattle.ion_value.specs.Int.{int_of_bytes}
-use Rattle.ion_value.specs.Decimal.{decimal_of_cut, decimal_of_bytes}
-use Rattle.ion_value.specs.Timestamp.{is_fraction, exponent_in, utc_fields, is_date, local_of, moved, offset_minutes, in_local_time, timestamp_in_utc, timestamp_of_fields, timestamp_of_cut, timestamp_of_bytes, fields_cut}
+use Rattle.ion_value.specs.Decimal.{decimal_of_bytes}
+use Rattle.ion_value.specs.Timestamp.{local_of, timestamp_of_bytes}
 use lib.Ieee.{Float}
-use Rattle.ion_value.specs.FloatOctets.{float_of_octets}
-use Rattle.ion_value.specs.Scalar.{float_of_body, scalar_of_body}
-use Rattle.ion_meter.specs.Sources.{Cursor}
+use Rattle.ion_value.specs.Scalar.{scalar_of_body}
 use Rattle.ion_binary.specs.Descriptor.{Region, is_at_end, first_octet, octet_at, var_at, var_uint_at, length_at}
-use Rattle.ion_value.proofs.Faults.{Blames, bind_blames, if_blames, Free, fault_free, value-free, in_range-free, years-free}
 
 -- ---- octets and lengths
 

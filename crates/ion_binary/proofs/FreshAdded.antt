@@ -1,11 +1,6 @@
 -- A scalar of which one text is new is added as the streaming definition says.
-use Rattle.std.proofs.Common.{◌≡◌, ℕ, ◌+◌, ◌*◌, ◌≤◌, inl, subst, Bool, true, false, List, [], ◌∷◌, ◌++◌, length, map, Option, Some, None, option_map, refl, ap, sym, ◌∙◌, arith, append_assoc, length-append}
-use Rattle.ion_meter.specs.Counts.{Counts, Grows}
-use Rattle.ion_value.specs.Number.{var_uint_octets}
+use Rattle.ion_binary.proofs.Below.{◌≡◌, ℕ, ◌+◌, ◌*◌, ◌≤◌, inl, subst, Bool, true, false, List, [], ◌∷◌, ◌++◌, length, map, Option, Some, None, option_map, refl, ap, sym, ◌∙◌, arith, append_assoc, length-append, Counts, Grows, var_uint_octets, Head, Known, PlacedItem, Scalar, SymbolAt, Unknown, UserSymbol, map_head, map_scalar, user_item, user_symbol_at, field_symbols, scalar_symbols, Output, known_id, texts_cost}
 use Rattle.ion_value.specs.Value as value
-use Rattle.ion_value.specs.Value.{Head, Known, PlacedItem, Scalar, SymbolAt, Unknown, UserSymbol, map_head, map_scalar, user_item, user_symbol_at}
-use Rattle.ion_value.specs.Writable.{field_symbols, scalar_symbols}
-use Rattle.ion_symbols.specs.Output.{Output, known_id, texts_cost}
 use Rattle.ion_binary.specs.declared.open_value.OpenValue.{OpenValue}
 use Rattle.ion_binary.specs.declared.writer.BinWriter.{BinWriter}
 use Rattle.ion_binary.specs.declared.writer.fresh.Fresh.{Fresh}
@@ -203,9 +198,6 @@ fresh-added h item fresh note x os ts f notes whole en ex eo et =
 -- an item that is declined changes nothing
 pub declined : {A : Type 0} (w : BinWriter A) (before : Counts) (item : PlacedItem) → CanTake w before → AddsPlain w w before before item false
 declined w before item can =
-    let octets = can.sound.within.octets in
-    let headers = can.sound.within.headers in
-    let costed = can.sound.within.costed.most in
     let share = can.sound.share in
     record {
       held = λ e. absurd (Prim.cc e);
@@ -219,7 +211,7 @@ declined w before item can =
         limits = refl;
         failed = refl;
         memory = record { memory = λ e. absurd (Prim.cc e); counted = λ e. refl };
-        charges = record { held = refl; share = omega (arith, octets, headers, costed, share); peak = omega arith; rises = omega arith };
+        charges = record { held = refl; share = omega (arith, can.sound.within.octets, can.sound.within.headers, can.sound.within.costed.most, share); peak = omega arith; rises = omega arith };
       };
     }
 
@@ -240,11 +232,7 @@ fresh-plain {A} w s os before after item true fresh note y c spelled new texts o
     let f : IsFresh w.symbols.texts item fresh = c.text (new refl) in
     let v : OpenValue A = record w.open_value { octets = os } in
     let g = grows refl in
-    let gh = g.held in
-    let gp = g.peak in
-    let own = c.can_take.held in
     let few = c.can_take.sound.within.headers in
-    let beside = c.can_take.sound.within.room in
     let lim = c.can_take.sound.limit in
     let cheap = within refl in
     let some = c.inside in
@@ -255,13 +243,11 @@ fresh-plain {A} w s os before after item true fresh note y c spelled new texts o
     let paid : os.cost ≡ w.open_value.octets.cost + length y = ap (λ (z : Content). z.cost) (octets refl) in
     let late : os.late ≡ w.open_value.octets.late = ap (λ (z : Content). z.late) (octets refl) in
     let costed = costed-by w.open_value.octets os y c.can_take.sound.within.costed (octets refl) in
-    let most = costed.most in
     let push = cost-push w.symbols.texts t in
     let cost : texts_cost s.texts ≡ texts_cost (w.symbols.texts ++ t ∷ []) = ap texts_cost (texts refl) in
     let held : held_in (record w { symbols = s; open_value = v }) ≡ added (held_in w) item =
     fresh-added (held_in w) item fresh note (head_octets (id_in (w.symbols.texts ++ t ∷ [])) (user_item item).head) os.all s.texts f c.known c.whole c.annotation refl put (texts refl) in
     let opened : IsOpen w.limits v = room-open w.limits w.open_value v y c.can_take.sound.checked c.comes.counted all refl refl room in
-    let fits = opened.fits in
     let same : size_of v.octets.all v.headers ≡ size_of (added (held_in w) item).octets (added (held_in w) item).headers = ap (λ (h : Held). size_of h.octets h.headers) held in
     let each : texts_cost (with_symbols w.symbols.texts (map user_symbol_at (item_symbols item))) ≡ texts_cost (w.symbols.texts ++ t ∷ []) = ap texts_cost (f.one c.known) in
     let allowed : first_over w.limits.symbols w.symbols.texts (item_symbols item) ≡ None =
@@ -269,14 +255,14 @@ fresh-plain {A} w s os before after item true fresh note y c spelled new texts o
     record {
       held = λ e. held;
       is_open = λ e. opened;
-      passes = λ e. not-refused w.limits (held_in w) item allowed (omega (arith, fits, same));
+      passes = λ e. not-refused w.limits (held_in w) item allowed (omega (arith, opened.fits, same));
       keeps = λ e. inl some;
       inside = λ e. some;
       declines = λ e. absurd (Prim.cc e);
       taken = record {
         sound = record {
           checked = c.can_take.sound.checked;
-          within = record { octets = omega (arith, long, room); headers = omega (arith, few, late); costed = costed; room = omega (arith, late, beside) };
+          within = record { octets = omega (arith, long, room); headers = omega (arith, few, late); costed = costed; room = omega (arith, late, c.can_take.sound.within.room) };
           limit = limit ∙ lim;
           share = omega (arith, cheap, lim);
           few = c.can_take.sound.few;
@@ -285,10 +271,10 @@ fresh-plain {A} w s os before after item true fresh note y c spelled new texts o
         failed = refl;
         memory = record { memory = λ e. absurd (Prim.cc e); counted = λ e. g.refused };
         charges = record {
-          held = omega (arith, gh, paid, push, cost);
-          share = omega (arith, cheap, most, lim, long, room, few, late);
-          peak = omega (arith, gh, gp, own, paid, most, long, push, cost, cheap, lim, room, few, late);
-          rises = omega (arith, gp);
+          held = omega (arith, g.held, paid, push, cost);
+          share = omega (arith, cheap, costed.most, lim, long, room, few, late);
+          peak = omega (arith, g.held, g.peak, c.can_take.held, paid, costed.most, long, push, cost, cheap, lim, room, few, late);
+          rises = omega (arith, g.peak);
         };
       };
     }

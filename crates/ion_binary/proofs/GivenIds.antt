@@ -1,9 +1,6 @@
 -- The symbol table of an output gives the ids of the definition.
-use Rattle.std.proofs.Common.{◌≡◌, ℕ, suc, ◌+◌, ◌<◌, ◌≤◌, Bool, true, false, nat_le, if◌then◌else◌, List, [], ◌∷◌, ◌++◌, length, Option, Some, None, option_map, unwrap_or, refl, ap, sym, subst, ◌∙◌, arith, leb-true, leb-false}
-use Rattle.std.specs.Str.{bytes_eq}
-use Rattle.std.proofs.lemmas.Slice.Eq.{bytes_eq-Decides}
-use Rattle.ion_value.specs.Value.{Known}
-use Rattle.ion_symbols.specs.Output.{position, system_id, or_given, known_id, texts_cost, id_or_new}
+use Rattle.ion_binary.proofs.Below.{◌≡◌, ℕ, suc, ◌+◌, ◌<◌, ◌≤◌, Bool, true, false, nat_le, if◌then◌else◌, List, [], ◌∷◌, ◌++◌, length, Option, Some, None, option_map, unwrap_or, refl, ap, sym, subst, ◌∙◌, arith, bytes_eq, bytes_eq-Decides, Known, position, system_id, or_given, known_id, texts_cost, id_or_new}
+use Rattle.std.proofs.Common.{leb-true, leb-false}
 use Rattle.ion_binary.specs.Canonical.{id_in, with_symbol, with_text}
 use Rattle.ion_binary.specs.WritingLaws.{IdsAreGiven, IsGiven}
 

@@ -1,21 +1,8 @@
 -- An item that a window shows whole is the next one of the reading.
-use Rattle.std.proofs.Common.{◌≡◌, ℕ, ◌+◌, ◌-◌, ◌*◌, ◌^◌, ◌<◌, ◌≤◌, Bool, true, false, List, [], ◌∷◌, ◌++◌, length, drop, map, Option, Some, None, Ok, refl, ap, ap₂, sym, subst, ◌∙◌, arith}
-use Rattle.std.specs.Prelude.{option_map, is_some, slice_get, IfSome, ◌==◌, ◌&&◌, not}
-use Rattle.std.proofs.lemmas.Option.{slice_get-get_or}
-use Rattle.std.proofs.lemmas.Grind.{common_steps}
-use Rattle.ion_meter.specs.Sources.{Cursor, cursor, skip}
-use Rattle.ion_meter.specs.Windows.{Incoming, left, lent}
+use Rattle.ion_binary.proofs.Below.{◌≡◌, ℕ, ◌+◌, ◌-◌, ◌*◌, ◌^◌, ◌<◌, ◌≤◌, Bool, true, false, List, [], ◌∷◌, ◌++◌, length, drop, map, Option, Some, None, Ok, refl, ap, ap₂, sym, subst, ◌∙◌, arith, option_map, is_some, slice_get, IfSome, ◌==◌, ◌&&◌, not, slice_get-get_or, common_steps, Cursor, cursor, skip, Incoming, left, lent, Rules, Kind, first_is, is_plain, is_simple, raw_id, Gives, More, Fits, in_struct, SymbolAt, PlacedItem, reading_by-gives, TextAt, IsPassed, PlainItem, Hands, named_at, named_item, raw_head, one_if_closed, HasKnownName, HaveNoDollar, IsPlainItem, IsRightlyQuoted, StandsAfter, placed_text, with_second, Reading, Continues, HasAnnotations, HasPlace, InRange, has_field, is_marker, open_after, open_after_all, Head, Scalar, Symbol, map_head, map_scalar, IsPassed-cursor, reverse}
 use Rattle.ion_meter.specs.declared.device.Input.{Ghosts as InputOf}
-use Rattle.ion_meter.specs.declared.profile.Rules.{Rules}
-use Rattle.ion_value.specs.declared.ion_type.Kind.{Kind}
 use Rattle.ion_value.specs.declared.ion_type.Kind.TheVariants as kind
-use Rattle.ion_value.specs.Digits.{first_is}
-use Rattle.ion_value.specs.Name.{is_plain, is_simple, raw_id}
-use Rattle.ion_value.specs.Reading.{Gives, More}
-use Rattle.ion_value.specs.Standing.{Fits, in_struct}
 use Rattle.ion_value.specs.Value as value
-use Rattle.ion_value.specs.Value.{SymbolAt, PlacedItem}
-use Rattle.ion_value.proofs.Readings.{reading_by-gives}
 use Rattle.ion_binary.specs.declared.wrapper.Frame as frame
 use Rattle.ion_binary.specs.declared.reader.front.ShownNote.{ShownNote}
 use Rattle.ion_binary.specs.Positions.{Frame, placed_scalar, symbol_id}
@@ -26,24 +13,12 @@ use Rattle.ion_binary.specs.Scanned.{EndsAt, Reaches, window}
 use Rattle.ion_binary.specs.Shown.{ShowsItem, ShowsNote, ShowsVar, noted_ids, second_id}
 use Rattle.ion_binary.proofs.ScannedParts.{left-window, reaches-less}
 use Rattle.ion_binary.proofs.ShownParts.{shows_noted, shows_plain}
-use Rattle.ion_value.specs.declared.plain_item.TextAt.{TextAt}
-use Rattle.ion_meter.specs.Windows.{IsPassed}
 use Rattle.ion_value.specs.declared.writer.ValueWriter.{Ghosts as WriterOf}
-use Rattle.ion_value.specs.declared.plain_item.PlainItem.{PlainItem}
-use Rattle.ion_value.specs.Feeding.{Hands}
-use Rattle.ion_value.specs.Items.{named_at, named_item, raw_head}
-use Rattle.ion_value.specs.Outcome.{one_if_closed}
 use Rattle.ion_value.specs.PlainItems as PlainItems
-use Rattle.ion_value.specs.PlainItems.{HasKnownName, HaveNoDollar, IsPlainItem, IsRightlyQuoted, StandsAfter, placed_text, with_second}
-use Rattle.ion_value.specs.Reading.{Reading}
-use Rattle.ion_value.specs.Standing.{Continues, HasAnnotations, HasPlace, InRange, has_field, is_marker, open_after, open_after_all}
-use Rattle.ion_value.specs.Value.{Head, Scalar, Symbol, map_head, map_scalar}
-use Rattle.ion_value.proofs.Passing.{IsPassed-cursor}
 use Rattle.ion_binary.specs.Reader.{kinds_of, state_of, to_come}
 use Rattle.ion_binary.specs.Reading.{size}
 use Rattle.ion_binary.proofs.ReaderParts.{as_frames-length, innermost-struct, last-innermost, kinds-frames, kinds_of-length}
 use Rattle.ion_binary.proofs.Termination.{step-shrinks}
-use Rattle.std.specs.Prelude.{reverse}
 use Rattle.ion_binary.specs.Lane.{EndsHere, GoesOn, IsAround, IsNote, IsSecondNote, ShowsField, ShowsFront, frame_in, frame_of, kind_around}
 use Rattle.ion_binary.specs.declared.reader.front.Level.TheVariants as level
 use Rattle.ion_binary.specs.declared.reader.front.Around.{Around}

@@ -1,17 +1,7 @@
 -- What a reader and a writer keep where an item is handed on, and how memory goes with it.
-use Rattle.std.proofs.Common.{◌≡◌, ℕ, ◌+◌, ◌*◌, ◌-◌, ◌<◌, ◌≤◌, false, List, [], ◌∷◌, ◌++◌, length, Option, Some, None, MatchOption, refl, ap, ◌∙◌, subst, arith}
-use Rattle.std.proofs.lemmas.Grind.{common_steps}
-use Rattle.std.proofs.lemmas.List.{length_push}
-use Rattle.ion_meter.specs.Counts.{Counts, Grows, Shrinks}
-use Rattle.ion_meter.specs.Sources.{Stands}
-use Rattle.ion_meter.specs.Windows.{Incoming, IsPassed, Outgoing, lent}
+use Rattle.ion_binary.proofs.Below.{◌≡◌, ℕ, ◌+◌, ◌*◌, ◌-◌, ◌<◌, ◌≤◌, false, List, [], ◌∷◌, ◌++◌, length, Option, Some, None, MatchOption, refl, ap, ◌∙◌, subst, arith, common_steps, length_push, Counts, Grows, Shrinks, Stands, Incoming, IsPassed, Outgoing, lent, lent-CanPass, StaysWell, Charges, WritesWithin, PlacedItem}
 use Rattle.ion_meter.specs.declared.device.Input.{Ghosts as InputOf}
-use Rattle.ion_meter.proofs.Lent.{lent-CanPass}
 use Rattle.ion_value.specs.declared.writer.ValueWriter.{Ghosts as WriterOf}
-use Rattle.ion_value.specs.Feeding.{StaysWell}
-use Rattle.ion_value.specs.Shares.{Charges}
-use Rattle.ion_value.specs.Standing.{WritesWithin}
-use Rattle.ion_value.specs.Value.{PlacedItem}
 use Rattle.ion_binary.specs.declared.reader.BinReader.{BinReader}
 use Rattle.ion_binary.specs.declared.reader.ItemKind.{ItemKind}
 use Rattle.ion_binary.specs.declared.wrapper.Field.{Field}
@@ -136,7 +126,6 @@ module _ {I A W O : Type 0} (w : WriterOf W O A) where
   keeps_on-end r frames kind field place pen then from to m b n can fewer sound same device counted charges shrinks =
       let sized = can.sized in
       let few = sized.few in
-      let held = can.held in
       let share = held-within r sized in
       let own : ℕ = 4096 + 16 * length frames + 16 * length r.annotations + length r.text in
       let was : own + 16 ≡ held_by r = omega (arith, fewer) in
@@ -150,30 +139,34 @@ module _ {I A W O : Type 0} (w : WriterOf W O A) where
         limit = refl;
         writer = stays-well w pen then from to m n sound same device (shrinks.refused ∙ counted);
         charges = subst (λ (h : ℕ). Charges m n (h + w.own pen) (own + w.own then) (share_of r + w.most pen)) was
-            (charges-freed m b n own (w.own pen) (w.own then) (share_of r) (w.most pen) (omega (arith, share, was)) (omega (arith, held, was)) charges shrinks);
+            (charges-freed m b n own (w.own pen) (w.own then) (share_of r) (w.most pen) (omega (arith, share, was)) (omega (arith, can.held, was)) charges shrinks);
       }
 
   -- nothing is
+  handed-kept : (device : InputOf I) (see : PlacedItem → PlacedItem) (r : BinReader I A) (pen : W) (from : Outgoing O) (m c : Counts) → CanHand w r pen from m → c.refused ≡ m.refused
+      → Charges m c (held_by r + w.own pen) (held_by r + w.own pen) (share_of r + w.most pen) → Handed device w see r r pen pen from from m c false
+  handed-kept device see r pen from m c can counted charges = record {
+    hands = λ e. absurd (cc e);
+    nothing = λ _. record { reader = refl; writer = refl; sink = refl };
+    keeps = record {
+      sized = can.sized;
+      stands = can.stands;
+      limits = refl;
+      failed = refl;
+      done = refl;
+      device = refl;
+      limit = refl;
+      writer = stays-well w pen pen from from m c can.writer.sound (refl, refl, refl) (refl, refl) counted;
+      charges = charges;
+    };
+    goes = more-below (held_by r) (16 * (left_to r - left_to r));
+  }
+
   pub handed-none : (device : InputOf I) (see : PlacedItem → PlacedItem) (r : BinReader I A) (pen : W) (from : Outgoing O) (m : Counts) → CanHand w r pen from m → WritesWithin (w.own pen) (w.most pen)
       → Handed device w see r r pen pen from from m m false
   handed-none device see r pen from m can writer =
       let sized = held-within r can.sized in let own = writer.share in let held = can.held in
-      record {
-        hands = λ e. absurd (cc e);
-        nothing = λ _. record { reader = refl; writer = refl; sink = refl };
-        keeps = record {
-          sized = can.sized;
-          stands = can.stands;
-          limits = refl;
-          failed = refl;
-          done = refl;
-          device = refl;
-          limit = refl;
-          writer = stays-well w pen pen from from m m can.writer.sound (refl, refl, refl) (refl, refl) refl;
-          charges = record { held = refl; share = omega (arith, sized, own); peak = omega (arith, sized, own, held); rises = omega arith };
-        };
-        goes = more-below (held_by r) (16 * (left_to r - left_to r));
-      }
+      handed-kept device see r pen from m m can refl (record { held = refl; share = omega (arith, sized, own); peak = omega (arith, sized, own, held); rises = omega arith })
 
   pub hands-none : {device : InputOf I} {see : PlacedItem → PlacedItem} {r : BinReader I A} {pen : W} {from : Outgoing O} {m : Counts} {a : Around} → CanHand w r pen from m → WritesWithin (w.own pen) (w.most pen)
       → HandsAt device w see r r pen pen from from m m a false
@@ -183,23 +176,9 @@ module _ {I A W O : Type 0} (w : WriterOf W O A) where
   pub handed-undone : (device : InputOf I) (see : PlacedItem → PlacedItem) (r : BinReader I A) (pen : W) (from : Outgoing O) (m b c : Counts) → CanHand w r pen from m → WritesWithin (w.own pen) (w.most pen)
       → length r.frames < r.limits.depth → Grows m b 16 → Shrinks b c 16 → Handed device w see r r pen pen from from m c false
   handed-undone device see r pen from m b c can writer few grows shrinks =
-      let sized = opened-within r can.sized few in let own = writer.share in let held = can.held in
-      record {
-        hands = λ e. absurd (cc e);
-        nothing = λ _. record { reader = refl; writer = refl; sink = refl };
-        keeps = record {
-          sized = can.sized;
-          stands = can.stands;
-          limits = refl;
-          failed = refl;
-          done = refl;
-          device = refl;
-          limit = refl;
-          writer = stays-well w pen pen from from m c can.writer.sound (refl, refl, refl) (refl, refl) (shrinks.refused ∙ grows.refused);
-          charges = charges-closed m b c (held_by r + w.own pen) (share_of r + w.most pen) (omega (arith, sized, own)) held grows shrinks;
-        };
-        goes = more-below (held_by r) (16 * (left_to r - left_to r));
-      }
+      let sized = opened-within r can.sized few in let own = writer.share in
+      handed-kept device see r pen from m c can (shrinks.refused ∙ grows.refused)
+      (charges-closed m b c (held_by r + w.own pen) (share_of r + w.most pen) (omega (arith, sized, own)) can.held grows shrinks)
 
 pushed-back : (frames new : List Frame) (f e : Frame) → frames ++ f ∷ [] ≡ new ++ e ∷ [] → new ≡ frames
 pushed-back frames new f e same = grind (arith, common_steps)

@@ -1,11 +1,7 @@
 -- What is held moves with the items.
-use Rattle.std.proofs.Common.{◌≡◌, ℕ, ◌+◌, ◌-◌, ◌<◌, Bool, true, false, not, ◌&&◌, if◌then◌else◌, List, [], ◌∷◌, ◌++◌, length, map, take, drop, Option, Some, None, is_some, refl, ap, sym, subst, ◌∙◌, append_assoc, append-nil, arith, length-append, ne_eqb}
-use Rattle.std.proofs.Math.Seq.{take-append_seam, drop-append_seam}
-use Rattle.ion_value.specs.declared.ion_type.Kind.{Kind}
-use Rattle.ion_value.specs.Number.{var_uint_octets}
-use Rattle.ion_value.specs.Standing.{is_marker}
+use Rattle.ion_binary.proofs.Below.{◌≡◌, ℕ, ◌+◌, ◌-◌, ◌<◌, Bool, true, false, not, ◌&&◌, if◌then◌else◌, List, [], ◌∷◌, ◌++◌, length, map, take, drop, Option, Some, None, is_some, refl, ap, sym, subst, ◌∙◌, append_assoc, append-nil, arith, length-append, take-append_seam, drop-append_seam, Kind, var_uint_octets, is_marker, UserSymbol, Head, Item, Scalar}
+use Rattle.std.proofs.Common.{ne_eqb}
 use Rattle.ion_value.specs.Value as value
-use Rattle.ion_value.specs.Value.{UserSymbol, Head, Item, Scalar}
 use Rattle.ion_binary.specs.declared.headers.HeaderPlace.{HeaderPlace}
 use Rattle.ion_binary.specs.Grammar.{type_code}
 use Rattle.ion_binary.specs.Canonical.{annotation_octets, field_octets, header, headed, id_in, id_octets, is_over, member_octets, scalar_octets, wrapped}

@@ -1,7 +1,5 @@
 -- Late headers: what is held without them, and what one more and more octets change.
-use Rattle.std.proofs.Common.{◌≡◌, ℕ, zero, suc, ◌+◌, ◌-◌, ◌*◌, ◌<◌, ◌≤◌, ◌^◌, List, [], ◌∷◌, ◌++◌, length, take, drop, get_or, refl, ap, sym, ◌∙◌, arith, append-nil, append_assoc, length-append}
-use Rattle.std.specs.List.{insert}
-use Rattle.std.proofs.lemmas.List.{drop-append-le, drop-take, drop_at, length-drop, length-take-le, take-append-drop, take-append-le, take-take}
+use Rattle.ion_binary.proofs.Below.{◌≡◌, ℕ, zero, suc, ◌+◌, ◌-◌, ◌*◌, ◌<◌, ◌≤◌, ◌^◌, List, [], ◌∷◌, ◌++◌, length, take, drop, get_or, refl, ap, sym, ◌∙◌, arith, append_assoc, length-append, insert, drop-append-le, drop-take, drop_at, length-drop, length-take-le, take-append-le, take-take}
 use Rattle.ion_binary.specs.declared.held_octets.LateHeader.{LateHeader}
 use Rattle.ion_binary.specs.Held.{put_at}
 use Rattle.ion_binary.specs.Late.{AreLate, FitsAt, late_octets, missing_of, spread}
@@ -44,17 +42,15 @@ spread-append [] xs ys l = refl
 spread-append (h ∷ hs) xs ys l =
     let x : List ℕ = late_octets h in
     let long = put-length h.offset x xs l.0.within in
-    let w = l.0.within in
     ap (λ (os : List ℕ). spread hs os) (put-append h.offset x xs ys l.0.within)
-    ∙ spread-append hs (put_at h.offset x xs) ys (late-more h.offset (length (put_at h.offset x xs)) hs (omega (arith, long, w)) l.1)
+    ∙ spread-append hs (put_at h.offset x xs) ys (late-more h.offset (length (put_at h.offset x xs)) hs (omega (arith, long, l.0.within)) l.1)
 
 pub spread-length : (hs : List LateHeader) (xs : List ℕ) → AreLate (length xs) hs → length (spread hs xs) ≡ length xs + missing_of hs
 spread-length [] xs l = omega arith
 spread-length (h ∷ hs) xs l =
     let x : List ℕ = late_octets h in
     let long = put-length h.offset x xs l.0.within in
-    let w = l.0.within in
-    let r = spread-length hs (put_at h.offset x xs) (late-more h.offset (length (put_at h.offset x xs)) hs (omega (arith, long, w)) l.1) in
+    let r = spread-length hs (put_at h.offset x xs) (late-more h.offset (length (put_at h.offset x xs)) hs (omega (arith, long, l.0.within)) l.1) in
     omega (arith, r, long)
 
 -- octets go in after all of them
@@ -75,9 +71,8 @@ pub spread-insert : (k n : ℕ) (h : LateHeader) (hs : List LateHeader) (xs : Li
 spread-insert zero n h hs xs l f le = let w = f.0 in spread-put hs h.offset (late_octets h) xs f.1 (omega (arith, w, le))
 spread-insert (suc k) n h [] xs l f le = absurd f
 spread-insert (suc k) n h (g ∷ hs) xs l f le =
-    let w = l.0.within in
-    let long = put-length g.offset (late_octets g) xs (omega (arith, w, le)) in
-    spread-insert k g.offset h hs (put_at g.offset (late_octets g) xs) l.1 f (omega (arith, long, w, le))
+    let long = put-length g.offset (late_octets g) xs (omega (arith, l.0.within, le)) in
+    spread-insert k g.offset h hs (put_at g.offset (late_octets g) xs) l.1 f (omega (arith, long, l.0.within, le))
 
 pub late-insert : (k n : ℕ) (h : LateHeader) (hs : List LateHeader) → AreLate n hs → FitsAt n h.offset k hs → h.code < 16 → h.inside < 2 ^ 32 → AreLate n (insert hs k h)
 late-insert zero n h hs l f code short = (record { within = f.0; code = code; short = short }, f.1)
@@ -136,16 +131,6 @@ six-each n (h ∷ hs) few l =
 abbrev pub around_gap : ℕ → ℕ → List ℕ → List ℕ
 around_gap end gap octets = take end octets ++ drop (end + gap) octets
 
-pub around-length : (end gap : ℕ) (octets : List ℕ) → end + gap ≤ length octets → length (around_gap end gap octets) + gap ≡ length octets
-around-length end gap octets le =
-    let a = length-append (take end octets) (drop (end + gap) octets) in
-    let t : length (take end octets) ≡ end = length-take-le end octets (omega (arith, le)) in
-    let d : length (drop (end + gap) octets) ≡ length octets - (end + gap) = length-drop (end + gap) octets in
-    omega (arith, a, t, d, le)
-
-pub around-none : (end : ℕ) (octets : List ℕ) → around_gap end 0 octets ≡ octets
-around-none end octets = ap (λ k. take end octets ++ drop k octets) (omega arith) ∙ take-append-drop end octets
-
 -- the octets from an offset to the gap are moved after it, and others stand before them
 module _ (offset end gap : ℕ) (octets new x : List ℕ) (order : offset ≤ end) (within : end + gap ≤ length octets) (short : length x ≤ gap)
     (moved : new ≡ take (offset + gap - length x) octets ++ (x ++ (take (end - offset) (drop offset octets) ++ drop (end + gap) octets))) where
@@ -186,16 +171,6 @@ module _ (offset end gap : ℕ) (octets new x : List ℕ) (order : offset ≤ en
       ap (λ (os : List ℕ). drop (offset + (gap - length x)) os) moved ∙ drop_at before tail (offset + (gap - length x)) (let f = front in omega (arith, f, short)) in
       ap (λ (os : List ℕ). os ++ drop (offset + (gap - length x)) new) first
       ∙ ap (λ (os : List ℕ). take offset v ++ os) (second ∙ ap (λ (y : List ℕ). x ++ y) (sym after))
-
-pub around-all : (end gap : ℕ) (octets : List ℕ) → length octets ≡ end + gap → around_gap end gap octets ≡ take end octets
-around-all end gap octets e = ap (λ (os : List ℕ). take end octets ++ os) (drop-len octets (end + gap) e) ∙ append-nil (take end octets)
-  where
-    drop-whole : (xs : List ℕ) → drop (length xs) xs ≡ []
-    drop-whole [] = refl
-    drop-whole (x ∷ xs) = drop-whole xs
-
-    drop-len : (xs : List ℕ) (n : ℕ) → length xs ≡ n → drop n xs ≡ []
-    drop-len xs n e = ap (λ k. drop k xs) (sym e) ∙ drop-whole xs
 
 -- ---- in pieces
 

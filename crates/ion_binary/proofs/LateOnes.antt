@@ -1,12 +1,5 @@
 -- Calls that may fail: one header more becomes late, octets go in, and all late headers do.
-use Rattle.std.proofs.Common.{◌≡◌, ℕ, suc, Bool, true, false, ◌+◌, ◌*◌, ◌^◌, ◌<◌, ◌≤◌, List, [], ◌∷◌, ◌++◌, length, drop, take, replicate, max, Option, Some, None, Result, Ok, Err, OnOk, OnErr, IfErr, refl, ap, sym, subst, ◌∙◌, arith, length-append, take_at}
-use Rattle.std.specs.List.{insert}
-use Rattle.std.proofs.lemmas.List.{length-replicate}
-use Rattle.ion_meter.specs.Counts.{Counts, Grows, IsRefused}
-use Rattle.ion_meter.specs.Entries.{Entries}
-use Rattle.ion_meter.specs.declared.fault.Fault.{Fault}
-use Rattle.ion_meter.specs.declared.fault.Fault.TheVariants.{Memory}
-use Rattle.ion_value.specs.Shares.{fault_of}
+use Rattle.ion_binary.proofs.Below.{◌≡◌, ℕ, Bool, true, false, ◌+◌, ◌*◌, ◌^◌, ◌<◌, ◌≤◌, List, [], ◌++◌, length, drop, take, replicate, max, Option, Some, None, Result, Ok, Err, OnOk, OnErr, IfErr, refl, ap, sym, subst, ◌∙◌, arith, take_at, insert, Counts, Grows, IsRefused, Entries, Fault, Memory, fault_of}
 use Rattle.ion_binary.specs.declared.held_octets.LateHeader.{LateHeader}
 use Rattle.ion_binary.specs.Held.{put_at}
 use Rattle.ion_binary.specs.Late.{AreLate, Content, FitsAt, IsCosted, Moved, late_octets, missing_of, spread}
@@ -137,34 +130,8 @@ inserted-if false hs xs ys x there le l more same = subst (λ (os : List ℕ). A
 pub gap-front : (xs ys : List ℕ) (gap : ℕ) → ys ≡ xs ++ replicate gap 0 → take (length xs) ys ≡ xs
 gap-front xs ys gap e = ap (λ (os : List ℕ). take (length xs) os) e ∙ take_at xs (replicate gap 0) (length xs) refl
 
-pub gap-long : (xs ys : List ℕ) (gap : ℕ) → ys ≡ xs ++ replicate gap 0 → length ys ≡ length xs + gap
-gap-long xs ys gap e =
-    let zeros : List ℕ = replicate gap 0 in
-    let long : length ys ≡ length (xs ++ zeros) = ap (λ (os : List ℕ). length os) e in
-    let sum = length-append xs zeros in
-    let count : length zeros ≡ gap = length-replicate gap 0 in
-    omega (arith, long, sum, count)
-
 pub settled-costed : (os : List ℕ) → IsCosted (content [] os)
 settled-costed os = record { least = omega arith; most = omega arith; late = omega arith }
-
--- where no header is late
-pub none-content : (hs : List LateHeader) (xs : List ℕ) (v : Content) → content hs xs ≡ v → v.late ≡ 0 → hs ≡ []
-none-content [] xs v e none = refl
-none-content (h ∷ hs) xs v e none = let l : suc (length hs) ≡ v.late = ap (λ (c : Content). c.late) e in absurd (omega (arith, l, none))
-
-pub settled-cost : (r : Result (Unit {0}) Fault) (hs : List LateHeader) (xs ys b : List ℕ) (there : ℕ) (v : Content) → content hs xs ≡ v → there ≤ length xs → OnOk r (ys ≡ put_at there b xs)
-    → OnOk r (length ys + 16 * length hs ≡ v.cost + length b)
-settled-cost (Ok t) hs xs ys b there v view le ok =
-    let long : length ys ≡ length (put_at there b xs) = ap (λ (os : List ℕ). length os) ok in
-    let sum = put-length there b xs le in
-    let cost : length xs + 16 * length hs ≡ v.cost = ap (λ (c : Content). c.cost) view in
-    omega (arith, long, sum, cost)
-settled-cost (Err f) hs xs ys b there v view le ok = tt
-
-pub settled-same : (r : Result (Unit {0}) Fault) (hs : List LateHeader) (xs ys : List ℕ) (v : Content) → content hs xs ≡ v → OnErr r (ys ≡ xs) → OnErr r (content hs ys ≡ v)
-settled-same (Ok t) hs xs ys v view err = tt
-settled-same (Err f) hs xs ys v view err = ap (λ (os : List ℕ). content hs os) err ∙ view
 
 pub err-all : (r : Result (Unit {0}) Fault) (u w v : Content) → OnErr r (u ≡ w) → w.all ≡ v.all → OnErr r (u.all ≡ v.all)
 err-all (Ok t) u w v same all = tt
@@ -180,36 +147,26 @@ settled-then (Ok t) v w u m n o b offset moved all late within held none ok grow
     let sum = put-length offset b w.all (omega (arith, same, within)) in
     let least = moved.costed.least in
     let most = moved.costed.most in
-    let mh = moved.charges.held in
-    let mp = moved.charges.peak in
-    let mr = moved.charges.rises in
-    let gh = grows.held in
-    let gp = grows.peak in
     let counted = moved.memory.counted (λ e. absurd (Prim.cc e)) in
     record {
       costed = record { least = omega (arith, least, long, sum, cost); most = omega (arith, most, long, sum, cost, late); late = omega (arith, none) };
       memory = record { memory = λ e. absurd (Prim.cc e); counted = λ e. grows.refused ∙ counted };
       alone = λ f e. absurd (Prim.cc e);
       charges = record {
-        held = omega (arith, mh, gh, cost);
+        held = omega (arith, moved.charges.held, grows.held, cost);
         share = omega (arith, cost, most, late, same);
-        peak = omega (arith, mp, mh, gh, gp, cost, most, late, same, held);
-        rises = omega (arith, mr, gp);
+        peak = omega (arith, moved.charges.peak, moved.charges.held, grows.held, grows.peak, cost, most, late, same, held);
+        rises = omega (arith, moved.charges.rises, grows.peak);
       };
     }
 settled-then (Err f) v w u m n o b offset moved all late within held none ok grows cost err memory refused =
-    let mh = moved.charges.held in
-    let mp = moved.charges.peak in
-    let ms = moved.charges.share in
-    let mr = moved.charges.rises in
     let rh = refused.held in
     let rp = refused.peak in
-    let rr = refused.refused in
     let counted = moved.memory.counted (λ e. absurd (Prim.cc e)) in
     let same : u.cost ≡ w.cost = ap (λ (c : Content). c.cost) err in
     record {
       costed = subst (λ (c : Content). IsCosted c) (sym err) moved.costed;
-      memory = record { memory = λ e. omega (arith, rr, counted); counted = λ e. absurd (e (ap (λ (g : Fault). let x : Option Fault = Some g in x) memory)) };
+      memory = record { memory = λ e. omega (arith, refused.refused, counted); counted = λ e. absurd (e (ap (λ (g : Fault). let x : Option Fault = Some g in x) memory)) };
       alone = λ g e. let is : f ≡ g = Prim.cc e in sym is ∙ memory;
-      charges = record { held = omega (arith, mh, rh, same); share = omega (arith, ms, same); peak = omega (arith, mp, rp); rises = omega (arith, mr, rp) };
+      charges = record { held = omega (arith, moved.charges.held, refused.held, same); share = omega (arith, moved.charges.share, same); peak = omega (arith, moved.charges.peak, refused.peak); rises = omega (arith, moved.charges.rises, refused.peak) };
     }

@@ -1,3 +1,4 @@
+mod Below
 mod Rows
 mod Elements
 mod Termination
@@ -9,6 +10,10 @@ mod Bodies
 mod Narrow
 mod Refused
 mod Stable
+mod Cutting
+mod Elsewhere
+mod FirstMarker
+mod EachEnd
 mod Free
 mod ExactLimits
 mod PassedLimits

@@ -1,15 +1,8 @@
 -- What moves what is held is a step of the open value, and so is what follows it.
-use Rattle.std.proofs.Common.{◌≡◌, ℕ, suc, ◌+◌, ◌-◌, ◌*◌, ◌<◌, ◌≤◌, List, ◌∷◌, length, map, Option, Some, None, Result, Ok, Err, refl, ap, sym, subst, ◌∙◌, arith}
-use Rattle.ion_meter.specs.Counts.{Counts, Grows, IsRefused, Shrinks}
-use Rattle.ion_meter.specs.declared.fault.Fault.{Fault}
-use Rattle.ion_meter.specs.declared.fault.Fault.TheVariants.{Memory}
-use Rattle.ion_meter.specs.declared.limits.Limits.{Limits}
+use Rattle.ion_binary.proofs.Below.{◌≡◌, ℕ, suc, ◌+◌, ◌-◌, ◌*◌, ◌<◌, ◌≤◌, List, ◌∷◌, length, map, Option, Some, None, Result, Ok, Err, refl, ap, sym, subst, ◌∙◌, arith, Counts, Grows, IsRefused, Shrinks, Fault, Memory, Limits, AllByRecursion, IsErr, IsErrAnd, fault_of}
 use Rattle.ion_binary.specs.declared.headers.HeaderPlace.{HeaderPlace}
 use Rattle.ion_binary.specs.declared.open_value.OpenValue.{OpenValue}
 use Rattle.ion_binary.specs.Late.{Content, IsCosted, Moved, appended}
-use Rattle.std.specs.List.{AllByRecursion}
-use Rattle.std.specs.Result.{IsErr, IsErrAnd}
-use Rattle.ion_value.specs.Shares.{fault_of}
 use Rattle.ion_binary.specs.Canonical.{header}
 use Rattle.ion_binary.specs.Counting.{ArePlaced, AreReached, place_of_header}
 use Rattle.ion_binary.specs.Held.{size_of}
@@ -22,48 +15,39 @@ pub moved-stepped : {A : Type 0} (limits : Limits) (v w : OpenValue A) (m n : Co
     → w.headers ≡ v.headers → length w.octets.all ≤ limits.value → w.octets.late ≤ v.octets.late → 8 * length v.headers + most ≤ 16 * limits.depth + limits.value
     → w.room ≡ v.room → Stepped limits v w m n fault
 moved-stepped limits v w m n most fault can moved same short late room kept =
-    let beside = can.within.room in
     let few : length w.headers ≡ length v.headers = ap (λ (hs : List HeaderPlace). length hs) same in
-    let before = can.within.headers in
-    let own = can.held in
     let held = moved.charges.held in
     let share = moved.charges.share in
     let peak = moved.charges.peak in
     let rises = moved.charges.rises in
     record {
-      within = record { octets = short; headers = omega (arith, few, before, late); costed = moved.costed; room = omega (arith, few, late, beside, kept) };
+      within = record { octets = short; headers = omega (arith, few, can.within.headers, late); costed = moved.costed; room = omega (arith, few, late, can.within.room, kept) };
       memory = moved.memory;
       alone = moved.alone;
-      charges = record { held = omega (arith, held, few); share = omega (arith, share, few, room); peak = omega (arith, peak, own, room); rises = rises };
+      charges = record { held = omega (arith, held, few); share = omega (arith, share, few, room); peak = omega (arith, peak, can.held, room); rises = rises };
     }
 
 -- octets are added after it
 pub raised-stepped : {A : Type 0} (limits : Limits) (v w u : OpenValue A) (m n o : Counts) (y : List ℕ) → CanStep limits v m → Stepped limits v w m n None
     → u.octets ≡ appended w.octets y → u.headers ≡ w.headers → Raises n o (length y) → length u.octets.all ≤ limits.value → u.room ≡ w.room → Stepped limits v u m o None
 raised-stepped limits v w u m n o y can s more same raises short kept =
-    let beside = s.within.room in
     let few : length u.headers ≡ length w.headers = ap (λ (hs : List HeaderPlace). length hs) same in
     let late : u.octets.late ≡ w.octets.late = ap (λ (c : Content). c.late) more in
     let cost : u.octets.cost ≡ w.octets.cost + length y = ap (λ (c : Content). c.cost) more in
     let costed = costed-by w.octets u.octets y s.within.costed more in
-    let most = costed.most in
     let before = s.within.headers in
-    let own = can.held in
     let held = s.charges.held in
     let peak = s.charges.peak in
     let rises = s.charges.rises in
-    let rh = raises.held in
-    let rp = raises.peak in
-    let rr = raises.rises in
     record {
-      within = record { octets = short; headers = omega (arith, few, late, before); costed = costed; room = omega (arith, few, late, beside, kept) };
+      within = record { octets = short; headers = omega (arith, few, late, before); costed = costed; room = omega (arith, few, late, s.within.room, kept) };
       memory = record { memory = λ e. absurd (Prim.cc e); counted = λ e. raises.refused ∙ s.memory.counted e };
       alone = λ f e. absurd (Prim.cc e);
       charges = record {
-        held = omega (arith, held, rh, few, cost);
-        share = omega (arith, most, short, few, late, before);
-        peak = omega (arith, peak, rp, rh, held, own, few, cost, most, short, late, before);
-        rises = omega (arith, rises, rr);
+        held = omega (arith, held, raises.held, few, cost);
+        share = omega (arith, costed.most, short, few, late, before);
+        peak = omega (arith, peak, raises.peak, raises.held, held, can.held, few, cost, costed.most, short, late, before);
+        rises = omega (arith, rises, raises.rises);
       };
     }
 
@@ -74,15 +58,12 @@ refused-stepped limits v w m n o fault s is refused =
     let held = s.charges.held in
     let peak = s.charges.peak in
     let rises = s.charges.rises in
-    let rh = refused.held in
-    let rp = refused.peak in
-    let rr = refused.refused in
     let counted = s.memory.counted (λ e. absurd (Prim.cc e)) in
     record {
       within = s.within;
-      memory = record { memory = λ e. omega (arith, rr, counted); counted = λ e. absurd (e (ap (λ (f : Fault). let x : Option Fault = Some f in x) is)) };
+      memory = record { memory = λ e. omega (arith, refused.refused, counted); counted = λ e. absurd (e (ap (λ (f : Fault). let x : Option Fault = Some f in x) is)) };
       alone = λ f e. let same : f ≡ fault = Prim.cc e in same ∙ is;
-      charges = record { held = omega (arith, held, rh); share = s.charges.share; peak = omega (arith, peak, rp); rises = omega (arith, rises, rp) };
+      charges = record { held = omega (arith, held, refused.held); share = s.charges.share; peak = omega (arith, peak, refused.peak); rises = omega (arith, rises, refused.peak) };
     }
 
 -- the innermost header was taken off first
@@ -90,13 +71,10 @@ pub popped-stepped : {A : Type 0} (limits : Limits) (v w : OpenValue A) (m n o :
     → length v.headers ≡ suc (length w.headers) → Moved v.octets w.octets n o most fault → length w.octets.all ≤ limits.value
     → length w.headers + 2 * w.octets.late ≤ 2 * limits.depth → 8 * length w.headers + most ≤ 16 * limits.depth + limits.value → HasRoom limits w → Stepped limits v w m o fault
 popped-stepped limits v w m n o most fault can shrinks few moved short late room beside =
-    let own = can.held in
     let held = moved.charges.held in
     let share = moved.charges.share in
     let peak = moved.charges.peak in
     let rises = moved.charges.rises in
-    let sh = shrinks.held in
-    let sp = shrinks.peak in
     let sr = shrinks.refused in
     record {
       within = record { octets = short; headers = late; costed = moved.costed; room = beside };
@@ -106,10 +84,10 @@ popped-stepped limits v w m n o most fault can shrinks few moved short late room
       };
       alone = moved.alone;
       charges = record {
-        held = omega (arith, held, sh, few);
+        held = omega (arith, held, shrinks.held, few);
         share = omega (arith, share, few, room);
-        peak = omega (arith, peak, sh, sp, own, few, room);
-        rises = omega (arith, rises, sp);
+        peak = omega (arith, peak, shrinks.held, shrinks.peak, can.held, few, room);
+        rises = omega (arith, rises, shrinks.peak);
       };
     }
 
@@ -117,19 +95,13 @@ popped-stepped limits v w m n o most fault can shrinks few moved short late room
 pub stepped-then : {A : Type 0} (limits : Limits) (v w u : OpenValue A) (m n o : Counts) (fault : Option Fault) → CanStep limits v m → Stepped limits v w m n None → Stepped limits w u n o fault
     → Stepped limits v u m o fault
 stepped-then limits v w u m n o fault can s t =
-    let own = can.held in
     let h = s.charges.held in
-    let p = s.charges.peak in
-    let r = s.charges.rises in
-    let k = t.charges.held in
-    let q = t.charges.peak in
-    let y = t.charges.rises in
     let same = s.memory.counted (λ e. absurd (Prim.cc e)) in
     record {
       within = t.within;
       memory = record { memory = λ e. let f = t.memory.memory e in omega (arith, f, same); counted = λ e. t.memory.counted e ∙ same };
       alone = t.alone;
-      charges = record { held = omega (arith, h, k); share = t.charges.share; peak = omega (arith, p, q, h, own); rises = omega (arith, r, y) };
+      charges = record { held = omega (arith, s.charges.held, t.charges.held); share = t.charges.share; peak = omega (arith, s.charges.peak, t.charges.peak, s.charges.held, can.held); rises = omega (arith, s.charges.rises, t.charges.rises) };
     }
 
 -- the octets stay, and so does what stands before them
@@ -156,17 +128,15 @@ header-fits limits v h hs o e =
     let put : closed_length k (map place_of_header hs) ≡ closed_length n (map place_of_header (h ∷ hs)) = closed-put n h hs placed in
     let all : closed_length k (map place_of_header hs) ≡ k + missing k (map place_of_header hs) 0 = refl in
     let size : size_of v.octets.all v.headers ≡ closed_length n (map place_of_header (h ∷ hs)) = ap (λ (gs : List HeaderPlace). size_of v.octets.all gs) e in
-    let fits = o.fits in
     let long : length (header h.code (n - h.place)) ≡ header_size (n - h.place) = refl in
-    omega (arith, put, all, size, fits, long)
+    omega (arith, put, all, size, o.fits, long)
 
 -- so many octets go in
 pub put-stepped : {A : Type 0} (limits : Limits) (v w : OpenValue A) (m n : Counts) (k : ℕ) (fault : Option Fault) → CanStep limits v m → w.headers ≡ v.headers
     → Moved v.octets w.octets m n (length v.octets.all + k + 16 * v.octets.late) fault → w.octets.late ≤ v.octets.late → length w.octets.all ≤ limits.value → length v.octets.all + k ≤ limits.value
     → w.room ≡ v.room → Stepped limits v w m n fault
 put-stepped limits v w m n k fault can same moved late short room kept =
-    let before = can.within.headers in
-    moved-stepped limits v w m n (length v.octets.all + k + 16 * v.octets.late) fault can moved same short late (omega (arith, before, room)) kept
+    moved-stepped limits v w m n (length v.octets.all + k + 16 * v.octets.late) fault can moved same short late (omega (arith, can.within.headers, room)) kept
 
 pub grows-raises : (m n : Counts) (k : ℕ) → Grows m n k → Raises m n k
 grows-raises m n k g = let p = g.peak in let h = g.held in record { held = g.held; peak = omega (arith, p); rises = omega (arith, p); refused = g.refused }
@@ -179,22 +149,15 @@ headed-stepped limits v w u m n o can s same more grows room beside =
     let cost : u.octets.cost ≡ w.octets.cost = ap (λ (c : Content). c.cost) same in
     let all : length u.octets.all ≡ length w.octets.all = ap (λ (c : Content). length c.all) same in
     let octets = s.within.octets in
-    let most = s.within.costed.most in
-    let own = can.held in
-    let h = s.charges.held in
-    let p = s.charges.peak in
-    let r = s.charges.rises in
-    let gh = grows.held in
-    let gp = grows.peak in
     record {
       within = record { octets = omega (arith, octets, all); headers = omega (arith, more, late, room); costed = subst (λ (c : Content). IsCosted c) (sym same) s.within.costed; room = beside };
       memory = record { memory = λ e. absurd (Prim.cc e); counted = λ e. grows.refused ∙ s.memory.counted e };
       alone = λ f e. absurd (Prim.cc e);
       charges = record {
-        held = omega (arith, h, gh, cost, more);
-        share = omega (arith, cost, most, octets, more, room);
-        peak = omega (arith, p, h, gh, gp, own, cost, most, octets, more, room);
-        rises = omega (arith, r, gp);
+        held = omega (arith, s.charges.held, grows.held, cost, more);
+        share = omega (arith, cost, s.within.costed.most, octets, more, room);
+        peak = omega (arith, s.charges.peak, s.charges.held, grows.held, grows.peak, can.held, cost, s.within.costed.most, octets, more, room);
+        rises = omega (arith, s.charges.rises, grows.peak);
       };
     }
 

@@ -1,19 +1,6 @@
 -- Symbols that are given ids one after the other, and octets that are put as long as they fit.
-use Rattle.std.proofs.Common.{◌≡◌, ℕ, zero, suc, ◌+◌, ◌<◌, ◌≤◌, Bool, true, false, nat_lt, if◌then◌else◌, List, [], ◌∷◌, ◌++◌, length, take, drop, Option, Some, None, option_map, Result, Ok, Err, OnOk, refl, ap, ap₂, sym, subst, ◌∙◌, append_assoc, append-nil, length-append, arith}
-use Rattle.std.specs.Prelude.{slice_get}
-use Rattle.std.proofs.lemmas.Bool.{lt-ltb, le-ltb}
-use Rattle.std.proofs.lemmas.List.{map-append, take-append-drop}
-use Rattle.std.proofs.lemmas.List.Concat.{flat_map-append}
-use Rattle.ion_meter.specs.Counts.{Counts}
-use Rattle.ion_meter.specs.declared.fault.Fault.{Fault}
-use Rattle.ion_meter.specs.declared.fault.Fault.TheVariants.{Refused}
-use Rattle.ion_meter.specs.declared.fault.Reason.TheVariants.{SymbolLimit}
-use Rattle.ion_value.specs.Number.{var_uint_octets}
-use Rattle.ion_value.specs.Shares.{Charges, MemoryCauses, WriteCauses, fault_of}
+use Rattle.ion_binary.proofs.Below.{◌≡◌, ℕ, zero, suc, ◌+◌, ◌<◌, ◌≤◌, Bool, true, false, nat_lt, if◌then◌else◌, List, [], ◌∷◌, ◌++◌, length, take, drop, Option, Some, None, option_map, Result, Ok, Err, OnOk, refl, ap, ap₂, sym, subst, ◌∙◌, append_assoc, append-nil, length-append, arith, slice_get, lt-ltb, le-ltb, map-append, take-append-drop, flat_map-append, Counts, Fault, Refused, SymbolLimit, var_uint_octets, Charges, MemoryCauses, WriteCauses, fault_of, SymbolAt, UserSymbol, Known, Unknown, user_symbol_at, user_item, map_head, map_scalar, Head, Scalar, PlacedItem, field_symbols, scalar_symbols, Output, texts_cost, id_given}
 use Rattle.ion_value.specs.Value as value
-use Rattle.ion_value.specs.Value.{SymbolAt, UserSymbol, Known, Unknown, user_symbol_at, user_item, map_head, map_scalar, Head, Scalar, Item, PlacedItem}
-use Rattle.ion_value.specs.Writable.{field_symbols, scalar_symbols}
-use Rattle.ion_symbols.specs.Output.{Output, texts_cost, id_given}
 use Rattle.ion_binary.specs.declared.front.Front.{Front}
 use Rattle.ion_binary.specs.Canonical.{field_octets, id_in, id_octets, with_symbol, with_symbols}
 use Rattle.ion_binary.specs.ItemOctets.{head_name}

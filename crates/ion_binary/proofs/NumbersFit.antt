@@ -1,20 +1,6 @@
 -- Under a limit on scalars of 26 octets each decimal and each timestamp fits.
-use Rattle.std.proofs.Common.{◌≡◌, ℕ, zero, suc, ◌+◌, ◌*◌, ◌^◌, ◌<◌, ◌≤◌, inl, inr, Bool, true, false, List, ◌++◌, length, Ok, refl, sym, ap, subst, ◌∙◌, arith, length-append, neg_ℤ}
-use Rattle.std.specs.Result.{IfOk}
-use Rattle.std.proofs.lemmas.Bool.{cases_Bool, cases_lt}
-use Rattle.std.proofs.Math.Nat.{pow-le-pow_right}
-use Rattle.ion_value.specs.declared.decimal.Decimal.{Decimal}
-use Rattle.ion_value.specs.declared.timestamp.Precision.{Precision}
-use Rattle.ion_value.specs.declared.timestamp.Precision.TheVariants.{Year, Month, Day, Minute, Second, Fraction}
-use Rattle.ion_value.specs.declared.timestamp.Timestamp.{Timestamp}
-use Rattle.ion_value.specs.Decimal.{IsDecimal, decimal_body, exponent_octets, is_nothing}
-use Rattle.ion_value.specs.Number.{digits_in, with_sign, var_int_octets, coefficient_octets}
-use Rattle.ion_value.specs.Timestamp.{IsMoment, IsMoved, IsOffset, IsTimestamp, KeepsPrecision, offset_minutes, timestamp_body, utc_of}
-use Rattle.ion_value.specs.TimestampFields.{whole_octets}
-use Rattle.ion_value.proofs.Days.{utc-is}
-use Rattle.ion_value.proofs.DecimalOctets.{exponent_octets-short}
-use Rattle.ion_value.proofs.Octets.{digits_in-Digits, with_sign-Signing}
-use Rattle.ion_value.proofs.TimestampBodies.{body-fraction, body-whole, fraction-short, var_int-short, whole-short}
+use Rattle.ion_binary.proofs.Below.{◌≡◌, ℕ, zero, suc, ◌+◌, ◌*◌, ◌^◌, ◌<◌, ◌≤◌, inl, inr, Bool, true, false, List, ◌++◌, length, Ok, refl, sym, ap, subst, ◌∙◌, arith, length-append, neg_ℤ, IfOk, cases_Bool, cases_lt, pow-le-pow_right, Decimal, Precision, Year, Month, Day, Minute, Second, Fraction, Timestamp, IsDecimal, exponent_octets, is_nothing, digits_in, with_sign, var_int_octets, coefficient_octets, IsMoment, IsMoved, IsOffset, IsTimestamp, KeepsPrecision, offset_minutes, timestamp_body, utc_of, whole_octets, utc-is, exponent_octets-short, digits_in-Digits, with_sign-Signing, body-fraction, body-whole, fraction-short, var_int-short, whole-short}
+use Rattle.ion_value.specs.Decimal.{decimal_body}
 use Rattle.ion_binary.specs.WrittenLimits.{NumbersFit}
 
 -- ---- decimals

@@ -1,17 +1,8 @@
 -- The headers that are missing stay right as one goes in, and as containers begin and values come.
-use Rattle.std.proofs.Common.{◌≡◌, ℕ, zero, suc, ◌+◌, ◌-◌, ◌*◌, ◌^◌, ◌<◌, ◌≤◌, inl, inr, Bool, if◌then◌else◌, List, [], ◌∷◌, ◌++◌, length, map, take, drop, get_or, Option, Some, None, refl, ap, sym, subst, ◌∙◌, arith, append_assoc, length-append, ne_eqb, suc-mul, lit<}
-use Rattle.std.specs.Prelude.{MatchOption}
-use Rattle.std.specs.List.{AllByRecursion}
-use Rattle.std.proofs.lemmas.Bool.{cases_lt}
-use Rattle.std.proofs.lemmas.List.{length-take-le, length-drop}
-use Rattle.ion_meter.specs.Counts.{Counts, Grows, Shrinks}
-use Rattle.ion_meter.specs.Limits.{AreChecked}
-use Rattle.ion_meter.specs.declared.limits.Limits.{Limits}
-use Rattle.ion_value.specs.declared.ion_type.Kind.{Kind}
+use Rattle.ion_binary.proofs.Below.{◌≡◌, ℕ, zero, suc, ◌+◌, ◌-◌, ◌*◌, ◌^◌, ◌<◌, ◌≤◌, inl, inr, Bool, if◌then◌else◌, List, [], ◌∷◌, ◌++◌, length, map, take, drop, get_or, Option, Some, None, refl, ap, sym, subst, ◌∙◌, arith, append_assoc, length-append, suc-mul, lit<, MatchOption, AllByRecursion, cases_lt, length-take-le, length-drop, Counts, Grows, Shrinks, AreChecked, Limits, Kind, var_uint_octets, Charges}
+use Rattle.std.proofs.Common.{ne_eqb}
 use Rattle.ion_value.specs.declared.ion_type.Kind.TheVariants as kind
-use Rattle.ion_value.specs.Number.{var_uint_octets}
 use Rattle.ion_binary.specs.Grammar.{type_code}
-use Rattle.ion_value.specs.Shares.{Charges}
 use Rattle.ion_binary.specs.declared.headers.HeaderPlace.{HeaderPlace}
 use Rattle.ion_binary.specs.declared.open_value.OpenValue.{OpenValue}
 use Rattle.ion_binary.specs.Canonical.{header, headed, wrapped}
@@ -42,8 +33,7 @@ missing-put : (n k m : ℕ) (hs : List HeaderPlace) → ArePlaced n hs → missi
 missing-put n k m [] p = refl
 missing-put n k m (h ∷ hs) p =
     let x : ℕ = header_size (n - h.place + (m + k)) in
-    let le = p.0 in
-    ap (λ i. missing (n + k) (map place_of_header hs) (m + header_size i) + k) (omega (arith, le))
+    ap (λ i. missing (n + k) (map place_of_header hs) (m + header_size i) + k) (omega (arith, p.0))
     ∙ (missing-put n k (m + x) hs (placed-more h.place n hs p.0 p.1) ∙ ap (missing n (map place_of_header hs)) (omega arith))
 
 pub closed-put : (n : ℕ) (h : HeaderPlace) (hs : List HeaderPlace) → ArePlaced n (h ∷ hs)
@@ -127,16 +117,6 @@ can-step-again limits v w before after c s = record {
   countable = let e = s.memory.counted (λ e. absurd (Prim.cc e)) in let r = c.countable in omega (arith, e, r);
 }
 
--- something is given back, and then something grows
-pub shrink-grow : (m n o : Counts) (less more before after most : ℕ) → Shrinks m n less → Grows n o more → before + more ≡ after + less → before ≤ m.held → after ≤ most
-    → Charges m o before after most
-shrink-grow m n o less more before after most s g e held share =
-    let sh = s.held in
-    let sp = s.peak in
-    let gh = g.held in
-    let gp = g.peak in
-    record { held = omega (arith, sh, gh, e, held); share = share; peak = omega (arith, sh, sp, gh, gp, e, held, share); rises = omega (arith, sp, gp) }
-
 -- ---- the closed size
 
 beyond-few : (ns : List ℕ) (k total : ℕ) → ((c : ℕ) → get_or ns c 0 ≤ total) → beyond ns k ≤ length ns * total
@@ -199,9 +179,7 @@ whole-length place o x le =
 pub counted-fits : (limits : Limits) (ns octets : List ℕ) (hs : List HeaderPlace) → AreChecked limits → ArePlaced (length octets) hs → length hs ≤ 2 * limits.depth
     → IsCounted ns (length octets) hs → counted_length ns (length octets) hs ≤ limits.value → size_of octets hs ≤ limits.value
 counted-fits limits ns octets hs checked p few i fits =
-    let depth = checked.depth in
-    let v = checked.value in
-    let s = size-counted ns (length octets) hs i p (omega (arith, few, depth)) (omega (arith, fits, v)) in
+    let s = size-counted ns (length octets) hs i p (omega (arith, few, checked.depth)) (omega (arith, fits, checked.value)) in
     omega (arith, s, fits)
 
 -- the headers are right where more octets are there, and the counts with them
@@ -270,14 +248,13 @@ begun-more place o le =
 pub room-open : {A : Type 0} (limits : Limits) (v w : OpenValue A) (x : List ℕ) → AreChecked limits → IsOpen limits v → w.octets.all ≡ v.octets.all ++ x → w.headers ≡ v.headers → w.counts ≡ v.counts
     → length v.octets.all + (length x + 6 * length v.headers) ≤ limits.value → IsOpen limits w
 room-open limits v w x checked o eo eh ec room =
-    let value = checked.value in
     let long : length w.octets.all ≡ length v.octets.all + length x = ap (λ (os : List ℕ). length os) eo ∙ length-append v.octets.all x in
     let few : length w.headers ≡ length v.headers = ap (λ (hs : List HeaderPlace). length hs) eh in
     let A : List HeaderPlace → Type 0 = λ hs. ArePlaced (length w.octets.all) hs in
     let B : List HeaderPlace → Type 0 = λ hs. AllByRecursion (λ h. h.code < 16) hs in
     let C : List HeaderPlace → Type 0 = λ hs. AreReached v.counts (length w.octets.all) hs in
     let D : List ℕ → Type 0 = λ ns. AreReached ns (length w.octets.all) w.headers in
-    let f = closed-few (length w.octets.all) w.headers (omega (arith, long, few, room, value)) in
+    let f = closed-few (length w.octets.all) w.headers (omega (arith, long, few, room, checked.value)) in
     record {
       placed = subst A (sym eh) (placed-more (length v.octets.all) (length w.octets.all) v.headers (omega (arith, long)) o.placed);
       codes = subst B (sym eh) o.codes;
@@ -290,7 +267,6 @@ pub room-begun : {A : Type 0} (limits : Limits) (v w : OpenValue A) (x : List �
     → w.headers ≡ header_at (length v.octets.all + length x) code ∷ v.headers → w.counts ≡ v.counts
     → length v.octets.all + (length x + 6 * (length v.headers + 1)) ≤ limits.value → IsOpen limits w
 room-begun limits v w x code checked o small eo eh ec room =
-    let value = checked.value in
     let h : HeaderPlace = header_at (length v.octets.all + length x) code in
     let long : length w.octets.all ≡ length v.octets.all + length x = ap (λ (os : List ℕ). length os) eo ∙ length-append v.octets.all x in
     let few : length w.headers ≡ suc (length v.headers) = ap (λ (hs : List HeaderPlace). length hs) eh in
@@ -298,7 +274,7 @@ room-begun limits v w x code checked o small eo eh ec room =
     let B : List HeaderPlace → Type 0 = λ hs. AllByRecursion (λ h. h.code < 16) hs in
     let C : List HeaderPlace → Type 0 = λ hs. AreReached v.counts (length w.octets.all) hs in
     let D : List ℕ → Type 0 = λ ns. AreReached ns (length w.octets.all) w.headers in
-    let f = closed-few (length w.octets.all) w.headers (omega (arith, long, few, room, value)) in
+    let f = closed-few (length w.octets.all) w.headers (omega (arith, long, few, room, checked.value)) in
     record {
       placed = subst A (sym eh) (omega (arith, long), placed-more (length v.octets.all) (length v.octets.all + length x) v.headers (omega arith) o.placed);
       codes = subst B (sym eh) (small, o.codes);
@@ -322,11 +298,8 @@ popped-cost (Some x) hs gs rest h m n e i c = c
 pub grow-shrink : (m n o : Counts) (more less before after most : ℕ) → Grows m n more → Shrinks n o less → before + more ≡ after + less → before ≤ m.held → before + more ≤ most
     → Charges m o before after most
 grow-shrink m n o more less before after most g s e held share =
-    let sh = s.held in
-    let sp = s.peak in
-    let gh = g.held in
     let gp = g.peak in
-    record { held = omega (arith, sh, gh, e, held); share = omega (arith, e, share); peak = omega (arith, sh, sp, gh, gp, e, held, share); rises = omega (arith, sp, gp) }
+    record { held = omega (arith, s.held, g.held, e, held); share = omega (arith, e, share); peak = omega (arith, s.held, s.peak, g.held, g.peak, e, held, share); rises = omega (arith, s.peak, g.peak) }
 
 pub kind-small : (k : Kind) → type_code k < 16
 kind-small kind.List = lit< tt

@@ -1,21 +1,7 @@
 -- Where a stream passes a limit, its reading stops at one.
-use Rattle.std.proofs.Common.{◌≡◌, ℕ, zero, suc, ◌+◌, ◌*◌, ◌<◌, ◌≤◌, ◌⊎◌, inl, inr, true, false, not, ◌&&◌, leb, ltb, eqb, List, [], ◌∷◌, ◌++◌, length, drop, Option, Some, None, Ok, Err, refl, sym, ap, subst, ◌∙◌, append_assoc, arith}
-use Rattle.std.proofs.lemmas.Bool.{leb-true, leb-false, ltb-false, lt-leb}
-use Rattle.std.proofs.lemmas.List.{length-append, drop_at}
-use Rattle.ion_meter.specs.declared.fault.Reason.{Reason}
-use Rattle.ion_meter.specs.declared.fault.Reason.TheVariants.{BadDescriptor, BadAnnotation, Float, DepthLimit, ScalarLimit, AnnotationLimit}
-use Rattle.ion_meter.specs.declared.profile.Rules.{Rules}
-use Rattle.ion_meter.specs.Sources.{Cursor}
-use Rattle.ion_value.specs.declared.ion_type.Kind.{Kind}
+use Rattle.ion_binary.proofs.Below.{◌≡◌, ℕ, zero, suc, ◌+◌, ◌*◌, ◌<◌, ◌≤◌, ◌⊎◌, inl, inr, true, false, not, ◌&&◌, leb, ltb, eqb, List, [], ◌∷◌, ◌++◌, length, drop, Option, Some, None, Ok, Err, refl, sym, ap, subst, ◌∙◌, append_assoc, arith, leb-true, leb-false, ltb-false, lt-leb, drop_at, Reason, BadDescriptor, BadAnnotation, Float, DepthLimit, ScalarLimit, AnnotationLimit, Rules, Cursor, Kind, IsVar, VarUInt, var_uint, SymbolAt, PlacedItem, top_items, Path, path_items, ◌>>=◌, refuse, Placed, part, Reading, Finished, Stopped, More, Step, Stops, next_reading, reading_by, ending_of, AreWithin, reading_by-step, ending_of-items_then, all-permitted, permitted-alike}
+use Rattle.std.proofs.lemmas.List.{length-append}
 use Rattle.ion_value.specs.declared.ion_type.Kind.TheVariants as kind
-use Rattle.ion_value.specs.Number.{IsVar, VarUInt, var_uint}
-use Rattle.ion_value.specs.Value.{SymbolAt, PlacedItem, top_items}
-use Rattle.ion_value.specs.Path.{Path, path_items}
-use Rattle.ion_value.specs.Parts.{◌>>=◌, refuse, Placed, part}
-use Rattle.ion_value.specs.Reading.{Reading, Finished, Stopped, More, Step, Stops, next_reading, reading_by}
-use Rattle.ion_value.specs.ReadingLaws.{ending_of, AreWithin}
-use Rattle.ion_value.proofs.Readings.{reading_by-step}
-use Rattle.ion_value.proofs.ReadingLaws.{ending_of-items_then}
 use Rattle.ion_binary.specs.Bodies.{IsBodyTypeCode}
 use Rattle.ion_binary.specs.Descriptor.{octet_at, var_uint_at, length_at, Shape, shape_of, is_unwrappable}
 use Rattle.ion_binary.specs.Grammar.{Descriptor, Ids, Field, Header, Wrapper, Annotated, type_code}
@@ -26,7 +12,6 @@ use Rattle.ion_binary.specs.Reading.{Around, TypedValue, fits, body_at, scalar_a
 use Rattle.ion_binary.proofs.Complete.{Shrinking, Reads, read_from, reading-read_from, Spells-reads, streams}
 use Rattle.ion_binary.proofs.Fitting.{Spells-allowed}
 use Rattle.ion_binary.proofs.Narrow.{StepCut, narrow, step-Cut}
-use Rattle.ion_value.proofs.Permitted.{all-permitted, permitted-alike}
 use Rattle.ion_binary.proofs.Refused.{wider, wider-within, cut-ends}
 use Rattle.ion_binary.proofs.Spelled.{cursor_at, VarUInt-pos, Descriptor-headed}
 use Rattle.ion_binary.proofs.SpelledMembers.{state, wrapper_shape-long, kept-long}

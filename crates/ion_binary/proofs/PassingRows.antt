@@ -1,11 +1,5 @@
 -- Worked rows: streams that pass no limit at any place, though some of their octets would pass one if a value began with them.
-use Rattle.std.proofs.Common.{false, ◌≡◌, ℕ, List, [], ◌∷◌, refl}
-use Rattle.ion_meter.specs.declared.fault.Reason.{Reason}
-use Rattle.ion_meter.specs.declared.profile.Rules.{Rules}
-use Rattle.ion_value.specs.Value.{SymbolAt}
-use Rattle.ion_value.specs.Path.{Path}
-use Rattle.ion_value.specs.Reading.{Finished}
-use Rattle.ion_value.specs.ReadingLaws.{ending_of}
+use Rattle.ion_binary.proofs.Below.{false, ◌≡◌, ℕ, List, [], ◌∷◌, refl, Reason, Rules, SymbolAt, Path, Finished, ending_of}
 use Rattle.ion_binary.specs.Positions.{State}
 use Rattle.ion_binary.specs.Paths.{At}
 use Rattle.ion_binary.specs.Laws.{Passes}

@@ -1,12 +1,6 @@
 -- Where rules permit the items of a path, they permit those of what its last value follows, and that value.
-use Rattle.std.proofs.Common.{ℕ, List, [], ◌∷◌, ◌++◌, Option, None}
-use Rattle.ion_meter.specs.declared.profile.Rules.{Rules}
-use Rattle.ion_value.specs.declared.ion_type.Kind.{Kind}
-use Rattle.ion_value.specs.Path.{Path, closed, opened, open_in, begin_item, nest_items, path_items}
-use Rattle.ion_value.specs.ReadingLaws.{ArePermitted, HeadIsPermitted, IsPermitted}
+use Rattle.ion_binary.proofs.Below.{ℕ, List, [], ◌∷◌, ◌++◌, Option, None, Rules, Kind, Path, closed, opened, open_in, begin_item, nest_items, path_items, ArePermitted, HeadIsPermitted, IsPermitted, Members, PlacedItem, Scalar, Symbol, SymbolAt, Top, Value, member_items, one_top, top_items, MembersArePermitted, ValueIsPermitted, members-permitted, value-permitted}
 use Rattle.ion_value.specs.Value as value
-use Rattle.ion_value.specs.Value.{Members, PlacedItem, Scalar, Symbol, SymbolAt, Top, Value, member_items, one_top, top_items}
-use Rattle.ion_value.proofs.Permitted.{MembersArePermitted, ValueIsPermitted, members-permitted, value-permitted}
 use Rattle.ion_binary.specs.Positions.{placed_scalar}
 use Rattle.ion_binary.proofs.Elements.{all-append, all-left, all-right}
 

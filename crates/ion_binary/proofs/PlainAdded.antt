@@ -1,28 +1,16 @@
 -- A plain item that is added to an open value is that of the streaming definition.
-use Rattle.std.proofs.Common.{◌≡◌, ℕ, ◌+◌, ◌-◌, ◌/◌, ◌<◌, ◌≤◌, ◌⊎◌, inl, subst, nat_lt, Bool, true, false, if◌then◌else◌, List, [], ◌∷◌, ◌++◌, length, map, take, drop, Option, Some, None, unwrap_or, option_map, Ok, refl, ap, sym, ◌∙◌, arith, append-nil, append_assoc, le-ltb}
-use Rattle.std.specs.Prelude.{IfSome}
-use Rattle.ion_meter.specs.Counts.{Counts}
-use Rattle.ion_meter.specs.Windows.{Outgoing}
-use Rattle.ion_meter.specs.declared.limits.Limits.{Limits}
-use Rattle.ion_meter.specs.declared.fault.Reason.{Reason}
-use Rattle.ion_value.specs.declared.plain_item.PlainItem.{PlainItem}
-use Rattle.ion_value.specs.declared.plain_item.TextAt.{TextAt}
-use Rattle.ion_value.specs.Items.{raw_head}
-use Rattle.ion_value.specs.PlainItems.{listed, placed_item, placed_text, single_item, with_second}
+use Rattle.ion_binary.proofs.Below.{◌≡◌, ℕ, ◌+◌, ◌-◌, ◌/◌, ◌<◌, ◌≤◌, ◌⊎◌, inl, subst, nat_lt, Bool, true, false, if◌then◌else◌, List, [], ◌∷◌, ◌++◌, length, map, take, drop, Option, Some, None, unwrap_or, option_map, Ok, refl, ap, sym, ◌∙◌, arith, append-nil, append_assoc, IfSome, Counts, Outgoing, Limits, Reason, PlainItem, TextAt, raw_head, listed, placed_item, placed_text, single_item, with_second, Head, Known, PlacedItem, SymbolAt, UserSymbol, map_head, user_item, user_symbol_at, known_id, or_given, position, system_texts, texts_cost, var_uint_octets, field_symbols}
+use Rattle.std.proofs.Common.{le-ltb}
 use Rattle.ion_value.specs.Value as value
-use Rattle.ion_value.specs.Value.{Head, Known, PlacedItem, SymbolAt, UserSymbol, map_head, user_item, user_symbol_at}
-use Rattle.ion_symbols.specs.Output.{known_id, or_given, position, system_texts, texts_cost}
 use Rattle.ion_binary.specs.declared.headers.HeaderPlace.{HeaderPlace}
 use Rattle.ion_binary.specs.declared.open_value.OpenValue.{OpenValue}
 use Rattle.ion_binary.specs.declared.writer.BinWriter.{BinWriter}
-use Rattle.ion_value.specs.Number.{var_uint_octets}
 use Rattle.ion_binary.specs.Canonical.{annotation_octets, declaration, header, marker_if, field_octets, id_in, id_octets, member_octets, wrapped, with_symbol, with_symbols, with_text}
 use Rattle.ion_binary.specs.Held.{Held, closed_in, counted_ids, headed_at, headers_around, headers_with, held_forgotten, held_of, ids_place, moved_headers, moved_octets, octets_with, size_of, value_held, value_put, whole_at, with_front, with_names}
 use Rattle.ion_binary.specs.ItemOctets.{head_octets}
 use Rattle.ion_binary.specs.Opening.{AddsOctets, IsOpen, MayAdd, MayCome, Stepped, name_octets, noted, noted_by}
 use Rattle.ion_binary.specs.Plain.{AddsPlain, HaveIds, IsWhole, TakesPlain}
 use Rattle.ion_binary.specs.Writer.{CanTake, ComesAt, Follows, Taken, added, adds_at, held_in, item_refusal}
-use Rattle.ion_value.specs.Writable.{field_symbols}
 use Rattle.ion_binary.specs.Writing.{Written, first_over, head_symbols, item_puts, item_symbols, refused_at, unless_refused}
 use Rattle.ion_binary.proofs.HeldMoves.{counted-are, whole-is}
 use Rattle.ion_binary.proofs.NotedOctets.{named-octets}
@@ -149,13 +137,11 @@ plain-taken w v before after c s = record {
   failed = refl;
   memory = s.memory;
   charges =
-      let texts = c.sound.share in
       let held = s.charges.held in
       let share = s.charges.share in
       let peak = s.charges.peak in
       let rises = s.charges.rises in
-      let own = c.held in
-      record { held = omega (arith, held); share = omega (arith, share, texts); peak = omega (arith, peak, texts, own); rises = rises };
+      record { held = omega (arith, held); share = omega (arith, share, c.sound.share); peak = omega (arith, peak, c.sound.share, c.held); rises = rises };
 }
 
 -- it was added, if the call says so
@@ -387,8 +373,7 @@ module _ {A : Type 0} (w : BinWriter A) (o : HeaderPlace) (item : PlacedItem) (x
       let long = put-length o octets placed.0 in
       let put = closed-put (length octets) o [] placed in
       let before : size_of octets w.open_value.headers ≡ size_of octets (o ∷ []) = ap (size_of octets) one in
-      let fits = open_now.fits in
-      not-refused w.limits (held_in w) item allowed (omega (arith, same, long, put, before, fits))
+      not-refused w.limits (held_in w) item allowed (omega (arith, same, long, put, before, open_now.fits))
 
 -- two parts are put
 pub both-put : {O : Type 0} (sink first put : Outgoing O) (x y a b : List ℕ) → first ≡ record sink { pending = sink.pending ++ a } → a ≡ x

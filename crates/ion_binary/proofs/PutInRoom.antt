@@ -1,10 +1,7 @@
 -- Octets that are put where there is surely room for them: what a call keeps and moves, whether it puts them or declines.
-use Rattle.std.proofs.Common.{◌≡◌, ℕ, suc, ◌+◌, ◌*◌, ◌≤◌, Bool, true, false, List, [], length, None, refl, ap, sym, subst, arith, length-append}
-use Rattle.ion_meter.specs.Counts.{Counts, Grows}
-use Rattle.ion_meter.specs.declared.limits.Limits.{Limits}
+use Rattle.ion_binary.proofs.Below.{◌≡◌, ℕ, suc, ◌+◌, ◌*◌, ◌≤◌, Bool, true, false, List, [], length, None, refl, ap, sym, subst, arith, length-append, Counts, Grows, Limits, Kind}
 use Rattle.ion_binary.specs.declared.headers.HeaderPlace.{HeaderPlace}
 use Rattle.ion_binary.specs.declared.open_value.OpenValue.{OpenValue}
-use Rattle.ion_value.specs.declared.ion_type.Kind.{Kind}
 use Rattle.ion_binary.specs.Late.{Content, appended}
 use Rattle.ion_binary.specs.Opening.{AddsOctets, Begins, CanAdd, CanStep, Stepped}
 use Rattle.ion_binary.proofs.Contents.{costed-by}
@@ -14,10 +11,7 @@ pub room-stepped : {A : Type 0} (limits : Limits) (v w : OpenValue A) (m n : Cou
     → (result ≡ true → w.octets ≡ appended v.octets x) → (result ≡ true → Grows m n (length x)) → (result ≡ false → (w.octets ≡ v.octets) × (n ≡ m))
     → length v.octets.all + length x ≤ limits.value → w.room ≡ v.room → Stepped limits v w m n None
 room-stepped limits v w m n x true can same longer grows declines room kept =
-    let beside = can.within.room in
     let g = grows refl in
-    let gh = g.held in
-    let gp = g.peak in
     let e = longer refl in
     let sum = length-append v.octets.all x in
     let long : length w.octets.all ≡ length (appended v.octets x).all = ap (λ (c : Content). length c.all) e in
@@ -27,35 +21,31 @@ room-stepped limits v w m n x true can same longer grows declines room kept =
     let before = can.within.headers in
     let held = can.held in
     let costed = costed-by v.octets w.octets x can.within.costed e in
-    let most = costed.most in
     record {
-      within = record { octets = omega (arith, long, sum, room); headers = omega (arith, few, late, before); costed = costed; room = omega (arith, few, late, beside, kept) };
+      within = record { octets = omega (arith, long, sum, room); headers = omega (arith, few, late, before); costed = costed; room = omega (arith, few, late, can.within.room, kept) };
       memory = record { memory = λ e. absurd (Prim.cc e); counted = λ e. g.refused };
       alone = λ f e. absurd (Prim.cc e);
       charges =
           record {
-            held = omega (arith, gh, cost, few);
-            share = omega (arith, most, long, sum, few, late, room, before);
-            peak = omega (arith, gh, gp, cost, most, long, sum, few, late, held, room, before);
-            rises = omega (arith, gp);
+            held = omega (arith, g.held, cost, few);
+            share = omega (arith, costed.most, long, sum, few, late, room, before);
+            peak = omega (arith, g.held, g.peak, cost, costed.most, long, sum, few, late, held, room, before);
+            rises = omega (arith, g.peak);
           };
     }
 room-stepped {A} limits v w m n x false can same longer grows declines room kept =
-    let beside = can.within.room in
     let d = declines refl in
     let few : length w.headers ≡ length v.headers = ap (λ (hs : List HeaderPlace). length hs) same in
-    let before = can.within.headers in
     let short = can.within.octets in
-    let most = can.within.costed.most in
     let After : Content → Counts → Type 0 = λ c o. Stepped {A = A} limits v (record w { octets = c }) m o None in
     subst (After w.octets) (sym d.1)
     (subst (λ (c : Content). After c m) (sym d.0)
     (record {
-      within = record { octets = short; headers = omega (arith, few, before); costed = can.within.costed; room = omega (arith, few, beside, kept) };
+      within = record { octets = short; headers = omega (arith, few, can.within.headers); costed = can.within.costed; room = omega (arith, few, can.within.room, kept) };
       memory = record { memory = λ e. absurd (Prim.cc e); counted = λ e. refl };
       alone = λ f e. absurd (Prim.cc e);
       charges =
-          record { held = omega (arith, few); share = omega (arith, most, few, short, before); peak = omega arith; rises = omega arith };
+          record { held = omega (arith, few); share = omega (arith, can.within.costed.most, few, short, can.within.headers); peak = omega arith; rises = omega arith };
     }))
 
 pub room-adds : {A : Type 0} (limits : Limits) (v : OpenValue A) (y : Content) (x : List ℕ) (m n : Counts) (k : ℕ) (result : Bool) → CanAdd limits v m → length x ≡ k
@@ -79,8 +69,7 @@ not-added {A} {limits} {v} {m} {x} can = record {
   is_open = λ is. absurd (Prim.cc is);
   declines = λ no. (refl, refl);
   stepped =
-      let short = can.can_step.within.octets in
-      room-stepped limits v v m m [] false can.can_step refl (λ is. absurd (Prim.cc is)) (λ is. absurd (Prim.cc is)) (λ no. (refl, refl)) (omega (arith, short)) refl;
+      room-stepped limits v v m m [] false can.can_step refl (λ is. absurd (Prim.cc is)) (λ is. absurd (Prim.cc is)) (λ no. (refl, refl)) (omega (arith, can.can_step.within.octets)) refl;
 }
 
 -- nothing begins
@@ -100,31 +89,27 @@ pub begun-stepped : {A : Type 0} (limits : Limits) (v w : OpenValue A) (m n : Co
     → length w.headers ≡ suc (length v.headers) → Grows m n (8 + length x) → length v.octets.all + length x ≤ limits.value → length v.headers + 2 * v.octets.late + 1 ≤ 2 * limits.depth
     → w.room + 6 ≡ v.room → Stepped limits v w m n None
 begun-stepped limits v w m n x can longer more g room deep kept =
-    let gh = g.held in
-    let gp = g.peak in
     let sum = length-append v.octets.all x in
     let long : length w.octets.all ≡ length (appended v.octets x).all = ap (λ (c : Content). length c.all) longer in
     let late : w.octets.late ≡ v.octets.late = ap (λ (c : Content). c.late) longer in
     let cost : w.octets.cost ≡ v.octets.cost + length x = ap (λ (c : Content). c.cost) longer in
     let held = can.held in
-    let beside = can.within.room in
     let costed = costed-by v.octets w.octets x can.within.costed longer in
-    let most = costed.most in
     record {
       within = record {
         octets = omega (arith, long, sum, room);
         headers = omega (arith, more, late, deep);
         costed = costed;
-        room = omega (arith, more, late, beside, kept);
+        room = omega (arith, more, late, can.within.room, kept);
       };
       memory = record { memory = λ e. absurd (Prim.cc e); counted = λ e. g.refused };
       alone = λ f e. absurd (Prim.cc e);
       charges =
           record {
-            held = omega (arith, gh, cost, more);
-            share = omega (arith, most, long, sum, more, late, room, deep);
-            peak = omega (arith, gh, gp, cost, most, long, sum, more, late, held, room, deep);
-            rises = omega (arith, gp);
+            held = omega (arith, g.held, cost, more);
+            share = omega (arith, costed.most, long, sum, more, late, room, deep);
+            peak = omega (arith, g.held, g.peak, cost, costed.most, long, sum, more, late, held, room, deep);
+            rises = omega (arith, g.peak);
           };
     }
 

@@ -1,15 +1,5 @@
 -- The values of a stream are as streams have them.
-use Rattle.std.proofs.Common.{◌≡◌, ℕ, ◌+◌, ◌<◌, List, [], ◌∷◌, ◌++◌, length, Option, None, is_some, refl, subst}
-use Rattle.std.specs.List.{AllByRecursion}
-use Rattle.std.specs.Result.{IfOk}
-use Rattle.ion_value.specs.declared.timestamp.Timestamp.{Timestamp}
-use Rattle.ion_value.specs.declared.ion_type.Kind.{Kind}
-use Rattle.ion_value.specs.Standing.{InRange, in_struct}
-use Rattle.ion_value.specs.Timestamp.{IsTimestamp, timestamp_of_bytes}
-use Rattle.ion_value.specs.Value.{Symbol, SymbolAt, Scalar, Value, Members, Top, version, tree}
-use Rattle.ion_value.specs.Writable.{AreBytes, AreWritable, HasBytes, HasText, IsRaw, IsWritable, MembersHaveBytes, SymbolIsText, ValueHasBytes, field_symbols, members_symbols, scalar_symbols, value_symbols}
-use Rattle.ion_value.proofs.TimestampOctets.{bytes-reading}
-use Rattle.ion_float.proofs.OctetLaws.{octets-IsFloat}
+use Rattle.ion_binary.proofs.Below.{◌≡◌, ℕ, ◌+◌, ◌<◌, List, [], ◌∷◌, ◌++◌, length, Option, None, is_some, refl, subst, AllByRecursion, IfOk, Timestamp, Kind, InRange, in_struct, IsTimestamp, timestamp_of_bytes, Symbol, SymbolAt, Scalar, Value, Members, Top, version, tree, AreBytes, AreWritable, HasBytes, HasText, IsRaw, IsWritable, MembersHaveBytes, SymbolIsText, ValueHasBytes, field_symbols, members_symbols, scalar_symbols, value_symbols, bytes-reading, octets-IsFloat}
 use Rattle.ion_binary.specs.Grammar.{TimestampBody, Body, Plain, Ids, Field, Wrapper, Annotated, Bin, Inside, Tops}
 use Rattle.ion_binary.specs.Laws.{StreamsAreRaw}
 use Rattle.ion_binary.specs.Positions.{placed_scalar}

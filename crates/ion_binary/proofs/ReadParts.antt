@@ -1,17 +1,8 @@
 -- What a scanner finds, and then what follows it, is what reading finds of a descriptor octet.
-use Rattle.std.proofs.Common.{arith, refl, sym, ap, ◌∙◌, ◌≡◌, ℕ, ◌+◌, ◌/◌, ◌^◌, ◌<◌, Bool, true, false, ◌&&◌, not, nat_eq, nat_le, nat_lt, if◌then◌else◌, List, [], ◌∷◌, length, take, Option, Some, None, Result, Ok, Err}
-use Rattle.std.proofs.lemmas.Bool.{eq-eqb, le-ltb, leb-false}
-use Rattle.ion_meter.specs.declared.fault.Reason.{Reason}
-use Rattle.ion_meter.specs.declared.fault.Reason.TheVariants.{BadAnnotation, BadDescriptor, DepthLimit, Float, Overrun, ScalarLimit, Truncated}
-use Rattle.ion_meter.specs.declared.profile.Rules.{Rules}
-use Rattle.ion_meter.specs.Sources.{Cursor, skip}
-use Rattle.ion_value.specs.declared.ion_type.Kind.{Kind}
+use Rattle.ion_binary.proofs.Below.{arith, refl, sym, ap, ◌∙◌, ◌≡◌, ℕ, ◌+◌, ◌/◌, ◌^◌, ◌<◌, Bool, true, false, ◌&&◌, not, nat_eq, nat_le, nat_lt, if◌then◌else◌, List, [], ◌∷◌, length, take, Option, Some, None, Result, Ok, Err, le-ltb, leb-false, Reason, BadAnnotation, BadDescriptor, DepthLimit, Float, Overrun, ScalarLimit, Truncated, Rules, Cursor, skip, Kind, ◌>>=◌, ◌>>◌, Placed, part, refuse, Step, scalar_of_body, Symbol, SymbolAt, Scalar}
+use Rattle.std.proofs.lemmas.Bool.{eq-eqb}
 use Rattle.ion_value.specs.declared.ion_type.Kind.TheVariants as kind
-use Rattle.ion_value.specs.Parts.{◌>>=◌, ◌>>◌, Placed, part, refuse}
-use Rattle.ion_value.specs.Reading.{Step}
-use Rattle.ion_value.specs.Scalar.{scalar_of_body}
 use Rattle.ion_value.specs.Value as value
-use Rattle.ion_value.specs.Value.{Symbol, SymbolAt, Scalar}
 use Rattle.ion_binary.specs.declared.scan.Found.{Found}
 use Rattle.ion_binary.specs.declared.scan.Found.TheVariants as found
 use Rattle.ion_binary.specs.Descriptor.{Region, Shape, falls_short, first_octet, is_unwrappable, length_at, octet_at, passes, shape_of}

@@ -1,25 +1,9 @@
 -- What is read is permitted: a float only where floats are read.
-use Rattle.std.proofs.Common.{◌≡◌, ℕ, zero, suc, ◌/◌, ◌%◌, Bool, true, false, not, ◌&&◌, if◌then◌else◌, nat_eq, nat_le, nat_lt, List, [], ◌∷◌, length, take, Option, Some, None, Result, Ok, Err, refl, rules}
-use Rattle.std.specs.List.{AllByRecursion}
-use Rattle.std.specs.Result.{IfOk}
-use Rattle.std.specs.Str.{is_utf8}
-use Rattle.ion_meter.specs.Sources.{Cursor, skip}
-use Rattle.ion_meter.specs.declared.fault.Reason.{Reason}
+use Rattle.ion_binary.proofs.Below.{◌≡◌, ℕ, zero, suc, ◌/◌, ◌%◌, Bool, true, false, not, ◌&&◌, if◌then◌else◌, nat_eq, nat_le, nat_lt, List, [], ◌∷◌, length, take, Option, Some, None, Result, Ok, Err, refl, rules, AllByRecursion, IfOk, is_utf8, Cursor, skip, Reason, Rules, Kind, Placed, part, refuse, ◌>>◌, Step, items_of, IsPermitted, ArePermitted, with_value, decimal_of_bytes, int_of_bytes, timestamp_of_bytes, Symbol, SymbolAt, Scalar, GivesPermitted, reading-permitted, scalar-all, if-any, if-next, if-passed, if-then}
 use Rattle.ion_meter.specs.declared.fault.Reason.TheVariants as reason
-use Rattle.ion_meter.specs.declared.profile.Rules.{Rules}
-use Rattle.ion_value.specs.declared.ion_type.Kind.{Kind}
 use Rattle.ion_value.specs.declared.ion_type.Kind.TheVariants as kind
-use Rattle.ion_value.specs.Parts.{Placed, part, refuse, ◌>>◌}
-use Rattle.ion_value.specs.Reading.{Step, items_of}
-use Rattle.ion_value.specs.ReadingLaws.{IsPermitted, ArePermitted}
-use Rattle.ion_value.specs.Scalar.{scalar_of_body, with_value}
-use Rattle.ion_value.specs.Decimal.{decimal_of_bytes}
-use Rattle.ion_value.specs.Int.{int_of_bytes}
-use Rattle.ion_value.specs.Timestamp.{timestamp_of_bytes}
+use Rattle.ion_value.specs.Scalar.{scalar_of_body}
 use Rattle.ion_value.specs.Value as value
-use Rattle.ion_value.specs.Value.{Symbol, SymbolAt, Scalar}
-use Rattle.ion_value.proofs.Permitted.{GivesPermitted, reading-permitted, scalar-all}
-use Rattle.ion_value.proofs.WentWell.{if-any, if-next, if-passed, if-then}
 use Rattle.ion_binary.specs.Positions.{Frame, State, placed_scalar}
 use Rattle.ion_binary.specs.Descriptor.{Shape, bool_shape, length_at, null_shapes, octet_at, passes, shape_of, sized_shapes, struct_shape, var_uint_at, wrapper_shape, falls_short, is_unwrappable}
 use Rattle.ion_binary.specs.Reading as reading

@@ -1,19 +1,12 @@
 -- Where a reading stops, and not at a limit, the bytes are no stream of permitted values; and such a stream that passes no limit is read to its end.
-use Rattle.std.proofs.Common.{◌≡◌, ℕ, ◌+◌, ◌*◌, inl, inr, List, ◌++◌, length, refl, sym, ap, ◌∙◌, arith}
-use Rattle.ion_meter.specs.declared.fault.Reason.{Reason}
-use Rattle.ion_meter.specs.declared.profile.Rules.{Rules}
-use Rattle.ion_value.specs.Value.{PlacedItem, top_items}
-use Rattle.ion_value.specs.Reading.{Reading, Finished, Stopped, items_of, items_then}
-use Rattle.ion_value.specs.Path.{closed, path_items}
-use Rattle.ion_value.specs.ReadingLaws.{ending_of, IsLimit, AreWithin}
-use Rattle.ion_value.proofs.ReadingLaws.{ending_of-items_then}
+use Rattle.ion_binary.proofs.Below.{◌≡◌, ℕ, ◌+◌, ◌*◌, inl, inr, List, ◌++◌, length, refl, sym, ap, ◌∙◌, arith, Reason, Rules, PlacedItem, top_items, Finished, Stopped, items_of, items_then, closed, path_items, ending_of, IsLimit, AreWithin, ending_of-items_then, permitted-alike}
+use Rattle.ion_value.specs.Reading.{Reading}
 use Rattle.ion_binary.specs.Laws.{Bodies, IsNarrower, IsCut, here, later, RightlyRefused, NoStreamBegins, WithinLimitsAreRead}
 use Rattle.ion_binary.specs.Reading.{reading}
 use Rattle.ion_binary.proofs.ExactLimits.{exact_limits}
 use Rattle.ion_binary.proofs.Narrow.{narrow}
 use Rattle.ion_binary.proofs.Stable.{stable}
 use Rattle.ion_binary.proofs.Complete.{Shrinking, streams}
-use Rattle.ion_value.proofs.Permitted.{permitted-alike}
 
 -- rules that permit floats where others do refuse nothing but for a limit
 narrower-limit : (limits wide : Rules) → limits.floats ≡ wide.floats → (reason : Reason) → IsNarrower limits wide reason → IsLimit reason
@@ -21,7 +14,7 @@ narrower-limit limits wide same reason (inl is) = is
 narrower-limit limits wide same reason (inr differ) = absurd (differ.1 same)
 
 -- a reading that is cut short so stops at a limit
-cut-limit : (limits wide : Rules) → limits.floats ≡ wide.floats → (r s : Reading) → IsCut limits wide r s → (reason : Reason) (place : ℕ) → ending_of r ≡ Stopped reason place → IsLimit reason
+pub cut-limit : (limits wide : Rules) → limits.floats ≡ wide.floats → (r s : Reading) → IsCut limits wide r s → (reason : Reason) (place : ℕ) → ending_of r ≡ Stopped reason place → IsLimit reason
 cut-limit limits wide same _ _ (here why q s is) reason place e = let why_is : why ≡ reason = cc e in rw (← why_is) (narrower-limit limits wide same why is)
 cut-limit limits wide same _ _ (later item r s cut) reason place e = cut-limit limits wide same r s cut reason place e
 

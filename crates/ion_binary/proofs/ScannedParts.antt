@@ -1,25 +1,7 @@
 -- What scanners show of octets in a window is what reading gives there.
-use Rattle.std.proofs.Common.{◌≡◌, ℕ, suc, ◌+◌, ◌-◌, ◌^◌, ◌<◌, ◌≤◌, ◌&&◌, ◌==◌, Bool, true, false, if◌then◌else◌, List, [], ◌∷◌, ◌++◌, length, take, drop, get_or, inl, inr, Some, None, slice_get, Result, Ok, Err, refl, ap, sym, ◌∙◌, arith, add-one}
-use Rattle.std.proofs.lemmas.Bool.{cases_lt, eqb-false, eqb-true, le-leb, lt-leb}
-use Rattle.std.proofs.lemmas.Grind.{common_steps}
-use Rattle.std.proofs.lemmas.Option.{slice_get-get_or}
-use Rattle.std.proofs.Math.ListN.{get_or-append}
-use Rattle.std.proofs.Math.Seq.{drop-cons}
-use Rattle.std.proofs.lemmas.List.{drop-append-le, drop-drop, take-append-drop, take_all, append-nil}
+use Rattle.ion_binary.proofs.Below.{◌≡◌, ℕ, suc, ◌+◌, ◌-◌, ◌^◌, ◌<◌, ◌≤◌, ◌&&◌, ◌==◌, Bool, true, false, if◌then◌else◌, List, [], ◌∷◌, ◌++◌, length, take, drop, get_or, inl, inr, Some, None, slice_get, Result, Ok, Err, refl, ap, sym, ◌∙◌, arith, add-one, cases_lt, eqb-false, eqb-true, le-leb, lt-leb, common_steps, slice_get-get_or, get_or-append, drop-cons, drop-append-le, drop-drop, take-append-drop, take_all, Fault, Refused, Memory, ReadFault, WriteFault, InputLimit, Reason, BadAnnotation, Overrun, Truncated, Rules, Cursor, Moves, Stands, cursor, skip, Incoming, IsPassed, left, lent, lent-CanPass, lent-take, Answers, ◌>>◌, refuse, Reads, moves-then, IsPassed-cursor, IsPassed-moves}
+use Rattle.std.proofs.lemmas.List.{append-nil}
 use Rattle.ion_meter.specs.declared.device.Input.{Ghosts as InputOf}
-use Rattle.ion_meter.specs.declared.fault.Fault.{Fault}
-use Rattle.ion_meter.specs.declared.fault.Fault.TheVariants.{Refused, Memory, ReadFault, WriteFault, InputLimit}
-use Rattle.ion_meter.specs.declared.fault.Reason.{Reason}
-use Rattle.ion_meter.specs.declared.fault.Reason.TheVariants.{BadAnnotation, Overrun, Truncated}
-use Rattle.ion_meter.specs.declared.profile.Rules.{Rules}
-use Rattle.ion_meter.specs.Sources.{Cursor, Moves, Stands, cursor, skip}
-use Rattle.ion_meter.specs.Windows.{Incoming, IsPassed, left, lent}
-use Rattle.ion_meter.proofs.Lent.{lent-CanPass, lent-take}
-use Rattle.ion_value.specs.Answers.{Answers}
-use Rattle.ion_value.specs.Parts.{◌>>◌, refuse}
-use Rattle.ion_value.specs.Calls.{Reads}
-use Rattle.ion_value.proofs.Cursors.{moves-then}
-use Rattle.ion_value.proofs.Passing.{IsPassed-cursor, IsPassed-moves}
 use Rattle.ion_binary.specs.declared.scan.Found.{Found}
 use Rattle.ion_binary.specs.declared.scan.Scanned.TheVariants.{Whole, Fault as Faulty, Cut}
 use Rattle.ion_binary.specs.Descriptor.{Region, Shape, first_octet, is_at_end, is_unwrappable, length_at, octet_at, shape_of}

@@ -1,17 +1,7 @@
 -- The octets of a coefficient of 63 bits: those of a number of 64 bits without those at the front that are zeros, where the highest bit left
 -- is room for the sign.
-use Rattle.std.proofs.Common.{◌≡◌, ℕ, zero, suc, ◌+◌, ◌-◌, ◌*◌, ◌/◌, ◌%◌, ◌^◌, ◌<◌, ◌≤◌, inl, inr, Bool, true, false, leb, if◌then◌else◌, List, [], ◌∷◌, ◌++◌, length, take, drop, get_or, refl, ap, sym, subst, ◌∙◌, arith}
-use Rattle.std.specs.Int.{byte_at, bytes_high_first, leading_zeros, w64}
-use Rattle.std.proofs.lemmas.Bool.{cases_lt, lt-leb, le-leb, lt-ltb}
-use Rattle.std.proofs.lemmas.Nat.{div-add-mod', div-mul-add, mod-mul-add, mod_below, leading_length, pow-add, shl_whole}
-use Rattle.std.proofs.Math.Nat.{pow-zero, pow-suc, pow-le-pow_right, mul-div_cancel, mul_assoc, mul-le-mul_right, mul-lt-mul_of_pos_right, add-mul}
-use Rattle.std.proofs.lemmas.Grind.{common_steps}
-use Rattle.ion_value.specs.Number.{number, digits_in, digits_within, marked, with_sign, coefficient_octets, var_int_octets}
-use Rattle.ion_value.specs.declared.decimal.Decimal.{Decimal}
-use Rattle.ion_value.specs.Decimal.{decimal_body, exponent_octets, is_nothing}
-use Rattle.ion_value.proofs.DecimalOctets.{decimal_body-parts}
-use Rattle.ion_value.proofs.Fields.{byte-bytes_high_first, length-bytes_high_first, pow-256}
-use Rattle.ion_value.proofs.Octets.{Below-from, Signing, Signing-fewest, digits_in-Digits, low-same, number-same, with_sign-Signing}
+use Rattle.ion_binary.proofs.Below.{◌≡◌, ℕ, zero, suc, ◌+◌, ◌-◌, ◌*◌, ◌/◌, ◌%◌, ◌^◌, ◌<◌, ◌≤◌, inl, inr, Bool, true, false, leb, if◌then◌else◌, List, [], ◌∷◌, ◌++◌, length, take, drop, get_or, refl, ap, sym, subst, ◌∙◌, arith, byte_at, bytes_high_first, leading_zeros, w64, cases_lt, lt-leb, le-leb, lt-ltb, div-add-mod', div-mul-add, mod-mul-add, mod_below, leading_length, pow-add, shl_whole, pow-zero, pow-suc, pow-le-pow_right, mul-div_cancel, mul_assoc, mul-le-mul_right, mul-lt-mul_of_pos_right, add-mul, common_steps, number, digits_in, marked, with_sign, coefficient_octets, var_int_octets, Decimal, decimal_body, exponent_octets, is_nothing, decimal_body-parts, byte-bytes_high_first, length-bytes_high_first, pow-256, Below-from, Signing, Signing-fewest, digits_in-Digits, low-same, number-same, with_sign-Signing}
+use Rattle.ion_value.specs.Number.{digits_within}
 use Rattle.ion_binary.proofs.ShortestHeaders.{one-digit}
 use Rattle.ion_binary.proofs.ShortInts.{byte_at-div, high-part, uint-all}
 
@@ -142,14 +132,12 @@ pub one-zero : (n : ℕ) → n < 2 ^ 63 → 1 ≤ leading_zeros w64 n
 one-zero n small =
     let bits = leading_length 64 n (omega (arith, small)) in
     let m : ℕ = bits.0 in
-    let all = bits.1 in
     elim (cases_lt m 64) [
-      | inl less ↦ omega (arith, all, less)
+      | inl less ↦ omega (arith, bits.1, less)
       | inr more ↦
-          let most : m ≡ 64 = omega (arith, all, more) in
+          let most : m ≡ 64 = omega (arith, bits.1, more) in
           let power : 2 ^ m ≡ 2 ^ 64 = ap (λ (i : ℕ). 2 ^ i) most in
-          let least = bits.3 in
-          absurd (omega (arith, small, power, least))
+          absurd (omega (arith, small, power, bits.3))
     ]
 
 sign-high : (negative : Bool) (y : ℕ) → y ≡ 256 ^ 7 → (if negative then 2 ^ 63 else 0) ≡ sign_bit negative * y
@@ -172,12 +160,11 @@ module _ (n z : ℕ) (negative : Bool) (some : 0 < n) (small : n < 2 ^ 63) (is :
   moved-is =
       let bits = leading_length 64 n (omega (arith, small)) in
       let m : ℕ = bits.0 in
-      let all = bits.1 in
       let one = one-zero n small in
       let f = few-zeros in
       let e : 8 * z % 64 ≡ 8 * z = omega (arith, f) in
       ap (λ (i : ℕ). (n * 2 ^ i) % 2 ^ 64) e
-      ∙ (shl_whole n m (8 * z) 64 bits.2 (omega (arith, is, all, one)) ∙ ap (λ (x : ℕ). n * x) (sym (pow-256 z)))
+      ∙ (shl_whole n m (8 * z) 64 bits.2 (omega (arith, is, bits.1, one)) ∙ ap (λ (x : ℕ). n * x) (sym (pow-256 z)))
 
   seven-octets : 256 ^ (7 - z) * 256 ^ z ≡ 256 ^ 7
   seven-octets = let f = few-zeros in let e : (7 - z) + z ≡ 7 = omega (arith, f) in sym (pow-add 256 (7 - z) z) ∙ ap (λ (i : ℕ). 256 ^ i) e
@@ -189,24 +176,20 @@ module _ (n z : ℕ) (negative : Bool) (some : 0 < n) (small : n < 2 ^ 63) (is :
   within-bits =
       let bits = leading_length 64 n (omega (arith, small)) in
       let m : ℕ = bits.0 in
-      let all = bits.1 in
-      let below = bits.2 in
       let one = one-zero n small in
       let f = few-zeros in
-      let up : 2 ^ m ≤ 2 ^ (7 + 8 * (7 - z)) = pow-le-pow_right {n = 2} (omega arith) (omega (arith, is, all, one, f)) in
+      let up : 2 ^ m ≤ 2 ^ (7 + 8 * (7 - z)) = pow-le-pow_right {n = 2} (omega arith) (omega (arith, is, bits.1, one, f)) in
       let a : 2 ^ (7 + 8 * (7 - z)) ≡ 2 ^ 7 * 2 ^ (8 * (7 - z)) = pow-add 2 7 (8 * (7 - z)) in
       let b = pow-256 (7 - z) in
-      omega (arith, below, up, a, b)
+      omega (arith, bits.2, up, a, b)
 
   least-octets : 256 ^ (7 - z) ≤ 2 * n + 1
   least-octets =
       let bits = leading_length 64 n (omega (arith, small)) in
       let m : ℕ = bits.0 in
-      let all = bits.1 in
-      let top = bits.3 in
-      let up : 2 ^ (8 * (7 - z)) ≤ 2 ^ m = pow-le-pow_right {n = 2} (omega arith) (omega (arith, is, all)) in
+      let up : 2 ^ (8 * (7 - z)) ≤ 2 ^ m = pow-le-pow_right {n = 2} (omega arith) (omega (arith, is, bits.1)) in
       let b = pow-256 (7 - z) in
-      omega (arith, top, up, b)
+      omega (arith, bits.3, up, b)
 
   power-some : 0 < 256 ^ z
   power-some = octets-some z

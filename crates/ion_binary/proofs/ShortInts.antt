@@ -1,16 +1,6 @@
 -- The octets of a number of 64 bits without those at the front that are zeros: as `ion_value` shows it of 128 bits, whose lemmas are its
 -- own.
-use Rattle.std.proofs.Common.{◌≡◌, ℕ, zero, suc, ◌+◌, ◌-◌, ◌*◌, ◌/◌, ◌%◌, ◌^◌, ◌<◌, ◌≤◌, inl, inr, List, ◌∷◌, length, take, drop, refl, ap, sym, subst, ◌∙◌, arith}
-use Rattle.std.specs.Int.{byte_at, bytes_high_first, leading_zeros, w64}
-use Rattle.std.proofs.lemmas.Bool.{cases_lt}
-use Rattle.std.proofs.lemmas.List.{length-drop, get_or-drop}
-use Rattle.std.proofs.lemmas.List.Elements.{All-get_or, All-from_get_or}
-use Rattle.std.proofs.lemmas.Nat.{mod-pow-add, leading_length, pow-add, shl_whole, shl-shr}
-use Rattle.std.proofs.Math.Nat.{pow-zero, pow-suc, pow-le-pow_right, mod-eq_of_lt, div-div-eq-div-mul}
-use Rattle.ion_value.specs.Number.{uint, uint_octets}
-use Rattle.ion_value.proofs.Numbers.{uint-lt}
-use Rattle.ion_value.proofs.Fields.{ShortestUInt, byte-bytes_high_first, length-bytes_high_first, pow-256, uint-drop}
-use Rattle.ion_value.proofs.Octets.{uint-spelled}
+use Rattle.ion_binary.proofs.Below.{◌≡◌, ℕ, zero, suc, ◌+◌, ◌-◌, ◌*◌, ◌/◌, ◌%◌, ◌^◌, ◌<◌, ◌≤◌, inl, inr, List, ◌∷◌, length, take, drop, refl, ap, sym, subst, ◌∙◌, arith, byte_at, bytes_high_first, leading_zeros, w64, cases_lt, length-drop, get_or-drop, All-get_or, All-from_get_or, mod-pow-add, leading_length, pow-add, shl_whole, shl-shr, pow-zero, pow-suc, pow-le-pow_right, mod-eq_of_lt, div-div-eq-div-mul, uint, uint_octets, uint-lt, ShortestUInt, byte-bytes_high_first, length-bytes_high_first, pow-256, uint-drop, uint-spelled}
 
 pub byte_at-div : (k n : ℕ) → byte_at k n ≡ n / 256 ^ k % 256
 byte_at-div zero n = rw pow-zero (omega arith)

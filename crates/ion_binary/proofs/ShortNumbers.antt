@@ -1,27 +1,8 @@
 -- A decimal or timestamp that a run of fewer than 26 bytes spells has a body of 16 octets at most.
-use Rattle.std.proofs.Common.{◌≡◌, ℕ, zero, suc, ◌+◌, ◌-◌, ◌*◌, ◌^◌, ◌<◌, ◌≤◌, inl, inr, Bool, true, false, ◌&&◌, ◌||◌, nat_lt, ℤ, pos, ◌-ℤ◌, if◌then◌else◌, filter, List, [], ◌∷◌, ◌++◌, length, drop, take, map, get_or, codes, Result, Ok, Err, refl, sym, ap, subst, ◌∙◌, arith, length-append}
-use Rattle.std.specs.Result.{IfOk}
-use Rattle.std.proofs.lemmas.Bool.{cases_Bool, cases_lt}
-use Rattle.std.proofs.lemmas.Bool.Decides.{nat_tests}
-use Rattle.std.proofs.lemmas.List.{length-drop, length-map}
-use Rattle.std.proofs.lemmas.Result.{IfOk-at_ok}
-use Rattle.std.proofs.lemmas.Nat.{pow-add}
-use Rattle.std.proofs.Math.Nat.{mul-le-mul_right, pow-le-pow_right}
-use Rattle.ion_meter.specs.declared.fault.Reason.{Reason}
-use Rattle.ion_meter.specs.declared.fault.Reason.TheVariants.{BadToken, Float}
-use Rattle.ion_value.specs.declared.decimal.Decimal.{Decimal}
-use Rattle.ion_value.specs.declared.timestamp.Precision.{Precision}
-use Rattle.ion_value.specs.declared.timestamp.Precision.TheVariants.{Year, Month, Day, Minute, Second, Fraction}
-use Rattle.ion_value.specs.declared.timestamp.Timestamp.{Timestamp}
-use Rattle.ion_value.specs.Decimal.{IsDecimal, Parts, decimal_body, decimal_in_range, decimal_of_parts, decimal_of_text, exponent_octets, fraction_digits, is_decimal, is_float, is_nothing, is_point, is_exponent_mark, parts_of, power_value}
-use Rattle.ion_value.specs.Digits.{cut_at, digit_value, digits_value, has_minus, is_digit, without_minus}
-use Rattle.ion_value.specs.Number.{coefficient_octets, var_int_octets}
-use Rattle.ion_value.specs.Timestamp.{IsTimestamp, KeepsPrecision, date_in_range, fields, has_offset_shape, has_seconds_shape, is_moment, is_offset_mark, is_text_offset, looks_like, offset_of_text, precision_of_seconds, second_precision, time_of_parts, timestamp_body, timestamp_of_text, utc_of, with_utc, digits_at}
-use Rattle.ion_value.specs.TimestampFields.{whole_octets}
-use Rattle.ion_value.proofs.DecimalOctets.{decimal_in_range-Made, exponent_octets-short}
-use Rattle.ion_value.proofs.Numbers.{number-lt}
-use Rattle.ion_value.proofs.TextDecimals.{spelled, value-both}
-use Rattle.ion_value.proofs.TimestampBodies.{body-fraction, body-whole, var_int-short}
+use Rattle.ion_binary.proofs.Below.{◌≡◌, ℕ, zero, suc, ◌+◌, ◌-◌, ◌*◌, ◌^◌, ◌<◌, ◌≤◌, inl, inr, Bool, true, false, ◌&&◌, ◌||◌, nat_lt, ℤ, pos, ◌-ℤ◌, if◌then◌else◌, filter, List, [], ◌∷◌, ◌++◌, length, drop, take, map, get_or, codes, Result, Ok, Err, refl, sym, ap, subst, ◌∙◌, arith, length-append, IfOk, cases_Bool, cases_lt, nat_tests, length-drop, length-map, IfOk-at_ok, pow-add, mul-le-mul_right, pow-le-pow_right, Reason, BadToken, Float, Decimal, Precision, Year, Month, Day, Minute, Second, Fraction, Timestamp, IsDecimal, Parts, decimal_in_range, decimal_of_parts, exponent_octets, fraction_digits, is_decimal, is_float, is_nothing, is_point, is_exponent_mark, power_value, digit_value, digits_value, has_minus, is_digit, without_minus, coefficient_octets, var_int_octets, IsTimestamp, KeepsPrecision, date_in_range, fields, has_offset_shape, has_seconds_shape, is_moment, is_offset_mark, is_text_offset, looks_like, offset_of_text, precision_of_seconds, second_precision, time_of_parts, timestamp_body, utc_of, with_utc, digits_at, whole_octets, decimal_in_range-Made, exponent_octets-short, number-lt, spelled, value-both, body-fraction, body-whole, var_int-short}
+use Rattle.ion_value.specs.Decimal.{decimal_body, decimal_of_text, parts_of}
+use Rattle.ion_value.specs.Digits.{cut_at}
+use Rattle.ion_value.specs.Timestamp.{timestamp_of_text}
 use Rattle.ion_binary.specs.WrittenLimits.{NumbersFit}
 use Rattle.ion_binary.specs.WrittenNumbers.{NumbersInTextFit}
 use Rattle.ion_binary.proofs.NumbersFit.{InUtc, in-utc, signed-short, whole-few}

@@ -1,14 +1,6 @@
 -- A text that a writer may declare is no longer than the limit on symbols.
-use Rattle.std.proofs.Common.{◌≡◌, ℕ, ◌+◌, ◌≤◌, Bool, true, false, if◌then◌else◌, List, [], ◌∷◌, length, Option, None, Some, option_map, refl, ap, arith}
-use Rattle.std.specs.List.{AllByRecursion}
-use Rattle.std.specs.Str.{bytes_eq}
-use Rattle.std.proofs.lemmas.Slice.Eq.{bytes_eq-Decides}
+use Rattle.ion_binary.proofs.Below.{◌≡◌, ℕ, ◌+◌, ◌≤◌, Bool, true, false, if◌then◌else◌, List, [], ◌∷◌, length, Option, None, Some, option_map, refl, ap, arith, AllByRecursion, bytes_eq, bytes_eq-Decides, Limits, Profile, UserSymbol, Known, Unknown, Top, version, tree, value_symbols, or_given, position, system_id, texts_cost}
 use Rattle.ion_meter.specs.Rules.{rules}
-use Rattle.ion_meter.specs.declared.limits.Limits.{Limits}
-use Rattle.ion_meter.specs.declared.profile.Profile.{Profile}
-use Rattle.ion_value.specs.Value.{UserSymbol, Known, Unknown, Top, version, tree}
-use Rattle.ion_value.specs.Writable.{value_symbols}
-use Rattle.ion_symbols.specs.Output.{or_given, position, system_id, texts_cost}
 use Rattle.ion_binary.specs.Canonical.{with_symbols}
 use Rattle.ion_binary.specs.Refusals.{AreWithin, texts_left}
 use Rattle.ion_binary.specs.WrittenLimits.{SymbolFits}

@@ -1,14 +1,5 @@
 -- What a writer refuses nothing of is short enough to be read again.
-use Rattle.std.proofs.Common.{◌≡◌, ℕ, ◌+◌, ◌<◌, ◌≤◌, Bool, true, false, List, [], ◌∷◌, length, drop, None, refl, subst, sym, length-append, arith}
-use Rattle.std.specs.Prelude.{nat_lt, if◌then◌else◌, ◌^◌}
-use Rattle.ion_meter.specs.Limits.{AreChecked}
-use Rattle.ion_meter.specs.declared.limits.Limits.{Limits}
-use Rattle.ion_value.specs.Items.{is_none_left}
-use Rattle.ion_value.specs.Number.{var_uint_octets}
-use Rattle.ion_value.specs.Value.{UserSymbol, Top, version, tree}
-use Rattle.ion_value.specs.Writable.{value_symbols}
-use Rattle.ion_value.proofs.VarOctets.{var_uint_octets-VarUInt}
-use Rattle.ion_symbols.specs.Output.{texts_cost}
+use Rattle.ion_binary.proofs.Below.{◌≡◌, ℕ, ◌+◌, ◌<◌, ◌≤◌, Bool, true, false, List, [], ◌∷◌, length, drop, None, refl, subst, sym, length-append, arith, nat_lt, if◌then◌else◌, ◌^◌, AreChecked, Limits, is_none_left, var_uint_octets, UserSymbol, Top, version, tree, value_symbols, var_uint_octets-VarUInt, texts_cost}
 use Rattle.ion_binary.specs.Canonical.{declaration, header, headed, with_symbols}
 use Rattle.ion_binary.specs.ItemOctets.{declaration_front, opening, strings_octets}
 use Rattle.ion_binary.specs.Refusals.{AreWithin, texts_left}
@@ -68,18 +59,15 @@ short-after limits checked texts (version place ∷ ts) w = short-after limits c
 short-after limits checked texts (tree first annotations place x ∷ ts) w =
     let kept : List (List ℕ) = texts_left limits.symbols texts in
     let all : List (List ℕ) = with_symbols kept (value_symbols None annotations x) in
-    let most = checked.symbols in
-    let size = checked.value in
     let cost : texts_cost all ≤ limits.symbols = w.0 in
-    let value = w.1 in
     let after : texts_cost (drop (length kept) all) ≤ texts_cost all = cost-drop (length kept) all in
     let new : List (List ℕ) = drop (length kept) all in
     let few : length all ≤ texts_cost all = few-texts all in (
-      declaration-by new (is_none_left new) refl (omega (arith, after, cost, most)),
+      declaration-by new (is_none_left new) refl (omega (arith, after, cost, checked.symbols)),
       (
-        omega (arith, value, size),
+        omega (arith, w.1, checked.value),
         (
-          omega (arith, few, cost, most),
+          omega (arith, few, cost, checked.symbols),
           short-after limits checked all ts w.2,
         ),
       ),

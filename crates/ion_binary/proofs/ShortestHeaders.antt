@@ -1,8 +1,7 @@
 -- The header that is written is the shortest descriptor, and a number below 128 one octet.
-use Rattle.std.proofs.Common.{◌≡◌, ℕ, zero, suc, ◌+◌, ◌*◌, ◌/◌, ◌%◌, ◌<◌, ◌≤◌, Bool, true, false, List, [], ◌∷◌, ◌++◌, length, refl, ap, sym, ◌∙◌, arith, lt-ltb}
-use Rattle.std.specs.Prelude.{nat_lt, if◌then◌else◌}
-use Rattle.ion_value.specs.Number.{digits_within, marked, var_uint_octets}
-use Rattle.ion_value.proofs.VarOctets.{var_uint_octets-fewest}
+use Rattle.ion_binary.proofs.Below.{◌≡◌, ℕ, zero, suc, ◌+◌, ◌*◌, ◌/◌, ◌%◌, ◌<◌, ◌≤◌, Bool, true, false, List, [], ◌∷◌, ◌++◌, length, refl, ap, sym, ◌∙◌, arith, nat_lt, if◌then◌else◌, marked, var_uint_octets, var_uint_octets-fewest}
+use Rattle.std.proofs.Common.{lt-ltb}
+use Rattle.ion_value.specs.Number.{digits_within}
 use Rattle.ion_binary.specs.Grammar.{Descriptor}
 use Rattle.ion_binary.specs.Spelling.{HeadersAreShortest}
 

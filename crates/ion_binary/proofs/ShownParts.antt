@@ -1,16 +1,5 @@
 -- What a window shows is what reading gives, whatever follows it.
-use Rattle.std.proofs.Common.{◌≡◌, ℕ, suc, ◌+◌, ◌*◌, ◌-◌, ◌%◌, ◌<◌, ◌≤◌, true, false, ◌&&◌, List, [], ◌∷◌, ◌++◌, length, take, drop, get_or, Option, Some, None, Ok, refl, ap, sym, ◌∙◌, arith}
-use Rattle.std.specs.Prelude.{IfSome, nat_le, nat_lt, zero}
-use Rattle.std.proofs.lemmas.Bool.{le-leb, le-ltb, lt-leb}
-use Rattle.std.proofs.lemmas.Grind.{common_steps}
-use Rattle.std.proofs.lemmas.List.{take-append-le, drop-append-le}
-use Rattle.ion_meter.specs.Sources.{Cursor, skip}
-use Rattle.ion_meter.specs.declared.fault.Reason.TheVariants.{BadAnnotation}
-use Rattle.ion_meter.specs.declared.profile.Rules.{Rules}
-use Rattle.ion_value.specs.declared.ion_type.Kind.{Kind}
-use Rattle.ion_value.specs.Parts.{◌>>=◌, ◌>>◌, part, refuse}
-use Rattle.ion_value.specs.Scalar.{scalar_of_body}
-use Rattle.ion_value.specs.Value.{Symbol, SymbolAt, Scalar}
+use Rattle.ion_binary.proofs.Below.{◌≡◌, ℕ, suc, ◌+◌, ◌*◌, ◌-◌, ◌%◌, ◌<◌, ◌≤◌, true, false, ◌&&◌, List, [], ◌∷◌, ◌++◌, length, take, drop, get_or, Option, Some, None, Ok, refl, ap, sym, ◌∙◌, arith, IfSome, nat_le, nat_lt, zero, le-leb, le-ltb, lt-leb, common_steps, take-append-le, drop-append-le, Cursor, skip, BadAnnotation, Rules, Kind, ◌>>=◌, ◌>>◌, part, refuse, scalar_of_body, Symbol, SymbolAt, Scalar}
 use Rattle.ion_binary.specs.declared.reader.front.ShownNote.{ShownNote}
 use Rattle.ion_binary.specs.declared.scan.Found.{Found}
 use Rattle.ion_binary.specs.declared.scan.Found.TheVariants as found

@@ -1,13 +1,7 @@
 -- What the parts of the grammar spell is read: octets, lengths, ids and fields.
-use Rattle.std.proofs.Common.{◌≡◌, ℕ, zero, suc, ◌+◌, ◌*◌, ◌<◌, ◌≤◌, ◌⊎◌, inl, inr, false, ltb, List, [], ◌∷◌, ◌++◌, length, Option, Some, None, Ok, refl, sym, ◌∙◌, subst, append_assoc, arith}
-use Rattle.std.proofs.lemmas.Bool.{lt-leb, lt-ltb, le-ltb, le-leb, ne_eqb}
+use Rattle.ion_binary.proofs.Below.{◌≡◌, ℕ, zero, suc, ◌+◌, ◌*◌, ◌<◌, ◌≤◌, ◌⊎◌, inl, inr, false, ltb, List, [], ◌∷◌, ◌++◌, length, Option, Some, None, Ok, refl, sym, ◌∙◌, subst, append_assoc, arith, lt-leb, lt-ltb, le-ltb, le-leb, ne_eqb, Rules, Kind, IsVar, VarUInt, SymbolAt, Cursor}
 use Rattle.std.proofs.lemmas.List.{length-append}
-use Rattle.ion_meter.specs.declared.profile.Rules.{Rules}
-use Rattle.ion_value.specs.declared.ion_type.Kind.{Kind}
-use Rattle.ion_value.specs.Number.{IsVar, VarUInt}
-use Rattle.ion_value.specs.Value.{SymbolAt}
 use Rattle.ion_binary.specs.Positions.{Frame}
-use Rattle.ion_meter.specs.Sources.{Cursor}
 use Rattle.ion_binary.specs.Descriptor.{Region, is_at_end, octet_at, var_at, var_uint_at, length_at}
 use Rattle.ion_binary.specs.Grammar.{Descriptor, Ids, Field}
 use Rattle.ion_binary.specs.Paths.{FieldIn, Within}

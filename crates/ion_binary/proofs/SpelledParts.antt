@@ -1,17 +1,9 @@
 -- What the grammar has after ids is found: scalars, NOP pads, version markers and the headers of containers.
-use Rattle.std.proofs.Common.{◌≡◌, ◌≢◌, ℕ, suc, ◌+◌, ◌*◌, ◌/◌, ◌%◌, ◌<◌, ◌≤◌, ◌⊎◌, inl, inr, Bool, true, false, ◌&&◌, ltb, List, [], ◌∷◌, ◌++◌, length, Some, None, Ok, refl, sym, ap, ◌∙◌, subst, append_assoc, arith}
-use Rattle.std.proofs.lemmas.Bool.{lt-leb, le-ltb, ne_eqb}
-use Rattle.std.proofs.lemmas.List.{length-append, take_at, drop_at}
-use Rattle.ion_meter.specs.declared.profile.Rules.{Rules}
-use Rattle.ion_value.specs.declared.ion_type.IonType.{IonType}
+use Rattle.ion_binary.proofs.Below.{◌≡◌, ◌≢◌, ℕ, suc, ◌+◌, ◌*◌, ◌/◌, ◌%◌, ◌<◌, ◌≤◌, ◌⊎◌, inl, inr, Bool, true, false, ◌&&◌, ltb, List, [], ◌∷◌, ◌++◌, length, Some, None, Ok, refl, sym, ap, ◌∙◌, subst, append_assoc, arith, lt-leb, le-ltb, ne_eqb, drop_at, Rules, IonType, Kind, IsPermitted, scalar_of_body, Symbol, Scalar, Cursor, skip}
+use Rattle.std.proofs.lemmas.List.{length-append, take_at}
 use Rattle.ion_value.specs.declared.ion_type.IonType.TheVariants as type
-use Rattle.ion_value.specs.declared.ion_type.Kind.{Kind}
 use Rattle.ion_value.specs.declared.ion_type.Kind.TheVariants as kind
-use Rattle.ion_value.specs.ReadingLaws.{IsPermitted}
-use Rattle.ion_value.specs.Scalar.{scalar_of_body}
 use Rattle.ion_value.specs.Value as value
-use Rattle.ion_value.specs.Value.{Symbol, Scalar}
-use Rattle.ion_meter.specs.Sources.{Cursor, skip}
 use Rattle.ion_binary.specs.Descriptor.{Region, passes, falls_short, var_uint_at, length_at, Shape, null, bool, nop_pad, body, container, sorted, marker, float, shape_by, shape_of, is_unwrappable}
 use Rattle.ion_binary.specs.Grammar.{IsNullOf, Body, Plain, IsNopPad, Header, type_code}
 use Rattle.ion_binary.specs.Laws.{Bodies}

@@ -1,21 +1,10 @@
 -- A reading that stops, and not since the bytes end, stops so whatever bytes follow.
-use Rattle.std.proofs.Common.{◌≡◌, ◌≢◌, ℕ, zero, suc, ◌+◌, ◌≤◌, Bool, true, false, not, ◌||◌, if◌then◌else◌, nat_le, nat_lt, nat_eq, List, [], ◌∷◌, ◌++◌, length, take, Option, Some, None, Result, Ok, Err, refl, sym, ap, ◌∙◌, arith}
-use Rattle.std.proofs.lemmas.Bool.{ltb-false, le-ltb}
-use Rattle.std.proofs.lemmas.List.{length-append, take-append-le, drop-append-le}
-use Rattle.ion_meter.specs.declared.fault.Reason.{Reason}
-use Rattle.ion_meter.specs.declared.fault.Reason.TheVariants.{Truncated, BadDescriptor, BadVar, Overrun, BadAnnotation, Float, DepthLimit, ScalarLimit}
-use Rattle.ion_meter.specs.declared.profile.Rules.{Rules}
-use Rattle.ion_value.specs.declared.ion_type.Kind.{Kind}
+use Rattle.ion_binary.proofs.Below.{◌≡◌, ◌≢◌, ℕ, zero, suc, ◌+◌, ◌≤◌, Bool, true, false, not, ◌||◌, if◌then◌else◌, nat_le, nat_lt, nat_eq, List, [], ◌∷◌, ◌++◌, length, take, Option, Some, None, Result, Ok, Err, refl, sym, ap, ◌∙◌, arith, ltb-false, le-ltb, take-append-le, drop-append-le, Reason, Truncated, BadDescriptor, BadVar, Overrun, BadAnnotation, Float, DepthLimit, ScalarLimit, Rules, Kind, scalar_of_body, var_uint, Symbol, SymbolAt, Scalar, PlacedItem, Reading, Stopped, items_then, Step, Ends, Stops, Gives, GoesOn, next_reading, reading_for, reading_by, reading_by-step, Cursor, skip, ◌>>=◌, ◌>>◌, refuse, Placed, part}
+use Rattle.std.proofs.lemmas.List.{length-append}
 use Rattle.ion_value.specs.declared.ion_type.Kind.TheVariants as kind
-use Rattle.ion_value.specs.Scalar.{scalar_of_body}
-use Rattle.ion_value.specs.Number.{var_uint}
 use Rattle.ion_value.specs.Value as value
-use Rattle.ion_value.specs.Value.{Symbol, SymbolAt, Scalar, PlacedItem}
-use Rattle.ion_value.specs.Reading.{Reading, Stopped, items_then, Step, Ends, Stops, Gives, GoesOn, next_reading, reading_for, reading_by, Shrinks}
-use Rattle.ion_value.proofs.Readings.{reading_by-step}
+use Rattle.ion_value.specs.Reading.{Shrinks}
 use Rattle.ion_binary.specs.Positions.{symbol_id, Frame, State}
-use Rattle.ion_meter.specs.Sources.{Cursor, skip}
-use Rattle.ion_value.specs.Parts.{◌>>=◌, ◌>>◌, refuse, Placed, part}
 use Rattle.ion_binary.specs.Descriptor.{Region, passes, octet_at, var_at, var_uint_at, length_at, first_octet, is_at_end, Shape, null, bool, nop_pad, wrapper, body, container, sorted, marker, float, illegal, shape_of}
 use Rattle.ion_binary.specs.Reading.{Around, TypedValue, a_nop_pad, a_marker, a_scalar, a_container, placed_item, body_at, nop_pad_at, bare_at, marker_at, marker_rest, scalar_at, begin_at, container_at, sorted_at, fits, region_of, read_by_descriptor, typed_value_at, wrapper_at, ids_at, field_at, field_in, plain_at, inner_at, annotated_at, wrapper_length, by_wrapper, value_at, top_of, member_at, step_of, top_step, step_in, step, step_for, size, start, reading}
 use Rattle.ion_binary.specs.Laws.{Stable}
@@ -57,13 +46,13 @@ part-Grows G place _ _ (err e) = err (e, place)
 part-Grows G place _ _ (ended e r is) = ended (e, place) (part place r) is
 
 -- more bytes follow
-abbrev extend : List ℕ → Cursor → Cursor
+abbrev pub extend : List ℕ → Cursor → Cursor
 extend more c = record { place = c.place; rest = c.rest ++ more }
 
 abbrev extend_after : {A : Type 0} → List ℕ → A × Cursor → A × Cursor
 extend_after more p = (p.0, extend more p.1)
 
-abbrev extend_state : List ℕ → State → State
+abbrev pub extend_state : List ℕ → State → State
 extend_state more s = record { frames = s.frames; top = s.top; cursor = extend more s.cursor }
 
 abbrev extend_step : List ℕ → Step State → Step State
@@ -283,7 +272,7 @@ module _ (limits : Rules) (more : List ℕ) where
 -- ---- a step, and all of them
 
 -- one step, and the one where more bytes follow
-data StepGrows (more : List ℕ) : Step State → Step State → Type 0 where
+pub data StepGrows (more : List ℕ) : Step State → Step State → Type 0 where
   ends : (s : Step State) → StepGrows more Ends s
   stops : (reason : Reason) (place : ℕ) → StepGrows more (Stops reason place) (Stops reason place)
   ended_step : (place : ℕ) (s : Step State) → StepGrows more (Stops Truncated place) s
@@ -316,7 +305,7 @@ module _ (limits : Rules) (more : List ℕ) where
       by_end true = gives (placed_item top None [] c.place value.end) (record { frames = frames; top = top; cursor = c })
       by_end false = step_of-Grows more _ _ (member_at-Grows limits more (f ∷ frames) top c)
 
-  one_step-Grows : (s : State) → StepGrows more (step limits s) (step limits (extend_state more s))
+  pub one_step-Grows : (s : State) → StepGrows more (step limits s) (step limits (extend_state more s))
   unfolding step
   one_step-Grows s = step_in-Grows s.frames s.top s.cursor
 

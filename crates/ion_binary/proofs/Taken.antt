@@ -1,11 +1,6 @@
 -- What each reader of octets took from the bytes is what the grammar says.
-use Rattle.std.proofs.Common.{◌≡◌, ℕ, zero, suc, ◌+◌, ◌*◌, ◌<◌, ◌≤◌, Bool, true, false, cond, eqb, ltb, List, [], ◌∷◌, ◌++◌, length, take, ◌⊎◌, Some, None, Result, Ok, Err, refl, sym, ap, subst, ◌∙◌, append_assoc, arith, inl, inr}
-use Rattle.std.proofs.lemmas.Bool.{ltb-false, ltb-true, leb-false, eqb-true, eqb-false}
-use Rattle.std.proofs.lemmas.List.{length-append, take-append-drop, length-take}
-use Rattle.ion_meter.specs.declared.fault.Reason.{Reason}
-use Rattle.ion_value.specs.Number.{IsVar, VarUInt, var_uint}
-use Rattle.ion_meter.specs.Sources.{Cursor, skip}
-use Rattle.ion_value.specs.Parts.{◌>>=◌, ◌>>◌, refuse, part}
+use Rattle.ion_binary.proofs.Below.{◌≡◌, ℕ, zero, suc, ◌+◌, ◌*◌, ◌<◌, ◌≤◌, Bool, true, false, cond, eqb, ltb, List, [], ◌∷◌, ◌++◌, length, take, ◌⊎◌, Some, None, Result, Ok, Err, refl, sym, ap, subst, ◌∙◌, append_assoc, arith, inl, inr, ltb-false, ltb-true, leb-false, eqb-true, eqb-false, take-append-drop, length-take, Reason, IsVar, VarUInt, var_uint, Cursor, skip, ◌>>=◌, ◌>>◌, refuse, part}
+use Rattle.std.proofs.lemmas.List.{length-append}
 use Rattle.ion_binary.specs.Descriptor.{Region, is_at_end, first_octet, octet_at, var_at, var_uint_at, length_at}
 use Rattle.ion_binary.specs.Grammar.{Descriptor, short, long}
 

@@ -1,15 +1,6 @@
 -- The body of a timestamp that the grammar has is read as the timestamp.
-use Rattle.std.proofs.Common.{◌≡◌, ℕ, zero, suc, ◌^◌, ◌<◌, ◌≤◌, ◌⊎◌, inl, inr, Bool, true, false, if◌then◌else◌, not, ◌&&◌, nat_lt, nat_le, ◌==◌, List, [], ◌∷◌, ◌++◌, length, refl, sym, ap, ◌∙◌, arith, append_assoc, ℤ, Option, Some, None, Ok}
-use Rattle.std.specs.List.{AllByRecursion, flat_map}
-use Rattle.std.proofs.lemmas.Int.{ints}
-use Rattle.std.proofs.lemmas.Bool.{or_right, ne_eqb, lt-ltb, le-ltb, le-leb, lt-leb}
-use Rattle.std.proofs.Math.Nat.{pow-le-pow_right}
-use Rattle.ion_value.specs.declared.timestamp.Timestamp.{Timestamp}
-use Rattle.ion_value.specs.Number.{var_int_negative, var_int_magnitude, int_negative, int_magnitude, signed}
-use Rattle.ion_value.specs.Timestamp.{IsMoment, IsMoved, IsOffset, offset_minutes, in_years, moved, local_of, fields_cut, digits_after_point, exponent_in, is_fraction, offset_in, utc_fields, in_local_time, timestamp_of_cut, timestamp_of_bytes}
-use Rattle.ion_value.proofs.Cut.{var_cut-IsVar}
-use Rattle.ion_value.proofs.Days.{moved-is, one_outcome, offset-bounds}
-use Rattle.ion_value.proofs.TimestampOctets.{joined, fields_cut-some, append-none, is_moment-true}
+use Rattle.ion_binary.proofs.Below.{◌≡◌, ℕ, zero, suc, ◌^◌, ◌<◌, ◌≤◌, ◌⊎◌, inl, inr, Bool, true, false, if◌then◌else◌, not, ◌&&◌, nat_lt, nat_le, ◌==◌, List, [], ◌∷◌, ◌++◌, length, refl, sym, ap, ◌∙◌, arith, append_assoc, ℤ, Option, Some, None, Ok, AllByRecursion, flat_map, ints, or_right, ne_eqb, lt-ltb, le-ltb, le-leb, lt-leb, pow-le-pow_right, Timestamp, var_int_negative, var_int_magnitude, int_negative, int_magnitude, signed, IsMoment, IsMoved, IsOffset, offset_minutes, in_years, moved, digits_after_point, exponent_in, is_fraction, offset_in, utc_fields, in_local_time, timestamp_of_cut, var_cut-IsVar, moved-is, one_outcome, offset-bounds, joined, fields_cut-some, append-none, is_moment-true}
+use Rattle.ion_value.specs.Timestamp.{local_of, fields_cut, timestamp_of_bytes}
 use Rattle.ion_binary.specs.Grammar.{IsField, Says, year, month, day, minute, second, no_fraction, fraction, IsOffsetOf, unknown, known, TimestampBody, date, time}
 
 -- ---- fields are cut where they end

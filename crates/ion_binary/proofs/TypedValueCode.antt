@@ -1,15 +1,6 @@
 -- What a part is found to be, one call after the other.
-use Rattle.std.proofs.Common.{rules, arith, refl, sym, ap, subst, ◌∙◌, ◌≡◌, ℕ, zero, suc, ◌/◌, ◌%◌, ◌<◌, ◌≤◌, Bool, true, false, not, ◌&&◌, eqb, ltb, List, [], ◌∷◌, length, take, inl, inr, None, Ok, Err}
-use Rattle.std.specs.Prelude.{slice_get, slice_index_or}
-use Rattle.std.specs.List.{AllByRecursion}
-use Rattle.std.specs.Cmp.Lexicographic.{pointwise}
+use Rattle.ion_binary.proofs.Below.{rules, arith, refl, sym, ap, subst, ◌∙◌, ◌≡◌, ℕ, zero, suc, ◌/◌, ◌%◌, ◌<◌, ◌≤◌, Bool, true, false, not, ◌&&◌, eqb, ltb, List, [], ◌∷◌, length, take, inl, inr, None, Ok, Err, slice_get, slice_index_or, AllByRecursion, pointwise, eqb-false, cases_Bool, BadVersion, Truncated, Incoming, left, lent, lent-take, lent-CanPass, Cursor, skip, ◌>>◌, refuse}
 use Rattle.std.proofs.lemmas.List.{length-append}
-use Rattle.std.proofs.lemmas.Bool.{eqb-false, cases_Bool}
-use Rattle.ion_meter.specs.declared.fault.Reason.TheVariants.{BadVersion, Truncated}
-use Rattle.ion_meter.specs.Windows.{Incoming, left, lent}
-use Rattle.ion_meter.proofs.Lent.{lent-take, lent-CanPass}
-use Rattle.ion_meter.specs.Sources.{Cursor, skip}
-use Rattle.ion_value.specs.Parts.{◌>>◌, refuse}
 use Rattle.ion_binary.specs.Descriptor.{Shape, bool_shape, struct_shape, wrapper_shape, null_shapes, sized_shapes, shape_of}
 use Rattle.ion_binary.specs.Reading.{a_marker, marker_rest}
 use Rattle.ion_binary.specs.Finds.{IsOfDescriptor}

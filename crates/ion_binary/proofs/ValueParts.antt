@@ -1,16 +1,8 @@
 -- A value's parts one after the other, as the step that reading makes of it.
-use Rattle.std.proofs.Common.{ap, ◌∙◌, sym, subst, ◌≡◌, ℕ, List, Option, Result, Ok, Err}
-use Rattle.ion_meter.specs.declared.fault.Fault.{Fault}
-use Rattle.ion_meter.specs.declared.fault.Fault.TheVariants.{Refused, Memory, ReadFault, WriteFault, InputLimit}
-use Rattle.ion_meter.specs.declared.fault.Reason.{Reason}
-use Rattle.ion_value.specs.Value.{SymbolAt}
-use Rattle.ion_value.specs.Reading.{Step}
+use Rattle.ion_binary.proofs.Below.{ap, ◌∙◌, sym, subst, ◌≡◌, ℕ, List, Option, Result, Ok, Err, Fault, Refused, Memory, ReadFault, WriteFault, InputLimit, Reason, SymbolAt, Step, Cursor, ◌>>=◌, Placed, part, Answers, AnswersAt}
 use Rattle.ion_binary.specs.declared.body.Body.{Body}
 use Rattle.ion_binary.specs.declared.value.TypedValue as typed
 use Rattle.ion_binary.specs.Positions.{Frame, State}
-use Rattle.ion_meter.specs.Sources.{Cursor}
-use Rattle.ion_value.specs.Parts.{◌>>=◌, Placed, part}
-use Rattle.ion_value.specs.Answers.{Answers, AnswersAt}
 use Rattle.ion_binary.specs.Values.{GivesStep}
 
 -- what was found, of one answer

@@ -1,14 +1,5 @@
 -- A VarUInt as a loop over its octets reads it.
-use Rattle.std.proofs.Common.{arith, refl, ap, ◌∙◌, ◌≡◌, ℕ, zero, suc, ◌+◌, ◌*◌, ◌%◌, ◌^◌, ◌<◌, ◌≤◌, Bool, true, false, nat_lt, if◌then◌else◌, List, [], ◌∷◌, length, Result, Ok, Err}
-use Rattle.std.proofs.lemmas.Bool.{ltb-true, lt-ltb, le-ltb}
-use Rattle.std.proofs.lemmas.List.{length-map}
-use Rattle.std.proofs.Math.Nat.{pow-suc}
-use Rattle.ion_meter.specs.declared.fault.Reason.{Reason}
-use Rattle.ion_meter.specs.declared.fault.Reason.TheVariants.{BadVar}
-use Rattle.ion_value.proofs.Numbers.{seven-low}
-use Rattle.ion_value.specs.Number.{var_uint}
-use Rattle.ion_meter.specs.Sources.{Cursor}
-use Rattle.ion_value.specs.Parts.{◌>>=◌}
+use Rattle.ion_binary.proofs.Below.{arith, refl, ap, ◌∙◌, ◌≡◌, ℕ, zero, suc, ◌+◌, ◌*◌, ◌%◌, ◌^◌, ◌<◌, ◌≤◌, Bool, true, false, nat_lt, if◌then◌else◌, List, [], ◌∷◌, length, Result, Ok, Err, ltb-true, lt-ltb, le-ltb, length-map, pow-suc, Reason, BadVar, seven-low, var_uint, Cursor, ◌>>=◌}
 use Rattle.ion_binary.specs.Descriptor.{Region, octet_at, var_at, var_uint_at}
 use Rattle.ion_binary.specs.Parts.{var_from}
 

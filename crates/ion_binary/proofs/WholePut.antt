@@ -1,17 +1,12 @@
 -- A plain scalar that is put at top level is that of the streaming definition.
-use Rattle.std.proofs.Common.{◌≡◌, ℕ, ◌≤◌, inr, Bool, true, false, List, [], ◌++◌, length, drop, Option, None, refl, ap, sym, ◌∙◌, subst, arith}
-use Rattle.ion_meter.specs.Counts.{Counts}
-use Rattle.ion_meter.specs.Windows.{Outgoing}
-use Rattle.ion_value.specs.Value.{PlacedItem, SymbolAt, UserSymbol, user_item}
-use Rattle.ion_value.specs.Writable.{field_symbols}
+use Rattle.ion_binary.proofs.Below.{◌≡◌, ℕ, ◌≤◌, Bool, true, false, List, [], ◌++◌, length, drop, Option, None, refl, ap, sym, ◌∙◌, subst, arith, Outgoing, PlacedItem, SymbolAt, UserSymbol, user_item, field_symbols}
 use Rattle.ion_binary.specs.declared.headers.HeaderPlace.{HeaderPlace}
 use Rattle.ion_binary.specs.declared.writer.BinWriter.{BinWriter}
 use Rattle.ion_binary.specs.Canonical.{declaration, id_in, marker_if, member_octets}
 use Rattle.ion_binary.specs.Held.{Held, size_of, value_held, value_put}
 use Rattle.ion_binary.specs.ItemOctets.{head_octets}
-use Rattle.ion_binary.specs.Opening.{IsOpen}
-use Rattle.ion_binary.specs.Plain.{HaveIds, IsBare, IsSettled, IsWhole, PutsWhole, TakesPlain}
-use Rattle.ion_binary.specs.Writer.{CanTake, IsSound, Taken, added, held_in, item_refusal}
+use Rattle.ion_binary.specs.Plain.{HaveIds, IsBare, IsSettled, IsWhole, PutsWhole}
+use Rattle.ion_binary.specs.Writer.{IsSound, added, held_in, item_refusal}
 use Rattle.ion_binary.specs.Writing.{head_symbols, item_symbols}
 use Rattle.ion_binary.proofs.DeclarationOctets.{declaration-none}
 use Rattle.ion_binary.proofs.PlainAdded.{drop-all, have-append, have-allowed, scalar-added}
@@ -79,34 +74,4 @@ whole-put w item x sink put settled bare whole known is sound fits e = record {
   declines = λ t. absurd (Prim.cc t);
   device = ap (λ s. s.device) e;
   fault = ap (λ s. s.fault) e;
-}
-
--- a writer that stays as it is
-kept-taken : {A : Type 0} (w : BinWriter A) (meter : Counts) → CanTake w meter → Taken w w meter meter None
-kept-taken w meter c = record {
-  sound = c.sound;
-  limits = refl;
-  failed = refl;
-  memory = record { memory = λ e. absurd (Prim.cc e); counted = λ e. refl };
-  charges =
-      let texts = c.sound.share in
-      let octets = c.sound.within.octets in
-      let headers = c.sound.within.headers in
-      let own = c.held in
-      record { held = refl; share = omega (arith, texts, octets, headers); peak = omega (arith, own); rises = omega arith };
-}
-
--- an item that is so put is taken
-pub whole-taken : {A O : Type 0} (w : BinWriter A) (meter : Counts) (sink put : Outgoing O) (item : PlacedItem) (result : Bool) → CanTake w meter → IsOpen w.limits w.open_value
-    → PutsWhole w sink put item result → TakesPlain w w meter meter sink put item result
-whole-taken w meter sink put item result c now p = record {
-  held = p.held;
-  puts = p.puts;
-  is_open = λ t. now;
-  passes = p.passes;
-  keeps = λ t. inr (p.keeps t);
-  declines = λ t. (refl, p.declines t, refl);
-  device = p.device;
-  fault = p.fault;
-  taken = kept-taken w meter c;
 }

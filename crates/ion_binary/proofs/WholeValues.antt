@@ -1,9 +1,6 @@
 -- The items of whole values put the canonical form of the values.
-use Rattle.std.proofs.Common.{◌≡◌, ℕ, Bool, true, false, List, [], ◌∷◌, ◌++◌, length, drop, Option, None, refl, ap, sym, subst, ◌∙◌, append_assoc, append-nil}
-use Rattle.ion_value.specs.declared.ion_type.Kind.{Kind}
+use Rattle.ion_binary.proofs.Below.{◌≡◌, ℕ, Bool, true, false, List, [], ◌∷◌, ◌++◌, length, drop, Option, None, refl, ap, sym, subst, ◌∙◌, append_assoc, append-nil, Kind, UserSymbol, Scalar, Value, scalar, container, Members, nothing, member, Top, version, tree, Item, bare_item, value_items, member_items, top_items, field_symbols, members_symbols, scalar_symbols, value_symbols}
 use Rattle.ion_value.specs.Value as value
-use Rattle.ion_value.specs.Value.{UserSymbol, Scalar, Value, scalar, container, Members, nothing, member, Top, version, tree, Item, bare_item, value_items, member_items, one_top, top_items}
-use Rattle.ion_value.specs.Writable.{field_symbols, members_symbols, scalar_symbols, value_symbols}
 use Rattle.ion_binary.specs.Grammar.{type_code}
 use Rattle.ion_binary.specs.Canonical.{annotation_octets, binary, declaration, field_octets, headed, id_in, is_over, marker_if, marker_octets, member_octets, members_octets, octets_after, scalar_octets, texts_kept, tree_octets, value_octets, with_symbols, wrapped}
 use Rattle.ion_binary.specs.Writing.{Unclosed, Written, after_all, at_begin, forgetting, opened_with, with_head}

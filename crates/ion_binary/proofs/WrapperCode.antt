@@ -1,10 +1,5 @@
 -- An annotation wrapper, read one length after the other.
-use Rattle.std.proofs.Common.{refl, ◌≡◌, ℕ, ◌+◌, ◌-◌, ◌^◌, ◌<◌, ◌≤◌, true, false, nat_lt, nat_le, nat_eq, ◌||◌, Some, None, Result, Ok, Err, arith}
-use Rattle.std.proofs.lemmas.Bool.{le-ltb, lt-ltb}
-use Rattle.ion_meter.specs.declared.fault.Reason.{Reason}
-use Rattle.ion_meter.specs.declared.fault.Reason.TheVariants.{Overrun, BadAnnotation}
-use Rattle.ion_meter.specs.Sources.{Cursor}
-use Rattle.ion_value.specs.Parts.{◌>>=◌, ◌>>◌, refuse}
+use Rattle.ion_binary.proofs.Below.{refl, ◌≡◌, ℕ, ◌+◌, ◌-◌, ◌^◌, ◌<◌, ◌≤◌, true, false, nat_lt, nat_le, nat_eq, ◌||◌, Some, None, Result, Ok, Err, arith, le-ltb, lt-ltb, Reason, Overrun, BadAnnotation, Cursor, ◌>>=◌, ◌>>◌, refuse}
 use Rattle.ion_binary.specs.Descriptor.{Region, passes, var_uint_at, length_at}
 use Rattle.ion_binary.specs.Reading.{Wrapped, wrapper_at}
 use Rattle.ion_binary.specs.Scanned.{EndsAt, wrapper_after, wrapper_by}

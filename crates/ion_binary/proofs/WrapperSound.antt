@@ -1,16 +1,7 @@
 -- Annotation wrappers and fields, as they are read, stand in the bytes so.
-use Rattle.std.proofs.Common.{◌≡◌, ℕ, zero, suc, ◌+◌, ◌-◌, ◌*◌, ◌<◌, ◌≤◌, eqb, ltb, leb, List, [], ◌∷◌, ◌++◌, length, Option, Some, None, Ok, refl, subst, arith, inl, inr, ◌||◌}
-use Rattle.std.proofs.lemmas.Bool.{ltb-false, leb-false, leb-true, eqb-false, or_parts}
-use Rattle.ion_meter.specs.declared.fault.Reason.{Reason}
-use Rattle.ion_meter.specs.declared.fault.Reason.TheVariants.{Overrun, BadAnnotation, AnnotationLimit}
-use Rattle.ion_meter.specs.declared.profile.Rules.{Rules}
-use Rattle.ion_value.specs.declared.ion_type.Kind.{Kind}
+use Rattle.ion_binary.proofs.Below.{◌≡◌, ℕ, zero, suc, ◌+◌, ◌-◌, ◌*◌, ◌<◌, ◌≤◌, eqb, ltb, leb, List, [], ◌∷◌, ◌++◌, length, Option, Some, None, Ok, refl, subst, arith, inl, inr, ◌||◌, ltb-false, leb-false, leb-true, eqb-false, or_parts, Reason, Overrun, BadAnnotation, AnnotationLimit, Rules, Kind, VarUInt, SymbolAt, Cursor, refuse, part}
 use Rattle.ion_value.specs.declared.ion_type.Kind.TheVariants as kind
-use Rattle.ion_value.specs.Number.{VarUInt}
-use Rattle.ion_value.specs.Value.{SymbolAt}
 use Rattle.ion_binary.specs.Positions.{symbol_id, Frame}
-use Rattle.ion_meter.specs.Sources.{Cursor}
-use Rattle.ion_value.specs.Parts.{refuse, part}
 use Rattle.ion_binary.specs.Descriptor.{Region, passes, length_at, var_uint_at}
 use Rattle.ion_binary.specs.Reading.{Wrapped, wrapper_at, ids_at, region_of, field_in, field_at}
 use Rattle.ion_binary.specs.Grammar.{Descriptor, Ids, Field}

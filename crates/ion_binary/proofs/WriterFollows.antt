@@ -1,14 +1,7 @@
 -- What an item leaves held is what the streaming definition has after it.
-use Rattle.std.proofs.Common.{◌≡◌, ℕ, suc, ◌+◌, ◌*◌, ◌<◌, ◌≤◌, Bool, false, not, ◌&&◌, List, [], ◌∷◌, ◌++◌, length, map, drop, Option, Some, None, is_some, option_map, Result, Ok, Err, OnOk, IfErr, refl, ap, sym, subst, ◌∙◌, arith, lit<}
-use Rattle.ion_meter.specs.declared.fault.Fault.{Fault}
-use Rattle.ion_meter.specs.declared.fault.Fault.TheVariants.{Refused, WriteFault}
-use Rattle.ion_meter.specs.declared.fault.Reason.{Reason}
-use Rattle.ion_meter.specs.declared.limits.Limits.{Limits}
-use Rattle.ion_value.specs.declared.ion_type.Kind.{Kind}
+use Rattle.ion_binary.proofs.Below.{◌≡◌, ℕ, suc, ◌+◌, ◌*◌, ◌<◌, ◌≤◌, Bool, false, not, ◌&&◌, List, [], ◌∷◌, ◌++◌, length, map, drop, Option, Some, None, is_some, option_map, Result, Ok, Err, OnOk, IfErr, refl, ap, sym, subst, ◌∙◌, arith, lit<, Fault, Refused, WriteFault, Reason, Limits, Kind, Continues, HasAnnotations, HasPlace, InRange, has_field, is_marker, open_after, open_after_all, Head, Item, PlacedItem, Scalar, SymbolAt, UserSymbol, map_head, map_scalar, user_item, user_items, user_symbol_at}
 use Rattle.ion_value.specs.declared.ion_type.Kind.TheVariants as kind
-use Rattle.ion_value.specs.Standing.{Continues, HasAnnotations, HasPlace, InRange, has_field, is_marker, open_after, open_after_all}
 use Rattle.ion_value.specs.Value as value
-use Rattle.ion_value.specs.Value.{Head, Item, PlacedItem, Scalar, SymbolAt, UserSymbol, map_head, map_scalar, user_item, user_items, user_symbol_at}
 use Rattle.ion_binary.specs.declared.headers.HeaderPlace.{HeaderPlace}
 use Rattle.ion_binary.specs.declared.open_value.OpenValue.{OpenValue}
 use Rattle.ion_binary.specs.declared.writer.BinWriter.{BinWriter}
@@ -73,9 +66,7 @@ may-add-by limits v s item (value.whole body) e come = in-range body come.fits.p
 may-add-by limits v s item (value.begin k) e come =
     let few = headers-few s.open_containers in
     let same : length v.headers ≡ length (headers_of s.open_containers) = ap (λ (hs : List HeaderPlace). length hs) e in
-    let p = come.fits.place in
-    let l = come.level in
-    omega (arith, few, same, p, l)
+    omega (arith, few, same, come.fits.place, come.level)
 may-add-by limits v s item value.end e come = (none-field item.field come.fits.field, none-annotations item.annotations come.fits.annotations)
 may-add-by limits v s item value.marker e come = absurd (Prim.cc come.value)
 

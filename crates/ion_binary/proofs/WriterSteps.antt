@@ -1,17 +1,8 @@
 -- The writer of binary follows the streaming definition from item to item.
-use Rattle.std.proofs.Common.{◌≡◌, ℕ, zero, suc, ◌+◌, ◌-◌, ◌/◌, ◌<◌, ◌≤◌, ◌⊎◌, inl, inr, Bool, true, false, if◌then◌else◌, List, [], ◌∷◌, ◌++◌, length, map, drop, Option, Some, None, option_map, Result, Ok, Err, OnOk, refl, ap, sym, subst, ◌∙◌, arith, append-nil, length-append, lt-ltb, le-ltb}
-use Rattle.ion_meter.specs.Windows.{Outgoing}
+use Rattle.ion_binary.proofs.Below.{◌≡◌, ℕ, zero, suc, ◌+◌, ◌-◌, ◌/◌, ◌<◌, ◌≤◌, ◌⊎◌, inl, inr, Bool, true, false, if◌then◌else◌, List, [], ◌∷◌, ◌++◌, length, map, drop, Option, Some, None, option_map, Result, Ok, Err, OnOk, refl, ap, sym, subst, ◌∙◌, arith, append-nil, length-append, Outgoing, Fault, Refused, Memory, ReadFault, WriteFault, InputLimit, Reason, ValueLimit, Limits, IsPut, Puts-longer, Puts-nothing, Head, Item, PlacedItem, SymbolAt, UserSymbol, map_head, map_scalar, user_item, user_symbol_at, texts_cost}
+use Rattle.std.proofs.Common.{lt-ltb, le-ltb}
 use Rattle.ion_meter.specs.declared.device.Output.{Ghosts as OutputOf}
-use Rattle.ion_meter.specs.declared.fault.Fault.{Fault}
-use Rattle.ion_meter.specs.declared.fault.Fault.TheVariants.{Refused, Memory, ReadFault, WriteFault, InputLimit}
-use Rattle.ion_meter.specs.declared.fault.Reason.{Reason}
-use Rattle.ion_meter.specs.declared.fault.Reason.TheVariants.{ValueLimit}
-use Rattle.ion_meter.specs.declared.limits.Limits.{Limits}
-use Rattle.ion_meter.specs.Sinks.{IsPut}
-use Rattle.ion_meter.proofs.Putting.{Puts-longer, Puts-nothing}
 use Rattle.ion_value.specs.Value as value
-use Rattle.ion_value.specs.Value.{Head, Item, PlacedItem, Scalar, SymbolAt, UserSymbol, map_head, map_scalar, user_item, user_items, user_symbol_at}
-use Rattle.ion_symbols.specs.Output.{texts_cost}
 use Rattle.ion_binary.specs.declared.front.Front.{Front}
 use Rattle.ion_binary.specs.declared.headers.HeaderPlace.{HeaderPlace}
 use Rattle.ion_binary.specs.declared.open_value.OpenValue.{OpenValue}

@@ -1,12 +1,5 @@
 -- What the writer keeps and moves as an item is added.
-use Rattle.std.proofs.Common.{◌≡◌, ℕ, ◌+◌, ◌≤◌, length, Option, Some, None, refl, ap, ◌∙◌, arith}
-use Rattle.ion_meter.specs.Counts.{Counts}
-use Rattle.ion_meter.specs.declared.fault.Fault.{Fault}
-use Rattle.ion_meter.specs.declared.fault.Fault.TheVariants.{Refused}
-use Rattle.ion_meter.specs.declared.fault.Reason.{Reason}
-use Rattle.ion_meter.specs.declared.limits.Limits.{Limits}
-use Rattle.ion_value.specs.Shares.{Charges, MemoryCauses}
-use Rattle.ion_symbols.specs.Output.{Output, texts_cost}
+use Rattle.ion_binary.proofs.Below.{◌≡◌, ℕ, ◌+◌, ◌≤◌, length, Option, Some, None, refl, ap, ◌∙◌, arith, Counts, Fault, Refused, Reason, Limits, Charges, MemoryCauses, Output, texts_cost}
 use Rattle.ion_binary.specs.declared.open_value.OpenValue.{OpenValue}
 use Rattle.ion_binary.specs.declared.writer.BinWriter.{BinWriter}
 use Rattle.ion_binary.specs.Late.{Adds, Content}
@@ -24,20 +17,12 @@ pub front-taken : {A : Type 0} (w : BinWriter A) (s : Output) (c : Content) (m n
 front-taken w s c m n fault can adds charges causes limit share within =
     let costed = adds-costed w.open_value.octets c can.sound.within.costed adds in
     let late = adds.late in
-    let cost = adds.cost in
     let few = can.sound.within.headers in
-    let beside = can.sound.within.room in
     let lim = can.sound.limit in
-    let own = can.held in
-    let most = costed.most in
-    let before = can.sound.within.costed.most in
-    let least = can.sound.within.costed.least in
-    let h = charges.held in
-    let p = charges.peak in
     record {
       sound = record {
         checked = can.sound.checked;
-        within = record { octets = within; headers = omega (arith, few, late); costed = costed; room = omega (arith, late, beside) };
+        within = record { octets = within; headers = omega (arith, few, late); costed = costed; room = omega (arith, late, can.sound.within.room) };
         limit = limit ∙ lim;
         share = omega (arith, share, lim);
         few = can.sound.few;
@@ -46,9 +31,9 @@ front-taken w s c m n fault can adds charges causes limit share within =
       failed = refl;
       memory = causes;
       charges = record {
-        held = omega (arith, h, cost);
-        share = omega (arith, share, lim, most, within, few, late);
-        peak = omega (arith, p, own, before, least, few, lim);
+        held = omega (arith, charges.held, adds.cost);
+        share = omega (arith, share, lim, costed.most, within, few, late);
+        peak = omega (arith, charges.peak, can.held, can.sound.within.costed.most, can.sound.within.costed.least, few, lim);
         rises = charges.rises;
       };
     }
@@ -60,21 +45,13 @@ front-can-step w s c m n can t =
     let room = can.room in
     let countable = can.countable in
     let counted = t.memory.counted (λ e. absurd (Prim.cc e)) in
-    record { checked = can.sound.checked; within = t.sound.within; room = omega (arith, h, own, room); held = omega (arith, h, own); countable = omega (arith, counted, countable) }
+    record { checked = can.sound.checked; within = t.sound.within; room = omega (arith, t.charges.held, can.held, room); held = omega (arith, t.charges.held, can.held); countable = omega (arith, counted, countable) }
 
 -- and then the open value makes a step
 pub taken-stepped : {A : Type 0} (w x : BinWriter A) (v : OpenValue A) (m n o : Counts) (fault : Option Fault) → CanTake w m → Taken w x m n None → Stepped x.limits x.open_value v n o fault
     → Taken w (record x { open_value = v }) m o fault
 taken-stepped w x v m n o fault can t s =
-    let own = can.held in
-    let h = t.charges.held in
-    let p = t.charges.peak in
-    let r = t.charges.rises in
-    let k = s.charges.held in
-    let q = s.charges.peak in
-    let y = s.charges.rises in
     let share = s.charges.share in
-    let texts = t.sound.share in
     let depth : x.limits.depth ≡ w.limits.depth = ap (λ (l : Limits). l.depth) t.limits in
     let value : x.limits.value ≡ w.limits.value = ap (λ (l : Limits). l.value) t.limits in
     let symbols : x.limits.symbols ≡ w.limits.symbols = ap (λ (l : Limits). l.symbols) t.limits in
@@ -85,10 +62,10 @@ taken-stepped w x v m n o fault can t s =
       failed = t.failed;
       memory = record { memory = λ e. let f = s.memory.memory e in omega (arith, f, same); counted = λ e. s.memory.counted e ∙ same };
       charges = record {
-        held = omega (arith, h, k);
-        share = omega (arith, share, texts, depth, value, symbols);
-        peak = omega (arith, p, q, h, own, texts, depth, value, symbols);
-        rises = omega (arith, r, y);
+        held = omega (arith, t.charges.held, s.charges.held);
+        share = omega (arith, share, t.sound.share, depth, value, symbols);
+        peak = omega (arith, t.charges.peak, s.charges.peak, t.charges.held, can.held, t.sound.share, depth, value, symbols);
+        rises = omega (arith, t.charges.rises, s.charges.rises);
       };
     }
 

@@ -1,18 +1,12 @@
 -- Worked rows of the canonical form, of trees and item by item, by computing.
-use Rattle.std.specs.Prelude.{◌≡◌, refl, ℕ, zero, suc, ◌^◌, ◌-◌, pos, negsuc, Bool, true, false, List, [], ◌∷◌, ◌++◌, Option, Some, None, codes, from_bits}
-use lib.Ieee.{binary64, fits, of_bits, to_bits}
-use Rattle.ion_meter.specs.declared.fault.Reason.{Reason}
-use Rattle.ion_meter.specs.declared.fault.Reason.TheVariants.{SymbolLimit, ValueLimit}
-use Rattle.ion_meter.specs.declared.limits.Limits.{Limits}
+use Rattle.ion_binary.proofs.Below.{◌≡◌, refl, ℕ, zero, suc, ◌^◌, ◌-◌, pos, negsuc, Bool, true, false, List, [], ◌∷◌, ◌++◌, Option, Some, None, codes, from_bits, binary64, Reason, SymbolLimit, ValueLimit, Limits, Timestamp, Year, Day, Fraction, fields, Text, Id, SymbolAt, UserSymbol, Known, Unknown, Value, Members, scalar, container, nothing, member, Top, tree, Head, whole, begin, PlacedItem, top_items}
+use lib.Ieee.{fits, of_bits, to_bits}
 use Rattle.ion_value.specs.declared.ion_type.IonType.TheVariants as type
 use Rattle.ion_value.specs.declared.ion_type.Kind.TheVariants as kind
-use Rattle.ion_value.specs.declared.timestamp.Timestamp.{Timestamp}
-use Rattle.ion_value.specs.declared.timestamp.Precision.TheVariants.{Year, Day, Fraction}
 use Rattle.ion_value.specs.Number.{digits_within}
 use Rattle.ion_value.specs.Decimal.{decimal_body}
-use Rattle.ion_value.specs.Timestamp.{fields, timestamp_body, utc_of}
+use Rattle.ion_value.specs.Timestamp.{timestamp_body, utc_of}
 use Rattle.ion_value.specs.Value as value
-use Rattle.ion_value.specs.Value.{Text, Id, SymbolAt, UserSymbol, Known, Unknown, Scalar, Value, Members, scalar, container, nothing, member, Top, tree, Head, whole, begin, end, PlacedItem, top_items}
 use Rattle.ion_binary.specs.Canonical.{binary, declaration, id_in, is_over, marker_octets, member_octets, value_octets, with_symbol}
 use Rattle.ion_binary.specs.Writing.{after_all, at_begin, binary_adds, binary_puts, binary_refusal}
 

@@ -1,20 +1,8 @@
 -- The declarations of what is written are accepted, and the ids stand in their tables.
-use Rattle.std.proofs.Common.{◌≡◌, ℕ, suc, ◌+◌, ◌^◌, ◌<◌, ◌≤◌, Bool, true, false, inl, inr, List, [], ◌∷◌, ◌++◌, length, drop, map, Option, Some, None, Ok, IsUtf8, refl, ap, sym, ◌∙◌, subst, append_assoc, append-nil, arith}
-use Rattle.std.specs.List.{AllByRecursion}
-use Rattle.std.proofs.Math.Seq.{drop-append_seam}
-use Rattle.ion_meter.specs.declared.limits.Limits.{Limits}
+use Rattle.ion_binary.proofs.Below.{◌≡◌, ℕ, suc, ◌+◌, ◌^◌, ◌<◌, ◌≤◌, Bool, true, false, inl, inr, List, [], ◌∷◌, ◌++◌, length, drop, map, Option, Some, None, Ok, IsUtf8, refl, ap, sym, ◌∙◌, subst, append_assoc, append-nil, arith, AllByRecursion, drop-append_seam, Limits, Symbol, Id, SymbolAt, UserSymbol, Known, Unknown, Scalar, Value, Members, scalar, container, nothing, member, Top, version, tree, map_value, no_place, field_symbols, members_symbols, scalar_symbols, value_symbols, Ground, AnyAbove, SymbolAbove, IsSlot, SymbolStands, FieldStands, ValueStands, MembersStand, texts_cost, AreResolved, Slot, Shared, Table, system, slot_of, text_of_slot, slots_cost, declared, declares_table, IsUser, value_symbols-map}
 use Rattle.ion_value.specs.Value as value
-use Rattle.ion_value.specs.Value.{Symbol, Id, SymbolAt, UserSymbol, Known, Unknown, Scalar, Value, Members, scalar, container, nothing, member, Top, version, tree, map_value, no_place}
-use Rattle.ion_value.specs.Writable.{field_symbols, members_symbols, scalar_symbols, value_symbols}
-use Rattle.ion_symbols.specs.Declaration.{Ground}
-use Rattle.ion_symbols.specs.Laws.{AnyAbove, SymbolAbove, IsSlot, SymbolStands, Stands, FieldStands, ValueStands, MembersStand}
-use Rattle.ion_symbols.specs.Output.{texts_cost}
-use Rattle.ion_symbols.specs.Resolved.{AreResolved}
+use Rattle.ion_symbols.specs.Laws.{Stands}
 use Rattle.ion_symbols.specs.Table as slot
-use Rattle.ion_symbols.specs.Table.{Slot, Shared, Table, system, slot_of, text_of_slot, slots_cost}
-use Rattle.ion_symbols.specs.Tree.{declared, declares_table}
-use Rattle.ion_symbols.specs.UserValues.{IsUser}
-use Rattle.ion_symbols.proofs.OtherSymbols.{value_symbols-map}
 use Rattle.ion_binary.specs.Grammar.{Stream, Tops}
 use Rattle.ion_binary.specs.Laws.{Bodies}
 use Rattle.ion_binary.specs.Canonical.{binary, declaration, id_in, is_over, marker_if, marker_octets, member_octets, octets_after, texts_kept, tree_octets, value_octets, with_symbols}

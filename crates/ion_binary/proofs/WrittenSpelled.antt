@@ -1,30 +1,10 @@
 -- The octets of a value are those of the grammar, with each symbol as its id.
-use Rattle.std.proofs.Common.{◌≡◌, ◌≢◌, ℕ, suc, ◌+◌, ◌*◌, ◌^◌, ◌<◌, ◌≤◌, Bool, true, false, nat_lt, is_some, if◌then◌else◌, List, [], ◌∷◌, ◌++◌, length, map, Option, Some, None, option_map, refl, ap, ap₂, sym, subst, ◌∙◌, inl, append_assoc, arith, length-append, ltb-true}
-use Rattle.std.proofs.lemmas.List.{length-map}
-use Rattle.std.specs.Bool.{⊤}
-use Rattle.ion_meter.specs.declared.profile.Rules.{Rules}
-use Rattle.ion_value.specs.declared.ion_type.IonType.{IonType}
+use Rattle.ion_binary.proofs.Below.{◌≡◌, ◌≢◌, ℕ, suc, ◌+◌, ◌*◌, ◌^◌, ◌<◌, ◌≤◌, Bool, true, false, nat_lt, is_some, if◌then◌else◌, List, [], ◌∷◌, ◌++◌, length, map, Option, Some, None, option_map, refl, ap, ap₂, sym, subst, ◌∙◌, inl, append_assoc, arith, length-append, length-map, ⊤, Rules, IonType, Kind, Int, uint, marked, digits_in, uint_octets, var_uint_octets, IsInt, decimal_body, float_octets, timestamp_body, raw_id, IsPermitted, InRange, in_struct, Symbol, Id, SymbolAt, UserSymbol, Scalar, Value, Members, scalar, container, nothing, member, map_scalar, map_value, map_members, no_place, HasText, IsWritable, AreWritable, Digits-fewest, digits_in-Digits, var_uint_octets-VarUInt, decimal_body-DecimalBody, bytes-back, octets-read}
+use Rattle.std.proofs.Common.{ltb-true}
 use Rattle.ion_value.specs.declared.ion_type.IonType.TheVariants as type
-use Rattle.ion_value.specs.declared.ion_type.Kind.{Kind}
 use Rattle.ion_value.specs.declared.ion_type.Kind.TheVariants as kind
-use Rattle.ion_value.specs.declared.int.Int.{Int}
-use Rattle.ion_value.specs.Number.{uint, marked, digits_in, uint_octets, var_uint_octets}
-use Rattle.ion_value.specs.Int.{IsInt}
-use Rattle.ion_value.specs.Decimal.{decimal_body}
-use Rattle.ion_value.specs.FloatOctets.{float_octets}
-use Rattle.ion_value.specs.Timestamp.{timestamp_body}
-use Rattle.ion_value.specs.Name.{raw_id}
-use Rattle.ion_value.specs.ReadingLaws.{IsPermitted}
 use Rattle.ion_value.specs.Scalar as numbered
-use Rattle.ion_value.specs.Standing.{InRange, in_struct}
 use Rattle.ion_value.specs.Value as value
-use Rattle.ion_value.specs.Value.{Symbol, Id, SymbolAt, UserSymbol, Scalar, Value, Members, scalar, container, nothing, member, map_scalar, map_value, map_members, no_place}
-use Rattle.ion_value.specs.Writable.{HasText, IsWritable, AreWritable}
-use Rattle.ion_value.proofs.Octets.{Digits-fewest, digits_in-Digits}
-use Rattle.ion_value.proofs.VarOctets.{var_uint_octets-VarUInt}
-use Rattle.ion_value.proofs.DecimalOctets.{decimal_body-DecimalBody}
-use Rattle.ion_value.proofs.TimestampBodies.{bytes-back}
-use Rattle.ion_float.proofs.OctetLaws.{octets-read}
 use Rattle.ion_binary.specs.Positions.{symbol_id, placed_scalar}
 use Rattle.ion_binary.specs.Grammar.{Descriptor, IsNullOf, Body, Plain, Ids, Field, Header, Wrapper, Annotated, Bin, Inside, type_code}
 use Rattle.ion_binary.specs.Canonical.{annotation_octets, field_octets, header, headed, id_octets, length_octets, members_octets, scalar_octets, value_octets, wrapped}

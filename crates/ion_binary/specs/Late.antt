@@ -1,9 +1,9 @@
 -- Headers that are late: octets are held without them, and each goes in at an offset of the octets that are there.
-use Rattle.std.specs.Prelude.{◌≡◌, ℕ, zero, suc, ◌+◌, ◌*◌, ◌^◌, ◌<◌, ◌≤◌, List, [], ◌∷◌, ◌++◌, length, Option, Some, ⊤}
-use Rattle.ion_meter.specs.Counts.{Counts}
+use Rattle.std.specs.Prelude.{◌≡◌, ℕ, zero, suc, ◌+◌, ◌*◌, ◌-◌, ◌^◌, ◌<◌, ◌≤◌, Bool, true, false, List, [], ◌∷◌, ◌++◌, length, take, drop, Option, Some, Result, OnOk, OnErr, ⊤}
+use Rattle.ion_meter.specs.Counts.{Counts, Grows}
 use Rattle.ion_meter.specs.declared.fault.Fault.{Fault}
 use Rattle.ion_meter.specs.declared.fault.Fault.TheVariants.{Memory}
-use Rattle.ion_value.specs.Shares.{Charges, MemoryCauses}
+use Rattle.ion_value.specs.Shares.{Charges, MemoryCauses, fault_of}
 use Rattle.ion_binary.specs.declared.held_octets.LateHeader.{LateHeader}
 use Rattle.ion_binary.specs.Canonical.{header}
 use Rattle.ion_binary.specs.Held.{put_at}
@@ -40,6 +40,34 @@ pub record Moved (old new : Content) (before after : Counts) (most : ℕ) (fault
   pub memory : MemoryCauses fault before after
   pub alone : (f : Fault) → fault ≡ Some f → f ≡ Memory
   pub charges : Charges before after old.cost new.cost most
+
+-- octets may go in at an offset
+pub record CanPutAt (c : Content) (meter : Counts) (offset : ℕ) (x : List ℕ) : Type 0 where
+  pub within : offset ≤ length c.all
+  pub short : length c.all ≤ 2 ^ 32
+  pub room : meter.held + (length c.all + length x) < 2 ^ 63
+  pub held : c.cost ≤ meter.held
+  pub countable : meter.refused < 2 ^ 64 - 1
+
+-- they went in there, or memory was refused, and all octets are as they were
+pub record PutsAt (offset : ℕ) (x : List ℕ) (old new : Content) (before after : Counts) (result : Result (Unit {0}) Fault) : Type 0 where
+  pub ok : OnOk result (new.all ≡ put_at offset x old.all)
+  pub err : OnErr result (new.all ≡ old.all)
+  pub late : new.late ≤ old.late
+  pub moved : Moved old new before after (length old.all + length x + 16 * old.late) (fault_of result)
+
+-- the header of a body of so many octets may go in at a place
+pub record CanPutHeader (xs : List ℕ) (meter : Counts) (type_code place inside : ℕ) : Type 0 where
+  pub code : type_code < 16
+  pub within : place ≤ length xs
+  pub short : inside < 2 ^ 63
+  pub room : meter.held + 10 < 2 ^ 63
+
+-- it went in there, or nothing is changed
+pub record PutsHeader (code place inside : ℕ) (old new : List ℕ) (before after : Counts) (result : Bool) : Type 0 where
+  pub octets : result ≡ true → new ≡ take place old ++ (header code inside ++ drop place old)
+  pub cost : result ≡ true → Grows before after (length (header code inside))
+  pub declines : result ≡ false → (new ≡ old) × (after ≡ before)
 
 -- ---- the headers themselves, the last of the stream first
 

@@ -113,15 +113,15 @@ pub(crate) struct FewNumber {
     pub(crate) first: Few,
     pub(crate) body: [u8; 8],
     pub(crate) size: usize,
+    ghost short: { length first ≤ 2 },
+    ghost fits: { size ≤ 8 },
 }
 
 // The octets of a scalar whose body is a number of 64 bits.
 #[inline(always)]
 fn few_number(code: u8, n: u64) -> FewNumber
     requires code { code < 16 }
-    ensures octets { result.first ++ take result.size result.body ≡ headed code (uint_octets n) }
-    ensures few { length result.first ≤ 2 }
-    ensures size { result.size ≤ 8 }
+    ensures { result.first ++ take result.size result.body ≡ headed code (uint_octets n) }
 {
     let zeros = n.leading_zeros() / 8;
     let size = 8 - zeros as usize;
@@ -135,10 +135,8 @@ fn few_number(code: u8, n: u64) -> FewNumber
 // The octets of a float.
 #[inline(always)]
 fn few_float(float: Float64) -> FewNumber
-    ensures octets { result.first ++ take result.size result.body
+    ensures { result.first ++ take result.size result.body
         ≡ headed 4 (float_octets (value_of float)) }
-    ensures few { length result.first ≤ 2 }
-    ensures size { result.size ≤ 8 }
 {
     let octets = float_to_octets(float);
     let size = octets.len();
@@ -153,10 +151,8 @@ fn few_float(float: Float64) -> FewNumber
 // exponent.
 #[inline(always)]
 fn few_decimal(number: Decimal) -> Option<FewNumber>
-    ensures octets { IfSome result (λ it. it.first ++ take it.size it.body
+    ensures { IfSome result (λ it. it.first ++ take it.size it.body
         ≡ headed 5 (decimal_body number)) }
-    ensures few { IfSome result (λ it. length it.first ≤ 2) }
-    ensures size { IfSome result (λ it. it.size ≤ 8) }
 {
     let magnitude = number.coefficient;
     if magnitude == 0 || magnitude >= 1 << 63 {
@@ -173,10 +169,8 @@ fn few_decimal(number: Decimal) -> Option<FewNumber>
 fn few_coefficient(exponent: u8, negative: bool, coefficient: u64) -> FewNumber
     requires some { 0 < coefficient }
     requires most { coefficient < 2 ^ 63 }
-    ensures octets { result.first ++ take result.size result.body
+    ensures { result.first ++ take result.size result.body
         ≡ headed 5 (exponent ∷ coefficient_octets negative coefficient) }
-    ensures few { length result.first ≤ 2 }
-    ensures size { result.size ≤ 8 }
 {
     let zeros = (coefficient.leading_zeros() - 1) / 8;
     let size = 8 - zeros as usize;
@@ -191,9 +185,7 @@ fn few_coefficient(exponent: u8, negative: bool, coefficient: u64) -> FewNumber
 // A scalar of one octet.
 #[inline(always)]
 fn few_octet(octet: u8) -> FewNumber
-    ensures octets { result.first ++ take result.size result.body ≡ octet ∷ [] }
-    ensures few { length result.first ≤ 2 }
-    ensures size { result.size ≤ 8 }
+    ensures { result.first ++ take result.size result.body ≡ octet ∷ [] }
 {
     FewNumber {
         first: Few::one(octet),
@@ -206,8 +198,6 @@ fn few_octet(octet: u8) -> FewNumber
 /// symbol of this id.
 #[inline(always)]
 pub(crate) fn few_of(head: Head<'_>, symbol: u32) -> Option<FewNumber>
-    ensures few { IfSome result (λ number. length number.first ≤ 2) }
-    ensures size { IfSome result (λ number. number.size ≤ 8) }
     ensures long { result ≡ None → is_short (raw_head head.entry) ≡ false }
     ensures octets { IfSome result (λ number. (ids : UserSymbol → ℕ)
         → symbol ≡ head_name ids (user_head head.entry)

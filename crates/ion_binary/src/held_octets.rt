@@ -8,7 +8,7 @@ ghost use Rattle.ion_symbols.specs.Output.{known_id, texts_cost};
 ghost use Rattle.ion_value.specs.Shares.{fault_of};
 ghost use Rattle.ion_binary.specs.Canonical.{header};
 ghost use Rattle.ion_binary.specs.Held.{put_at};
-ghost use Rattle.ion_binary.specs.Late.{AreLate, FitsAt, Moved, appended, late_octets, missing_of, nothing, spread};
+ghost use Rattle.ion_binary.specs.Late.{AreLate, CanPutAt, CanPutHeader, FitsAt, Moved, PutsAt, PutsHeader, appended, late_octets, missing_of, nothing, spread};
 
 use crate::header::header;
 use crate::headers::{HeaderPlace, Headers};
@@ -246,16 +246,8 @@ impl<A: Allocator + Copy> HeldOctets<A> {
         offset: usize,
         octets: &[u8],
     ) -> Result<(), Fault>
-        requires within { offset ≤ length self.old.all }
-        requires short { length self.old.all ≤ 2 ^ 32 }
-        requires room { meter.old.held + (length self.old.all + length octets.now) < 2 ^ 63 }
-        requires held { self.old.cost ≤ meter.old.held }
-        requires countable { meter.old.refused < 2 ^ 64 - 1 }
-        ensures ok { OnOk result (self.new.all ≡ put_at offset octets.now self.old.all) }
-        ensures err { OnErr result (self.new.all ≡ self.old.all) }
-        ensures late { self.new.late ≤ self.old.late }
-        ensures moved { Moved self.old self.new meter.old meter.new
-            (length self.old.all + length octets.now + 16 * self.old.late) (fault_of result) }
+        requires { CanPutAt self.old meter.old offset octets.now }
+        ensures { PutsAt offset octets.now self.old self.new meter.old meter.new result }
     {
         match after_late(self.late.as_slice(), self.missing, offset) {
             Some(there) => self.there.insert_slice(meter, there, octets),
@@ -315,13 +307,8 @@ impl<A: Allocator + Copy> HeldOctets<A> {
         requires room { meter.old.held + (length self.old.all + 16) < 2 ^ 63 }
         requires held { self.old.cost ≤ meter.old.held }
         requires countable { meter.old.refused < 2 ^ 64 - 1 }
-        ensures ok { OnOk result (self.new.all
-            ≡ put_at offset (header code (length self.old.all - offset)) self.old.all) }
-        ensures err { OnErr result (self.new.all ≡ self.old.all) }
-        ensures late { self.new.late ≤ self.old.late }
-        ensures moved { Moved self.old self.new meter.old meter.new (length self.old.all
-            + length (header code (length self.old.all - offset)) + 16 * self.old.late)
-            (fault_of result) }
+        ensures { PutsAt offset (header code (length self.old.all - offset))
+            self.old self.new meter.old meter.new result }
     {
         let octets = header(code, inside as u64);
         self.insert(meter, offset, octets.as_slice())
@@ -434,16 +421,8 @@ impl<A: Allocator + Copy> HeldOctets<A> {
         offset: usize,
         octets: &[u8],
     ) -> Result<(), Fault>
-        requires within { offset ≤ length self.old.all }
-        requires short { length self.old.all ≤ 2 ^ 32 }
-        requires room { meter.old.held + (length self.old.all + length octets.now) < 2 ^ 63 }
-        requires held { self.old.cost ≤ meter.old.held }
-        requires countable { meter.old.refused < 2 ^ 64 - 1 }
-        ensures ok { OnOk result (self.new.all ≡ put_at offset octets.now self.old.all) }
-        ensures err { OnErr result (self.new.all ≡ self.old.all) }
-        ensures late { self.new.late ≤ self.old.late }
-        ensures moved { Moved self.old self.new meter.old meter.new
-            (length self.old.all + length octets.now + 16 * self.old.late) (fault_of result) }
+        requires { CanPutAt self.old meter.old offset octets.now }
+        ensures { PutsAt offset octets.now self.old self.new meter.old meter.new result }
     {
         if let Err(fault) = self.settle(meter) {
             return Err(fault);
@@ -640,14 +619,8 @@ fn insert_header<A: Allocator + Copy>(
     place: usize,
     inside: usize,
 ) -> bool
-    requires code { code < 16 }
-    requires within { place ≤ length octets.old }
-    requires short { inside < 2 ^ 63 }
-    requires room { meter.old.held + 10 < 2 ^ 63 }
-    ensures octets { result ≡ true → octets.new
-        ≡ take place octets.old ++ (header code inside ++ drop place octets.old) }
-    ensures cost { result ≡ true → Grows meter.old meter.new (length (header code inside)) }
-    ensures declines { result ≡ false → (octets.new ≡ octets.old) × (meter.new ≡ meter.old) }
+    requires { CanPutHeader octets.old meter.old code place inside }
+    ensures { PutsHeader code place inside octets.old octets.new meter.old meter.new result }
 {
     if inside < 14 {
         let one = [16 * code + inside as u8];
@@ -669,14 +642,8 @@ fn insert_long_header<A: Allocator + Copy>(
     place: usize,
     inside: usize,
 ) -> bool
-    requires code { code < 16 }
-    requires within { place ≤ length octets.old }
-    requires short { inside < 2 ^ 63 }
-    requires room { meter.old.held + 10 < 2 ^ 63 }
-    ensures octets { result ≡ true → octets.new
-        ≡ take place octets.old ++ (header code inside ++ drop place octets.old) }
-    ensures cost { result ≡ true → Grows meter.old meter.new (length (header code inside)) }
-    ensures declines { result ≡ false → (octets.new ≡ octets.old) × (meter.new ≡ meter.old) }
+    requires { CanPutHeader octets.old meter.old code place inside }
+    ensures { PutsHeader code place inside octets.old octets.new meter.old meter.new result }
 {
     let all = header(code, inside as u64);
     octets.insert_if_room(meter, place, all.as_slice())

@@ -1,6 +1,7 @@
 //! Laws of the grammar and the reading of the binary form, each the contract of a function that
 //! does nothing.
 ghost use Rattle.ion_binary.specs.Laws.{Bodies, Complete, EachStepFalls, EachStepFollows, ExactLimits, Narrow, NoStreamBegins, OnePath, OneStream, PassedLimitsStop, RightlyRefused, Sound, Stable, StreamsAreRaw, StreamsAreRead, WithinLimitsAreRead};
+ghost use Rattle.ion_binary.specs.Cuts.{EachEndIsACut, MoreBytesGoOn, NothingHangsOnPlaces, PartsAreRead, StreamsBeginWithMarker, WholeValuesAreCut};
 ghost use Rattle.ion_binary.specs.WritingLaws.{ClosedSizeIsThatOfTheClosing, IdsAreGiven, ItemsAddTheirOctets, ItemsPutTheForm, OpenItemsPutWhatIsWhole, RefusedItemsAddNothing};
 ghost use Rattle.ion_binary.specs.Refusals.{ItemsAreRefusedAsInTrees, NoneIsRefusedWithin};
 ghost use Rattle.ion_binary.specs.Held.{WhatIsHeldMoves};
@@ -82,6 +83,35 @@ pub fn refusals_are_stable()
 /// that the rules permit begins with the input.
 pub fn no_stream_begins()
     ensures { NoStreamBegins }
+{}
+
+/// Behind each whole value at top level a stream may be cut: what is read to its end is read so,
+/// whatever bytes follow, and these are read from there on.
+pub fn whole_values_are_cut()
+    ensures { WholeValuesAreCut }
+{}
+
+/// Wherever a reading comes to the top level, what stands before is read to its end.
+pub fn each_end_is_a_cut()
+    ensures { EachEndIsACut }
+{}
+
+/// Each binary stream begins with a version marker, or is refused at once.
+pub fn streams_begin_with_a_marker()
+    ensures { StreamsBeginWithMarker }
+{}
+
+/// Where more bytes follow, what is read before the end is read first, and a refusal stands, unless
+/// it is for the want of bytes.
+pub fn more_bytes_go_on()
+    ensures { MoreBytesGoOn }
+{}
+
+/// Nothing in what is read hangs on where the octets begin, but the places of the items and of the
+/// refusal: a part is read as a stream of its own.
+pub fn nothing_hangs_on_places()
+    ensures anywhere { NothingHangsOnPlaces }
+    ensures alone { PartsAreRead }
 {}
 
 /// A reading stops at a limit only where the limit is passed, at the next value after what it has

@@ -8,9 +8,9 @@ ghost use Rattle.ion_value.specs.Value.{UserSymbol};
 ghost use Rattle.ion_binary.specs.Counting.{IsCounted, IsCountedTo, AreReached, content_around, counted_length, cut, sizes_from};
 ghost use Rattle.ion_binary.specs.Canonical.{header};
 ghost use Rattle.ion_binary.specs.Grammar.{type_code};
-ghost use Rattle.ion_binary.specs.Held.{begun_at, begun_headers, closed_in, headers_around, innermost_in, moved_headers, moved_octets, put_at, size_of, whole_at, wrapper_headers};
+ghost use Rattle.ion_binary.specs.Held.{begun_at, begun_headers, closed_in, headers_around, innermost_in, moved_headers, moved_octets, size_of, whole_at, wrapper_headers};
 ghost use Rattle.ion_binary.specs.ItemOctets.{head_name, user_head};
-ghost use Rattle.ion_binary.specs.Late.{IsCosted, Moved, appended, nothing};
+ghost use Rattle.ion_binary.specs.Late.{CanPutAt, IsCosted, PutsAt, appended, nothing};
 ghost use Rattle.ion_meter.specs.Limits.{AreChecked};
 ghost use Rattle.ion_binary.specs.Opening.{AddsOctets, Begins, CanAdd, CanStep, HasRoom, IsOpen, IsOpenTo, IsWithin, MayFollow, Raises, Stepped, both_octets, name_octets, open_cost};
 
@@ -631,17 +631,9 @@ fn insert_some<A: Allocator + Copy>(
     place: usize,
     more: &[u8],
 ) -> Result<(), Fault>
-    requires within { place ≤ length octets.old.all }
-    requires short { length octets.old.all ≤ 2 ^ 32 }
-    requires room { meter.old.held + (length octets.old.all + length more.now) < 2 ^ 63 }
-    requires held { octets.old.cost ≤ meter.old.held }
-    requires countable { meter.old.refused < 2 ^ 64 - 1 }
+    requires can_put { CanPutAt octets.old meter.old place more.now }
     requires costed { IsCosted octets.old }
-    ensures ok { OnOk result (octets.new.all ≡ put_at place more.now octets.old.all) }
-    ensures err { OnErr result (octets.new.all ≡ octets.old.all) }
-    ensures late { octets.new.late ≤ octets.old.late }
-    ensures moved { Moved octets.old octets.new meter.old meter.new
-        (length octets.old.all + length more.now + 16 * octets.old.late) (fault_of result) }
+    ensures { PutsAt place more.now octets.old octets.new meter.old meter.new result }
 {
     if more.is_empty() {
         return Ok(());

@@ -105,8 +105,6 @@ fn nothing<'a>() -> Spelled<'a>
 // Few octets.
 #[inline]
 fn short<'a>(number: &FewNumber) -> Spelled<'a>
-    requires few { length number.now.first ≤ 2 }
-    requires size { number.now.size ≤ 8 }
     ensures { spelled_octets result
         ≡ number.now.first ++ take number.now.size number.now.body }
 {

@@ -60,3 +60,6 @@ mod CatalogSteps
 mod CatalogMeaning
 mod CatalogRefusals
 mod CatalogTexts
+mod NoPlaces
+mod ReadOn
+mod ToTheTop

@@ -8,6 +8,7 @@ pub mod Output
 pub mod Laws
 pub mod Counted
 pub mod Resolved
+pub mod Onward
 pub mod Kept
 pub mod Catalogue
 pub mod Present

@@ -1,6 +1,7 @@
 //! Laws of the definitions of symbol tables, each the contract of a function that does nothing.
 ghost use Rattle.ion_symbols.specs.CatalogLaws.{CatalogsAreRead, CatalogsAreTables, TablesOfUsersAreText, WhyCatalogsAreRefused};
 ghost use Rattle.ion_symbols.specs.Laws.{DeclarationsAreRead, OpenUsersAreRead, SymbolsStand, UsersAreRead, WhatIsAccepted, WhatIsDeclared, WhyRefused, WhyUsersStop};
+ghost use Rattle.ion_symbols.specs.Onward.{AcceptedStreamsLeadToTheTop, DeclarationsLeaveTheTable, TablesHangOnNoPlace, UsersHangOnNoPlace, UsersReadOn, ValuesKeepTheTable};
 ghost use Rattle.ion_symbols.specs.Resolved.{WhatIsAcceptedIsResolved, WhatIsResolvedIsAccepted};
 ghost use Rattle.ion_symbols.specs.TextsOfUsers.{TextsOfUsersAreShort};
 ghost use Rattle.ion_symbols.specs.UserValues.{UsersOfRawValues};
@@ -99,4 +100,34 @@ pub fn tables_of_users_are_text()
 /// many bytes where those of the catalogue are, and the strings and symbols of the stream.
 pub fn texts_of_users_are_short()
     ensures { TextsOfUsersAreShort }
+{}
+
+/// What follows items of a stream is read from where they lead: from the symbol table behind them, and
+/// from what is open there.
+pub fn users_read_on()
+    ensures { UsersReadOn }
+{}
+
+/// Where a whole stream is accepted, its items lead to the top level: no declaration and no user value is
+/// open behind them.
+pub fn accepted_streams_lead_to_the_top()
+    ensures { AcceptedStreamsLeadToTheTop }
+{}
+
+/// Items of which each is one of a user value leave the symbol table that stands before them.
+pub fn values_keep_the_table()
+    ensures { ValuesKeepTheTable }
+{}
+
+/// The items of the declarations behind the last version marker, read from nothing, give no user
+/// value, and leave the symbol table that the whole stream leaves.
+pub fn declarations_leave_the_table()
+    ensures { DeclarationsLeaveTheTable }
+{}
+
+/// Nothing in what a user is given, or in the symbol table, hangs on where the bytes begin, but the
+/// places.
+pub fn users_hang_on_no_place()
+    ensures values { UsersHangOnNoPlace }
+    ensures tables { TablesHangOnNoPlace }
 {}

@@ -1,15 +1,7 @@
 -- Annotations that are put one after the other.
-use Rattle.std.proofs.Common.{◌≡◌, ℕ, zero, suc, ◌+◌, List, [], ◌∷◌, ◌++◌, take, drop, Result, Ok, Err, refl, arith, sym, ap, ◌∙◌, subst, append_assoc, append-nil}
-use Rattle.std.proofs.lemmas.List.{take-append-drop}
-use Rattle.std.specs.Prelude.{codes, slice_get}
-use Rattle.ion_meter.specs.Windows.{Outgoing}
-use Rattle.ion_meter.specs.declared.fault.Fault.{Fault}
-use Rattle.ion_value.specs.Value.{SymbolAt}
+use Rattle.ion_text_out.proofs.Below.{◌≡◌, ℕ, zero, suc, ◌+◌, List, [], ◌∷◌, ◌++◌, take, drop, Result, Ok, Err, refl, arith, sym, ap, ◌∙◌, subst, append_assoc, append-nil, take-append-drop, codes, slice_get, Outgoing, Fault, SymbolAt, HasPut, user_symbol_at, put_cut, put_then}
 use Rattle.ion_text_out.specs.Text.{annotation_text}
-use Rattle.ion_meter.specs.Sinks.{HasPut}
 use Rattle.ion_text_out.specs.Writing.{annotations_text, marked_text}
-use Rattle.ion_value.specs.Value.{user_symbol_at}
-use Rattle.ion_meter.proofs.Putting.{put_cut, put_then}
 
 -- the texts of the first annotations, and of the next
 next_annotation : (xs : List SymbolAt) (i : ℕ) → annotations_text (take (suc i) xs) ≡ annotations_text (take i xs) ++ marked_text (codes "::") (slice_get xs i)

@@ -1,15 +1,7 @@
 -- Octets that are encoded and put in parts.
-use Rattle.std.proofs.Common.{arith, ◌≡◌, ◌+◌, ◌-◌, ◌≤◌, ◌%◌, ◌∙◌, true, ap, sym, subst, refl, ℕ, List, [], ◌++◌, length, take, drop, replicate, None, Result, Ok, Err}
-use Rattle.std.proofs.Math.Seq.{take-add}
-use Rattle.std.proofs.lemmas.List.{length-append, length-drop, length-take-le, append-nil, append_assoc, take_all, take-append-drop}
-use Rattle.base64.specs.Engines.{standard}
-use Rattle.base64.specs.GeneralPurpose.{encode_of}
-use Rattle.base64.specs.Rfc4648.{encode, encode_symbols, padding_len}
-use Rattle.base64.proofs.Canonical.{encode_symbols-append}
-use Rattle.ion_meter.specs.declared.fault.Fault.{Fault}
-use Rattle.ion_meter.specs.Windows.{Outgoing}
-use Rattle.ion_meter.specs.Sinks.{HasPut}
-use Rattle.ion_meter.proofs.Putting.{put_nothing, put_cut, put_then}
+use Rattle.ion_text_out.proofs.Below.{arith, ◌≡◌, ◌+◌, ◌-◌, ◌≤◌, ◌%◌, ◌∙◌, true, ap, sym, subst, refl, ℕ, List, [], ◌++◌, length, take, drop, replicate, None, Result, Ok, Err, take-add, length-append, length-drop, length-take-le, take_all, take-append-drop, standard, encode_of, encode, padding_len, encode_symbols-append, Fault, Outgoing, HasPut, put_nothing, put_cut, put_then}
+use Rattle.std.proofs.lemmas.List.{append-nil, append_assoc}
+use Rattle.base64.specs.Rfc4648.{encode_symbols}
 
 -- octets in threes are encoded for themselves
 groups : (t xs ys : List ℕ) → length xs % 3 ≡ 0 → encode t 61 true (xs ++ ys) ≡ encode t 61 true xs ++ encode t 61 true ys

@@ -1,15 +1,10 @@
 -- What stands between parts: which it is, how long, and how its blanks are put.
-use Rattle.std.proofs.Common.{◌≡◌, ℕ, suc, ◌+◌, ◌-◌, ◌*◌, ◌<◌, ◌≤◌, Bool, true, false, List, [], ◌∷◌, ◌++◌, length, take, Option, Some, None, refl, sym, subst, ap, ◌∙◌, arith, append_assoc}
-use Rattle.std.specs.Prelude.{replicate, reverse, slice_get, codes}
-use Rattle.std.proofs.lemmas.List.{length-append, length-map, length-replicate, length-reverse, replicate-append-replicate, take-replicate}
-use Rattle.ion_meter.specs.Windows.{Outgoing}
-use Rattle.ion_value.specs.declared.ion_type.Kind.{Kind}
+use Rattle.ion_text_out.proofs.Below.{◌≡◌, ℕ, suc, ◌+◌, ◌-◌, ◌*◌, ◌<◌, ◌≤◌, Bool, true, false, List, [], ◌∷◌, ◌++◌, length, take, Some, None, refl, sym, subst, ap, ◌∙◌, arith, append_assoc, replicate, reverse, slice_get, codes, length-append, length-map, length-reverse, replicate-append-replicate, take-replicate, Outgoing, Kind}
 use Rattle.ion_value.specs.declared.ion_type.Kind.TheVariants as kind
-use Rattle.ion_text_out.specs.declared.layout.Gap.{Gap}
-use Rattle.ion_text_out.specs.Layout.{Layout, new_line}
+use Rattle.ion_text_out.specs.Layout.{Layout}
 use Rattle.ion_text_out.specs.Lane.{marked, plain_front}
 use Rattle.ion_text_out.specs.Text.{before_item}
-use Rattle.ion_text_out.specs.Writing.{before_end, byte_in, gap_text, innermost, line_in, shown, shown_in}
+use Rattle.ion_text_out.specs.Writing.{before_end, innermost, shown, shown_in}
 
 -- ---- before a member, and before a bracket that closes
 
@@ -51,27 +46,6 @@ pub end_none : (layout : Layout) (kinds : List Kind) (empty : Bool) → length k
 end_none layout kinds empty none = end_none_in layout (reverse kinds) empty (length-reverse kinds ∙ none)
 
 -- ---- lengths
-
-pub line-length : (depth : ℕ) → length (new_line depth) ≡ 1 + 2 * depth
-line-length depth = let blanks = length-replicate {A = ℕ} (2 * depth) 32 in omega (arith, blanks)
-
-byte-length : (mark : Option ℕ) → length (byte_in mark) ≤ 1
-byte-length None = omega arith
-byte-length (Some b) = omega arith
-
-gap_of-length : (mark line : Option ℕ) (n : ℕ) → length (line_in line) ≤ n → length (byte_in mark ++ line_in line) ≤ 1 + n
-gap_of-length mark line n few =
-    let one = byte-length mark in
-    let both = length-append (byte_in mark) (line_in line) in
-    omega (arith, few, one, both)
-
--- what has no new line
-pub gap-short : (gap : Gap) → gap.line ≡ None → length (gap_text gap) ≤ 1
-gap-short gap is = rw is (gap_of-length gap.mark None 0 (omega arith))
-
--- and what has one
-pub gap-long : (gap : Gap) (depth : ℕ) → gap.line ≡ Some depth → length (gap_text gap) ≤ 1 + (1 + 2 * depth)
-gap-long gap depth is = rw is (gap_of-length gap.mark (Some depth) (1 + 2 * depth) (omega (arith, line-length depth)))
 
 within_in : (layout : Layout) (kinds : List Kind) (empty : Bool) (room n : ℕ) → length kinds ≡ n
     → ((kind : Kind) (first : Bool) → length (layout.before_member kind first n) + length layout.after_name + 3 ≤ room)

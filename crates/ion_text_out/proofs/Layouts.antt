@@ -1,7 +1,5 @@
 -- Canonical text and pretty text are layouts: they have white space between tokens, and what the grammar asks for.
-use Rattle.std.proofs.Common.{◌≡◌, ◌*◌, ℕ, zero, suc, Bool, true, false, [], refl}
-use Rattle.std.specs.Prelude.{replicate}
-use Rattle.ion_value.specs.declared.ion_type.Kind.{Kind}
+use Rattle.ion_text_out.proofs.Below.{◌≡◌, ◌*◌, ℕ, zero, suc, Bool, true, false, [], refl, replicate, Kind}
 use Rattle.ion_value.specs.declared.ion_type.Kind.TheVariants as kind
 use Rattle.ion_text_out.specs.Layout.{AreWhite, IsLayout, MayPrecede, canonical, new_line, pretty}
 

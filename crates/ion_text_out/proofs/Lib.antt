@@ -1,3 +1,4 @@
+mod Below
 mod Blobs
 mod ItemParts
 mod Annotations

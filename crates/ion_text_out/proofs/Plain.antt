@@ -1,26 +1,12 @@
 -- What is put of a plain item is its text.
-use Rattle.std.proofs.Common.{◌==◌, ◌≡◌, ℕ, ◌≤◌, Bool, true, false, List, [], ◌∷◌, ◌++◌, length, take, drop, Option, Some, None, refl, sym, ap, ◌∙◌, append_assoc, append-nil, arith, if◌then◌else◌}
-use Rattle.std.proofs.Math.Seq.{drop-append_seam, take-append_seam}
-use Rattle.std.proofs.lemmas.Bool.{and_parts}
-use Rattle.std.specs.Prelude.{map, option_map, codes, is_some, IfSome}
-use Rattle.std.specs.List.{flat_map}
-use Rattle.ion_meter.specs.Windows.{Outgoing}
-use Rattle.ion_value.specs.Name.{coded, IsQuotedAs, is_plain, is_simple}
+use Rattle.ion_text_out.proofs.Below.{◌==◌, ◌≡◌, ℕ, ◌≤◌, Bool, true, false, List, [], ◌∷◌, ◌++◌, length, take, drop, Option, Some, None, refl, sym, ap, ◌∙◌, append_assoc, append-nil, arith, if◌then◌else◌, drop-append_seam, take-append_seam, and_parts, map, option_map, codes, is_some, IfSome, flat_map, Outgoing, coded, IsQuotedAs, is_plain, is_simple, PlacedItem, SymbolAt, Symbol, map_head, map_scalar, user_symbol, user_symbol_at, user_item, raw_head, IsOwnText, IsQuotedIn, IsRightlyQuoted, IsTextOf, StandsAfter, listed, placed_item, placed_text, with_second, all_are, Kind, TextAt, PlainItem, Limits}
 use Rattle.ion_value.specs.Value as v
-use Rattle.ion_value.specs.Value.{PlacedItem, SymbolAt, Symbol, map_head, map_scalar, user_symbol, user_symbol_at, user_item}
-use Rattle.ion_value.specs.Items.{raw_head}
-use Rattle.ion_value.specs.PlainItems.{IsOwnText, IsQuotedIn, IsRightlyQuoted, IsTextOf, StandsAfter, listed, placed_item, placed_text, with_second}
-use Rattle.ion_value.specs.Digits.{all_are}
 use Rattle.ion_value.specs.declared.quoting.Quoting.TheVariants as quoting
-use Rattle.ion_value.specs.declared.ion_type.Kind.{Kind}
 use Rattle.ion_value.specs.declared.ion_type.Kind.TheVariants as kind
-use Rattle.ion_value.specs.declared.plain_item.TextAt.{TextAt}
-use Rattle.ion_value.specs.declared.plain_item.PlainItem.{PlainItem}
 use Rattle.ion_text_out.proofs.Quoted.{shown_between}
 use Rattle.ion_text_out.specs.Escape.{between_quotes, byte_text, is_shown}
 use Rattle.ion_text_out.specs.Layout.{Layout}
 use Rattle.ion_text_out.specs.Text.{Open, annotation_text, after_value, field_text_by, head_text, item_text, scalar_text, symbol_text}
-use Rattle.ion_meter.specs.declared.limits.Limits.{Limits}
 use Rattle.ion_text_out.specs.Writing.{after_end, closing, shown, text_adds, Shows}
 use Rattle.ion_text_out.specs.Lane.{is_bare_in, marked, plain_front, plain_scalar, symbol_in, symbols_in, text_in}
 
@@ -170,10 +156,6 @@ closing-short [] = omega arith
 closing-short ((kind.List, empty) ∷ cs) = omega arith
 closing-short ((kind.Sexp, empty) ∷ cs) = omega arith
 closing-short ((kind.Struct, empty) ∷ cs) = omega arith
-
-pub minus-short : (negative : Bool) → length {A = ℕ} (if negative then 45 ∷ [] else []) ≤ 1
-minus-short true = omega arith
-minus-short false = omega arith
 
 pub after_end-short : (cs : Open) → length (after_end cs) ≤ 1
 after_end-short [] = omega arith

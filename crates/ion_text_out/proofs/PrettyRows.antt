@@ -1,10 +1,8 @@
 -- Worked rows of pretty text, by computing.
-use Rattle.std.specs.Prelude.{◌≡◌, refl, ℕ, List, [], ◌∷◌, false, Option, Some, None, codes}
+use Rattle.ion_text_out.proofs.Below.{◌≡◌, refl, ℕ, List, [], ◌∷◌, false, Option, Some, None, codes, Path, opened, outermost, inner, UserSymbol, Known, Value, Members, Top, scalar, container, nothing, member, Item}
 use Rattle.std.specs.Fmt.{digits}
 use Rattle.ion_value.specs.declared.ion_type.Kind.TheVariants as kind
-use Rattle.ion_value.specs.Path.{Path, opened, outermost, inner}
 use Rattle.ion_value.specs.Value as v
-use Rattle.ion_value.specs.Value.{UserSymbol, Known, Value, Members, Top, scalar, container, nothing, member, Item}
 use Rattle.ion_text_out.specs.Layout.{pretty}
 use Rattle.ion_text_out.specs.Text.{items_text_by, path_text_by, text_by}
 

@@ -1,11 +1,5 @@
 -- Bytes between quotes, in runs.
-use Rattle.std.proofs.Common.{◌≡◌, ℕ, ◌+◌, Bool, true, false, ◌&&◌, List, [], ◌∷◌, ◌++◌, length, take, drop, refl, sym, ap, ◌∙◌, inl, inr}
-use Rattle.std.specs.List.{flat_map}
-use Rattle.std.proofs.lemmas.Bool.{cases_Bool}
-use Rattle.std.proofs.lemmas.Grind.{flat_map-append}
-use Rattle.std.proofs.lemmas.List.{take-append-drop, nil_from_length}
-use Rattle.std.proofs.Math.Seq.{take-add}
-use Rattle.ion_value.specs.Digits.{first_is, all_are}
+use Rattle.ion_text_out.proofs.Below.{◌≡◌, ℕ, ◌+◌, Bool, true, false, ◌&&◌, List, [], ◌∷◌, ◌++◌, length, take, drop, refl, sym, ap, ◌∙◌, inl, inr, flat_map, cases_Bool, flat_map-append, take-append-drop, nil_from_length, take-add, first_is, all_are}
 use Rattle.ion_text_out.specs.Escape.{is_shown, escaped, byte_text, between_quotes}
 
 -- ---- which bytes stand for themselves

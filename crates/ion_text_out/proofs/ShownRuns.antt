@@ -1,16 +1,5 @@
 -- Runs of bytes that stand for themselves between quotes, as vectors find them.
-use Rattle.std.proofs.Common.{◌≡◌, ◌≢◌, ℕ, zero, suc, ◌+◌, ◌-◌, ◌*◌, ◌%◌, ◌^◌, ◌<◌, ◌≤◌, Bool, true, false, not, cond, eqb, leb, ◌&&◌, ◌||◌, nat_eq, nat_le, nat_lt, List, [], ◌∷◌, ◌++◌, map, take, drop, length, replicate, refl, sym, subst, ap, ap₂, ◌∙◌, inl, inr, arith, w8, Fits}
-use Rattle.std.proofs.lemmas.Bool.{and_parts, cases_Bool, ne_eqb}
-use Rattle.std.proofs.lemmas.Bool.Decides.{nat_tests}
-use Rattle.std.proofs.lemmas.Simd.{zip2_splat, zip2_splat_left, map-map, mask_l-mod, chunk-drop, length-chunk, trailing_mask_l}
-use Rattle.std.proofs.lemmas.List.{length-map, length-drop, drop-drop, take_all}
-use Rattle.std.proofs.lemmas.List.Folds.{prefix_len-append}
-use Rattle.std.proofs.lemmas.List.Sums.{prefix_len-le-length}
-use Rattle.std.specs.List.{prefix_len}
-use lib.Bits.{bit_or}
-use lib.Lanes.{zip2, chunk, mask_l, top, Each1}
-use lib.Count.{count_trailing_zeros}
-use Rattle.ion_value.specs.Digits.{first_is, all_are}
+use Rattle.ion_text_out.proofs.Below.{◌≡◌, ◌≢◌, ℕ, zero, suc, ◌+◌, ◌-◌, ◌*◌, ◌%◌, ◌^◌, ◌<◌, ◌≤◌, Bool, true, false, not, cond, eqb, leb, ◌&&◌, ◌||◌, nat_eq, nat_le, nat_lt, List, [], ◌∷◌, ◌++◌, map, take, drop, length, replicate, refl, sym, subst, ap, ap₂, ◌∙◌, inl, inr, arith, w8, Fits, and_parts, cases_Bool, ne_eqb, nat_tests, zip2_splat, zip2_splat_left, map-map, mask_l-mod, chunk-drop, length-chunk, trailing_mask_l, length-map, length-drop, drop-drop, take_all, prefix_len-append, prefix_len-le-length, prefix_len, bit_or, zip2, chunk, mask_l, top, Each1, count_trailing_zeros, first_is, all_are}
 use Rattle.ion_text_out.specs.Escape.{is_shown}
 use Rattle.ion_text_out.proofs.Quoted.{all_after, all_joined}
 
@@ -245,13 +234,3 @@ ends_hidden quote most bytes found n same short =
           let some : found ≢ 0 = λ none. let no : true ≡ false = sym (both_pass p bytes n short (all_pass p block (sym same ∙ none))) ∙ e in cc no in
           ne_eqb found 0 some ∙ sym e
     ]
-
--- nor do they where one stands after a run
-and_false : (a b : Bool) → b ≡ false → (a && b) ≡ false
-and_false true b e = e
-and_false false b e = refl
-
-pub ends_before : (p : ℕ → Bool) (bytes : List ℕ) (n : ℕ) → n < length bytes → first_is p (drop n bytes) ≡ false → all_are p bytes ≡ false
-ends_before p [] n lt ends = absurd (omega (arith, lt))
-ends_before p (b ∷ bytes) zero lt ends = let none : p b ≡ false = ends in rw none refl
-ends_before p (b ∷ bytes) (suc n) lt ends = and_false (p b) (all_are p bytes) (ends_before p bytes n (omega (arith, lt)) ends)

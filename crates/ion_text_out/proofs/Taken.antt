@@ -1,12 +1,6 @@
 -- What the fast path took of a head.
-use Rattle.std.proofs.Common.{◌≡◌, ℕ, Bool, true, false, List, [], ◌∷◌, refl, sym, ap, ◌∙◌, arith}
-use Rattle.std.specs.Prelude.{drop, reverse}
-use Rattle.ion_meter.specs.Counts.{Counts}
-use Rattle.ion_meter.specs.Windows.{Outgoing}
-use Rattle.ion_value.specs.PlainItems.{IsQuotedIn, IsTextOf}
+use Rattle.ion_text_out.proofs.Below.{◌≡◌, ℕ, Bool, true, false, List, [], ◌∷◌, refl, sym, ap, ◌∙◌, arith, drop, reverse, Counts, Outgoing, IsQuotedIn, IsTextOf, SymbolAt, map_head, map_scalar, user_symbol_at, Kind}
 use Rattle.ion_value.specs.Value as v
-use Rattle.ion_value.specs.Value.{SymbolAt, map_head, map_scalar, user_symbol_at}
-use Rattle.ion_value.specs.declared.ion_type.Kind.{Kind}
 use Rattle.ion_text_out.specs.declared.writer.LaidOut.{LaidOut}
 use Rattle.ion_text_out.specs.Escape.{between_quotes}
 use Rattle.ion_text_out.specs.Layout.{Layout}

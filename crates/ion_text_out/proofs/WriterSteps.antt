@@ -1,17 +1,11 @@
 -- What the writer of text puts grows by the text of each item.
-use Rattle.std.proofs.Common.{◌≡◌, ℕ, suc, Bool, List, [], ◌∷◌, length, refl, sym, ap, ◌∙◌}
-use Rattle.std.specs.Prelude.{map, false, reverse}
-use Rattle.std.proofs.lemmas.List.{length-map, length-reverse}
-use Rattle.ion_value.specs.declared.ion_type.Kind.{Kind}
+use Rattle.ion_text_out.proofs.Below.{◌≡◌, ℕ, suc, Bool, List, [], ◌∷◌, length, refl, sym, ap, ◌∙◌, map, false, reverse, length-map, length-reverse, Kind, PlacedItem, SymbolAt, map_head, Continues, HasPlace, HeadInRange, user_symbol_at, user_items}
 use Rattle.ion_value.specs.Value as v
-use Rattle.ion_value.specs.Value.{PlacedItem, SymbolAt, map_head}
 use Rattle.ion_value.specs.Standing as standing
-use Rattle.ion_value.specs.Standing.{Continues, HasPlace, HeadInRange}
 use Rattle.ion_text_out.specs.declared.writer.LaidOut.{LaidOut}
 use Rattle.ion_text_out.specs.Steps.{MayCome}
 use Rattle.ion_text_out.specs.Text.{Open, open_after, open_after_all, with_member}
 use Rattle.ion_text_out.specs.Writing.{shown_in, HasRoom, Shows}
-use Rattle.ion_value.specs.Value.{user_symbol_at, user_items}
 
 -- how many containers are open
 abbrev kinds_in : Open → List Kind

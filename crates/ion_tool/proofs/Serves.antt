@@ -1,5 +1,5 @@
 -- What a run over an input whose lines may be counted is for the input itself.
-use Rattle.std.proofs.Common.{arith, ◌≡◌, inl, inr, ◌↔◌, ℕ, ◌+◌, ◌≤◌, Bool, true, false, List, [], Result, Err, refl, sym, ap, subst, ◌∙◌, append-nil}
+use Rattle.std.proofs.Common.{arith, ◌≡◌, inl, inr, ◌↔◌, ℕ, ◌+◌, ◌<◌, ◌≤◌, Bool, true, false, List, [], Result, Err, refl, sym, ap, subst, ◌∙◌, append-nil}
 use Rattle.std.specs.Prelude.{◌≢◌, max}
 use Rattle.ion_meter.specs.Counts.{Counts}
 use Rattle.ion_meter.proofs.ReadOn.{reads-seen}
@@ -16,7 +16,7 @@ use Rattle.ion_transcode.specs.declared.to.Form.{Form}
 use Rattle.ion_transcode.specs.declared.to.Form.TheVariants as form
 use Rattle.ion_transcode.specs.declared.to.Summary.{Summary}
 use Rattle.ion_tool.specs.Counting.{counter_input, Counting}
-use Rattle.ion_tool.specs.Serving.{marks_cost, run_bound, served_bound, HasSuffix, IsAnswered, IsSuffix, Keeps}
+use Rattle.ion_tool.specs.Serving.{marks_cost, run_bound, served_bound, HasSuffix, IsAnswered, IsSuffix, IsWanted, Keeps}
 use Rattle.ion_tool.specs.declared.words.Task.{Task}
 use Rattle.ion_tool.proofs.Placing.{Comes}
 
@@ -33,10 +33,14 @@ answered input middle last label catalog asked limits bytes before after answer 
 answered input middle last label catalog asked limits bytes before after answer result (inr (r, p, refused, fault, count)) is =
     subst (λ (a : Result Summary Fault). IsAnswered label catalog asked limits bytes before after a) (sym fault) (record { says = tt; prefix = is.prefix })
 
+wanted : (lines : Bool) (old new : Counts) → old.refused < new.refused → IsWanted lines old new
+wanted false old new more = more
+wanted true old new more = inl more
+
 -- what a run keeps, with what was held for the lines before it, and given back after
 module _ {I O : Type 0} (input : InputOf I) (output : OutputOf O) (asked : Task) (limits : Limits) (answer result : Result Summary Fault) (old begun ran new : Counts)
     (first middle last : Counting I) (device : I) (out_old out_new : O) (is_first : first.device ≡ device) (begins : Charges old begun 0 (marks_cost asked.lines) (marks_cost asked.lines))
-    (begins_refused : begun.refused ≡ old.refused) (run : Keeps (counter_input input) output (run_bound asked limits) answer begun ran first middle out_old out_new)
+    (begins_refused : begun.refused ≡ old.refused) (run : Keeps (counter_input input) output false (run_bound asked limits) answer begun ran first middle out_old out_new)
     (held : new.held + marks_cost asked.lines ≡ ran.held) (peak : new.peak ≡ ran.peak) (refused : new.refused ≡ ran.refused) (onward : IsReadOn (counter_input input) middle last) where
   -- the most that is held
   most : (f : Form) → ran.peak ≤ max begun.peak (begun.held + run_bound asked limits f) → new.peak ≤ max old.peak (old.held + served_bound asked limits f)
@@ -52,9 +56,9 @@ module _ {I O : Type 0} (input : InputOf I) (output : OutputOf O) (asked : Task)
   )
 
   pub kept-same : input.failure_count last.device ≡ input.failure_count middle.device
-      → Keeps input output (served_bound asked limits) answer old new device last.device out_old out_new
+      → Keeps input output asked.lines (served_bound asked limits) answer old new device last.device out_old out_new
   kept-same steady = record {
-    memory = λ e. omega (arith, run.memory e);
+    memory = λ e. wanted asked.lines old new (omega (arith, run.memory e, begins_refused, refused));
     counted = λ other. refused ∙ (run.counted other ∙ begins_refused);
     read = λ e. omega (arith, run.read e, same_first);
     reads_steady = λ other. omega (arith, run.reads_steady other, same_first);
@@ -70,7 +74,7 @@ module _ {I O : Type 0} (input : InputOf I) (output : OutputOf O) (asked : Task)
   }
 
   pub kept-failed : (answer ≢ Err Memory) → (answer ≢ Err ReadFault) → (answer ≢ Err WriteFault) → input.failure_count last.device ≡ input.failure_count middle.device + 1
-      → Keeps input output (served_bound asked limits) (Err ReadFault) old new device last.device out_old out_new
+      → Keeps input output asked.lines (served_bound asked limits) (Err ReadFault) old new device last.device out_old out_new
   kept-failed no_memory no_read no_write count = record {
     memory = λ e. absurd (cc e);
     counted = λ other. refused ∙ (run.counted no_memory ∙ begins_refused);
@@ -87,19 +91,19 @@ module _ {I O : Type 0} (input : InputOf I) (output : OutputOf O) (asked : Task)
     peak_of_binary = λ o is. most form.Binary (run.peak_of_binary (subst (λ (d : I). input.observable d) (sym is_first) o) (ap (λ (d : I). form_of (input.rest d)) is_first ∙ is));
   }
 
-  pub kept : Comes input middle.device last.device answer result → Keeps input output (served_bound asked limits) result old new device last.device out_old out_new
+  pub kept : Comes input middle.device last.device answer result → Keeps input output asked.lines (served_bound asked limits) result old new device last.device out_old out_new
   kept (inl (same, steady)) =
-      subst (λ (a : Result Summary Fault). Keeps input output (served_bound asked limits) a old new device last.device out_old out_new) (sym same) (kept-same steady)
+      subst (λ (a : Result Summary Fault). Keeps input output asked.lines (served_bound asked limits) a old new device last.device out_old out_new) (sym same) (kept-same steady)
   kept (inr (r, p, refused, fault, count)) =
-      subst (λ (a : Result Summary Fault). Keeps input output (served_bound asked limits) a old new device last.device out_old out_new) (sym fault)
+      subst (λ (a : Result Summary Fault). Keeps input output asked.lines (served_bound asked limits) a old new device last.device out_old out_new) (sym fault)
       (kept-failed (λ e. cc (sym refused ∙ e)) (λ e. cc (sym refused ∙ e)) (λ e. cc (sym refused ∙ e)) count)
 
 -- there was no memory to count lines, and nothing was done
 pub none-kept : {I O : Type 0} (input : InputOf I) (output : OutputOf O) (asked : Task) (limits : Limits) (old new : Counts) (device given : I) (out : O) → given ≡ device
-    → Charges old new 0 0 (marks_cost asked.lines) → new.refused ≡ old.refused + 1 → Keeps input output (served_bound asked limits) (Err Memory) old new device given out out
-none-kept {I} input output asked limits old new device given out same charges refused =
-    subst (λ (d : I). Keeps input output (served_bound asked limits) (Err Memory) old new device d out out) (sym same) (record {
-      memory = λ e. omega (arith, refused);
+    → Charges old new 0 0 (marks_cost asked.lines) → IsWanted asked.lines old new → Keeps input output asked.lines (served_bound asked limits) (Err Memory) old new device given out out
+none-kept {I} input output asked limits old new device given out same charges wants =
+    subst (λ (d : I). Keeps input output asked.lines (served_bound asked limits) (Err Memory) old new device d out out) (sym same) (record {
+      memory = λ e. wants;
       counted = λ other. absurd (other refl);
       read = λ e. absurd (cc e);
       reads_steady = λ other. refl;

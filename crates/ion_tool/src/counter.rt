@@ -5,7 +5,7 @@ ghost use Rattle.ion_meter.specs.Devices.{IsReadOn};
 ghost use Rattle.ion_meter.specs.declared.fault.Fault.TheVariants.{ReadFault};
 ghost use Rattle.ion_value.specs.Shares.{Charges};
 ghost use Rattle.ion_tool.specs.Counting.{counter_input, CountsOn, IsLocated, IsReached, Places, StartsCount};
-ghost use Rattle.ion_tool.specs.Serving.{marks_cost};
+ghost use Rattle.ion_tool.specs.Serving.{marks_cost, IsWanted};
 
 use crate::marks::{LineMarks, Position};
 use ion_meter::device::{Broken, Input};
@@ -33,15 +33,16 @@ impl<I: Input> Model for LineCounter<I> {
 impl<I: Input> LineCounter<I> {
     /// This input, with its lines counted or not, or the input back where there is no memory for that.
     pub fn new(meter: &mut Meter<Global>, lines: bool, device: I) -> Result<LineCounter<I>, I>
-        requires room { meter.old.held + 524288 < 2 ^ 63 }
+        requires room { meter.old.held ≤ 2 ^ 48 }
         requires countable { meter.old.refused < 2 ^ 64 - 1 }
         ensures ok { IfOk result (λ c. (c.device ≡ device) × StartsCount lines c.marks) }
         ensures err { IfErr result (λ d. d ≡ device) }
         ensures charges { MatchResult result
             (λ _. Charges meter.old meter.new 0 (marks_cost lines) (marks_cost lines))
             (λ _. Charges meter.old meter.new 0 0 (marks_cost lines)) }
-        ensures refused { MatchResult result (λ _. meter.new.refused ≡ meter.old.refused)
-            (λ _. meter.new.refused ≡ meter.old.refused + 1) }
+        ensures refused { IfOk result (λ _. meter.new.refused ≡ meter.old.refused) }
+        ensures wanted { IfErr result (λ _. IsWanted lines meter.old meter.new) }
+        ensures room { IfOk result (λ _. meter.new.held ≤ 2 ^ 48) }
     {
         if !lines {
             return Ok(LineCounter {

@@ -1,10 +1,11 @@
 //! Where the lines of a text begin, kept as its bytes are counted.
-ghost use Rattle.std.specs.Prelude.{◌≡◌, ◌≢◌, ◌+◌, ◌-◌, ◌%◌, ◌^◌, ◌<◌, ◌≤◌, ◌++◌, ℕ, List, [], length, take, drop, min, slice_index, IfSome, MatchOption};
+ghost use Rattle.std.specs.Prelude.{◌≡◌, ◌≢◌, ◌+◌, ◌-◌, ◌%◌, ◌^◌, ◌<◌, ◌≤◌, ◌++◌, ℕ, List, [], length, take, drop, min, slice_index, None, IfSome, MatchOption};
 ghost use Rattle.ion_meter.specs.Counts.{Shrinks};
 ghost use Rattle.ion_value.specs.Shares.{Charges};
 ghost use Rattle.ion_transcode.specs.Forms.{form_by, form_of};
 ghost use Rattle.ion_tool.specs.Counting.{with_line, Finds, HasCounted, HasMarks};
 ghost use Rattle.ion_tool.specs.LineNumbers.{line_ends, since_line_end};
+ghost use Rattle.ion_tool.specs.Serving.{IsWanted};
 
 use ion_meter::meter::Meter;
 use ion_meter::table::Table;
@@ -14,6 +15,10 @@ use std::marker::Model;
 
 /// How many beginnings of lines are kept: those of the last lines.
 const KEPT: u64 = 65_536;
+
+/// The most that may be held before marks are made: with their 524,288 it is 2^48, the most that a
+/// run may find held.
+const MOST_HELD: u64 = (1 << 48) - 524_288;
 
 /// Where a byte of a text stands: how many lines end before it, and how many bytes of its own line
 /// stand before it.
@@ -63,16 +68,19 @@ fn is_binary(bytes: &[u8]) -> bool
 }
 
 impl LineMarks {
-    /// Marks of no bytes, where there is memory for them.
+    /// Marks of no bytes, where there is memory for them and at most 2^48 is held with them.
     pub fn new(meter: &mut Meter<Global>) -> Option<LineMarks>
-        requires room { meter.old.held + 524288 < 2 ^ 63 }
         requires countable { meter.old.refused < 2 ^ 64 - 1 }
         ensures none_counted { IfSome result (HasCounted []) }
         ensures charges { MatchOption result (Charges meter.old meter.new 0 0 524288)
             (λ _. Charges meter.old meter.new 0 524288 524288) }
-        ensures refused { MatchOption result (meter.new.refused ≡ meter.old.refused + 1)
-            (λ _. meter.new.refused ≡ meter.old.refused) }
+        ensures wanted { result ≡ None → IsWanted true meter.old meter.new }
+        ensures refused { IfSome result (λ _. meter.new.refused ≡ meter.old.refused) }
+        ensures room { IfSome result (λ _. meter.new.held ≤ 2 ^ 48) }
     {
+        if meter.held() > MOST_HELD {
+            return None;
+        }
         let mut begins = Table::new(meter, 8);
         for _ in 0..128u64 {
             if begins.extend(meter, &[0; 512]).is_err() {

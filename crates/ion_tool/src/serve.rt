@@ -71,7 +71,7 @@ fn serve_input<I: Input, O: Output, E: Output>(
     out: O,
     mut err: E,
 ) -> (u8, I, O, E)
-    requires held { meter.old.held ≤ 2 ^ 48 - 524288 }
+    requires held { meter.old.held ≤ 2 ^ 48 }
     requires countable { meter.old.refused < 2 ^ 64 - 1 }
     requires in_failures { I.failure_count input < 2 ^ 64 - 1 }
     requires out_failures { O.failure_count out < 2 ^ 64 - 1 }
@@ -111,7 +111,7 @@ fn serve_file<F: FileSource, O: Output, E: Output>(
     out: O,
     mut err: E,
 ) -> (u8, O, E)
-    requires held { meter.old.held ≤ 2 ^ 48 - 524288 }
+    requires held { meter.old.held ≤ 2 ^ 48 }
     requires countable { meter.old.refused < 2 ^ 64 - 1 }
     requires out_failures { O.failure_count out < 2 ^ 64 - 1 }
     requires err_failures { E.failure_count err < 2 ^ 64 - 1 }
@@ -147,7 +147,7 @@ fn serve_one<F: FileSource, I: Input, O: Output, E: Output>(
     out: O,
     err: E,
 ) -> (u8, I, O, E)
-    requires held { meter.old.held ≤ 2 ^ 48 - 524288 }
+    requires held { meter.old.held ≤ 2 ^ 48 }
     requires countable { meter.old.refused < 2 ^ 64 - 1 }
     requires in_failures { I.failure_count input < 2 ^ 64 - 1 }
     requires out_failures { O.failure_count out < 2 ^ 64 - 1 }
@@ -203,7 +203,7 @@ fn serve_each<F: FileSource, I: Input, O: Output, E: Output>(
     mut out: O,
     mut err: E,
 ) -> (u8, I, O, E)
-    requires room { HasRoom (2 ^ 48 - 524288) 0 meter.old }
+    requires room { HasRoom (2 ^ 48) 0 meter.old }
     requires in_failures { I.failure_count input < 2 ^ 64 - 1 }
     requires out_failures { O.failure_count out < 2 ^ 64 - 1 }
     requires err_failures { E.failure_count err < 2 ^ 64 - 1 }
@@ -252,7 +252,7 @@ fn serve_job<F: FileSource, I: Input, O: Output, E: Output>(
     out: O,
     err: E,
 ) -> (u8, I, O, E)
-    requires room { HasRoom (2 ^ 48 - 524288) 0 meter.old }
+    requires room { HasRoom (2 ^ 48) 0 meter.old }
     requires in_failures { I.failure_count input < 2 ^ 64 - 1 }
     requires out_failures { O.failure_count out < 2 ^ 64 - 1 }
     requires err_failures { E.failure_count err < 2 ^ 64 - 1 }
@@ -308,7 +308,7 @@ fn serve_loaded<F: FileSource, I: Input, O: Output, E: Output>(
     out: O,
     mut err: E,
 ) -> (u8, I, O, E)
-    requires room { HasRoom (2 ^ 48 - 524288) 0 meter.old }
+    requires room { HasRoom (2 ^ 48) 0 meter.old }
     requires in_failures { I.failure_count input < 2 ^ 64 - 1 }
     requires out_failures { O.failure_count out < 2 ^ 64 - 1 }
     requires err_failures { E.failure_count err < 2 ^ 64 - 1 }
@@ -344,7 +344,7 @@ fn serve_named<F: FileSource, I: Input, O: Output, E: Output>(
     out: O,
     mut err: E,
 ) -> (u8, I, O, E)
-    requires room { HasRoom (2 ^ 48 - 524288) 0 meter.old }
+    requires room { HasRoom (2 ^ 48) 0 meter.old }
     requires in_failures { I.failure_count input < 2 ^ 64 - 1 }
     requires out_failures { O.failure_count out < 2 ^ 64 - 1 }
     requires err_failures { E.failure_count err < 2 ^ 64 - 1 }
@@ -378,7 +378,7 @@ fn serve_run<F: FileSource, I: Input, O: Output, E: Output>(
     out: O,
     err: E,
 ) -> (u8, I, O, E)
-    requires room { HasRoom (2 ^ 48 - 524288) 0 meter.old }
+    requires room { HasRoom (2 ^ 48) 0 meter.old }
     requires in_failures { I.failure_count input < 2 ^ 64 - 1 }
     requires out_failures { O.failure_count out < 2 ^ 64 - 1 }
     requires err_failures { E.failure_count err < 2 ^ 64 - 1 }
@@ -418,7 +418,7 @@ pub fn serve<F: FileSource, I: Input + Drop, O: Output + Drop, E: Output + Drop>
     mut out: O,
     mut err: E,
 ) -> (u8, I, O, E)
-    requires held { meter.old.held ≤ 2 ^ 48 - 524288 }
+    requires held { meter.old.held ≤ 2 ^ 48 }
     requires countable { meter.old.refused < 2 ^ 64 - 1 }
     requires tables_room { HasRoom (2 ^ 48) 0 tables.old }
     requires in_failures { I.failure_count input < 2 ^ 64 - 1 }

@@ -42,3 +42,10 @@ mod WrittenRows
 mod TreeRows
 mod ShownRows
 mod FloatRows
+mod CutReadings
+mod QuietParts
+mod AllParts
+mod RefusalsStand
+mod KeptBytes
+mod JoinedStreams
+mod BinaryParts

@@ -16,4 +16,5 @@ pub mod AcceptedTrees
 pub mod Depth
 pub mod WrittenAgain
 pub mod ShownAgain
+pub mod InParts
 pub mod Calls

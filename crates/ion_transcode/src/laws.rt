@@ -6,6 +6,7 @@ ghost use Rattle.ion_transcode.specs.AcceptedTrees.{TreesInOrderAreAccepted};
 ghost use Rattle.ion_transcode.specs.Catalogues.{CatalogVerdictsAreRead, CatalogsAreLoaded, CatalogsAreText, OneCatalog, OneCatalogVerdict, TablesAreCatalogs};
 ghost use Rattle.ion_transcode.specs.Depth.{WhatIsReadIsNoDeeper};
 ghost use Rattle.ion_transcode.specs.Forms.{binary_encoding, text_encoding};
+ghost use Rattle.ion_transcode.specs.InParts.{BinaryStreamsJoin, DeclarationsMayBeKept, PartsAreTheWhole, PartsOfBinaryShowTheWhole, RefusalsOfBinaryStand, ValuesChangeNothingKept, WhatGivesNoneMayBeKept, WhatIsAcceptedLeavesATable};
 ghost use Rattle.ion_transcode.specs.Laws.{BinaryIsComplete, BinaryIsSound, OneSpelling, OneVerdict, SpellsOnce, StreamsAreRead, TextIsComplete, TextIsSound, WhatStrictAcceptsIsAccepted};
 ghost use Rattle.ion_transcode.specs.RoundTrip.{EachTextIsRead, LayoutsAreAlike, LayoutsAreShownAlike, RoundTrip, ShowOnce, TextIsRead, ThereAndBack, ValuesOfStreams};
 ghost use Rattle.ion_transcode.specs.ShownAgain.{EachShownTextIsAccepted, EachTextIsReadWithin, TextIsReadWithin, WhatIsShownIsAccepted};
@@ -14,9 +15,11 @@ ghost use Rattle.ion_transcode.specs.WrittenAgain.{WrittenBinaryIsAccepted};
 
 use ion_binary::laws as binary;
 use ion_symbols::laws::{
-    catalogs_are_read, catalogs_are_tables, open_users_are_read, tables_of_users_are_text,
-    texts_of_users_are_short, users_are_read, users_of_raw_values, what_is_accepted_is_resolved,
-    what_is_declared, what_is_resolved_is_accepted, why_refused,
+    accepted_streams_lead_to_the_top, catalogs_are_read, catalogs_are_tables,
+    declarations_leave_the_table, open_users_are_read, tables_of_users_are_text,
+    texts_of_users_are_short, users_are_read, users_hang_on_no_place, users_of_raw_values,
+    users_read_on, values_keep_the_table, what_is_accepted_is_resolved, what_is_declared,
+    what_is_resolved_is_accepted, why_refused,
 };
 use ion_text_in::laws as text;
 use ion_text_out::laws::{are_layouts, each_text_is_that_of_items};
@@ -423,4 +426,97 @@ pub fn written_binary_is_accepted()
     binary::what_is_written_is_within_limits();
     binary::what_is_written_is_resolved();
     binary::numbers_in_text_fit();
+}
+
+/// However a stream is cut into parts behind whole values, and whatever is kept between them that leaves
+/// the same symbol table, all parts together have the verdict and the output of the whole: text, pretty
+/// text, or none.
+pub fn parts_are_the_whole()
+    ensures { PartsAreTheWhole }
+{
+    streams_are_read();
+    one_verdict();
+    what_is_accepted_is_read();
+    users_are_read();
+    binary::whole_values_are_cut();
+    binary::nothing_hangs_on_places();
+    text::lines_are_cut();
+    text::nothing_hangs_on_places();
+    users_read_on();
+    users_hang_on_no_place();
+}
+
+/// Where a binary stream is accepted, another may stand behind it: its values and its output come behind
+/// those of the first. So parts that were written as binary are one stream.
+pub fn binary_streams_join()
+    ensures { BinaryStreamsJoin }
+{
+    streams_are_read();
+    one_verdict();
+    what_is_accepted_is_read();
+    users_are_read();
+    binary::whole_values_are_cut();
+    binary::nothing_hangs_on_places();
+    binary::streams_begin_with_a_marker();
+    users_read_on();
+    users_hang_on_no_place();
+    what_is_resolved_is_accepted();
+    accepted_streams_lead_to_the_top();
+}
+
+/// The parts of a text that are written as binary are together one stream, which shows what the text
+/// shows, where all parts are accepted under checked limits that allow whatever is declared.
+pub fn parts_of_binary_show_the_whole()
+    ensures { PartsOfBinaryShowTheWhole }
+{
+    streams_are_read();
+    one_verdict();
+    what_is_accepted_is_read();
+    users_are_read();
+    binary::whole_values_are_cut();
+    binary::nothing_hangs_on_places();
+    text::lines_are_cut();
+    text::nothing_hangs_on_places();
+    users_read_on();
+    users_hang_on_no_place();
+    binary_streams_join();
+    written_binary_is_accepted();
+}
+
+/// A refusal of a binary stream stands whatever bytes follow, unless it is for the want of bytes.
+pub fn refusals_of_binary_stand()
+    ensures { RefusalsOfBinaryStand }
+{
+    streams_are_read();
+    one_verdict();
+    binary::more_bytes_go_on();
+}
+
+/// What is accepted leaves a symbol table at top level, and gives no item of a user value where no
+/// value is counted.
+pub fn what_is_accepted_leaves_a_table()
+    ensures { WhatIsAcceptedLeavesATable }
+{
+    what_is_accepted_is_read();
+    users_are_read();
+    what_is_resolved_is_accepted();
+    accepted_streams_lead_to_the_top();
+}
+
+/// Between two parts of a stream the bytes of its declarations behind the last version marker may be
+/// kept, wherever they stand; or all bytes, where they give no user value; and behind a part of user
+/// values alone, the bytes that were kept before it.
+pub fn what_may_be_kept()
+    ensures declarations { DeclarationsMayBeKept }
+    ensures nothing_given { WhatGivesNoneMayBeKept }
+    ensures values { ValuesChangeNothingKept }
+{
+    declarations_leave_the_table();
+    users_hang_on_no_place();
+    values_keep_the_table();
+    binary::whole_values_are_cut();
+    binary::nothing_hangs_on_places();
+    text::lines_are_cut();
+    text::nothing_hangs_on_places();
+    users_read_on();
 }

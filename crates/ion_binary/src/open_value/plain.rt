@@ -149,9 +149,7 @@ impl<A: Allocator + Copy> OpenValue<A> {
         note: u32,
         number: &FewNumber,
     ) -> bool
-        requires can_add { CanAdd limits.now self.old meter.old }
-        requires few { length number.now.first ≤ 2 }
-        requires size { number.now.size ≤ 8 }
+        requires { CanAdd limits.now self.old meter.old }
         ensures { AddsOctets limits.now
             (noted name note (number.now.first ++ take number.now.size number.now.body))
             self.old self.new meter.old meter.new result }
@@ -182,9 +180,7 @@ impl<A: Allocator + Copy> OpenValue<A> {
         note: u32,
         number: &FewNumber,
     ) -> bool
-        requires can_add { CanAdd limits.now self.old meter.old }
-        requires few { length number.now.first ≤ 2 }
-        requires size { number.now.size ≤ 8 }
+        requires { CanAdd limits.now self.old meter.old }
         ensures { AddsOctets limits.now
             (noted name note (number.now.first ++ take number.now.size number.now.body))
             self.old self.new meter.old meter.new result }

@@ -51,7 +51,7 @@ impl<A: Allocator + Copy> BinWriter<A> {
         if self.open_value.headers.len() == 0 {
             return self.put_whole(sink, &item);
         }
-        let Some(note) = self.annotation_id(item.annotation) else {
+        let Some(note) = self.text_id(item.annotation) else {
             return false;
         };
         match self.fresh_of(&item) {
@@ -151,7 +151,7 @@ impl<A: Allocator + Copy> BinWriter<A> {
         let Head::Symbol(_) = item.head else {
             return self.fresh_field(item);
         };
-        match self.field_id(item.field) {
+        match self.text_id(item.field) {
             Some(name) => self.fresh_symbol(item, name),
             None => self.fresh_field(item),
         }

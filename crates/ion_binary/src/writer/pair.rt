@@ -38,7 +38,7 @@ impl<A: Allocator + Copy> BinWriter<A> {
         if self.open_value.headers.len() == 0 {
             return false;
         }
-        let Some(name) = self.field_id(item.field) else {
+        let Some(name) = self.text_id(item.field) else {
             return false;
         };
         let Some(notes) = self.pair_ids(item, second) else {

@@ -66,7 +66,7 @@ impl<A: Allocator + Copy> BinWriter<A> {
         if item.annotation.is_some() {
             return false;
         }
-        let Some(name) = self.field_id(item.field) else {
+        let Some(name) = self.text_id(item.field) else {
             return false;
         };
         self.open_value

@@ -82,40 +82,30 @@ impl<A: Allocator + Copy> BinWriter<A> {
         if self.open_value.headers.len() == 0 {
             return None;
         }
-        let Some(name) = self.field_id(item.field) else {
+        let Some(name) = self.text_id(item.field) else {
             return None;
         };
-        match self.annotation_id(item.annotation) {
+        match self.text_id(item.annotation) {
             Some(note) => Some(Ids { name, note }),
             None => None,
         }
     }
 
-    // The id of a field, where its text has one, and 0 where there is none.
+    // The id of a field or of an annotation, where its text has one, and 0 where there is none.
     #[inline(always)]
-    pub(super) fn field_id(&self, field: Option<TextAt<'_>>) -> Option<u32>
-        ensures known { IfSome result (λ _. HaveIds self.now.symbols.texts
-            (field_symbols (option_map placed_text field.entry))) }
-        ensures octets { IfSome result (λ name. name_octets name
+    pub(super) fn text_id(&self, text: Option<TextAt<'_>>) -> Option<u32>
+        ensures field_known { IfSome result (λ _. HaveIds self.now.symbols.texts
+            (field_symbols (option_map placed_text text.entry))) }
+        ensures note_known { IfSome result (λ _. HaveIds self.now.symbols.texts
+            (listed (option_map placed_text text.entry))) }
+        ensures field { IfSome result (λ name. name_octets name
             ≡ field_octets (id_in self.now.symbols.texts)
-            (option_map user_symbol_at (option_map placed_text field.entry))) }
-    {
-        match field {
-            Some(at) => self.symbols.known(at.text),
-            None => Some(0),
-        }
-    }
-
-    // The id of an annotation, where its text has one, and 0 where there is none.
-    #[inline(always)]
-    pub(super) fn annotation_id(&self, annotation: Option<TextAt<'_>>) -> Option<u32>
-        ensures known { IfSome result (λ _. HaveIds self.now.symbols.texts
-            (listed (option_map placed_text annotation.entry))) }
-        ensures octets { IfSome result (λ note. counted_ids (name_octets note)
+            (option_map user_symbol_at (option_map placed_text text.entry))) }
+        ensures note { IfSome result (λ note. counted_ids (name_octets note)
             ≡ annotation_octets (id_in self.now.symbols.texts)
-            (map user_symbol_at (listed (option_map placed_text annotation.entry)))) }
+            (map user_symbol_at (listed (option_map placed_text text.entry)))) }
     {
-        match annotation {
+        match text {
             Some(at) => self.symbols.known(at.text),
             None => Some(0),
         }

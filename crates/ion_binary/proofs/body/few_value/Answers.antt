@@ -1,6 +1,4 @@
-use Rattle.std.proofs.Common.{◌+◌, ◌*◌, ◌^◌, ◌<◌, ◌≤◌, arith, get_or}
-use Rattle.std.proofs.Math.Nat.{pow-le-pow_right}
-use Rattle.ion_value.proofs.Numbers.{append-lt, uint-take_more}
+use Rattle.ion_binary.proofs.Below.{◌+◌, ◌*◌, ◌^◌, ◌<◌, ◌≤◌, arith, get_or, pow-le-pow_right, append-lt, uint-take_more}
 use Rattle.ion_binary.proofs.body.few_value.Goals as goal
 
 -- at most seven octets came before this one

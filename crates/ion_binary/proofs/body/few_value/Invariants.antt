@@ -1,5 +1,4 @@
-use Rattle.std.proofs.Common.{◌≡◌, ◌^◌, ◌<◌, take}
-use Rattle.ion_value.specs.Number.{uint}
+use Rattle.ion_binary.proofs.Below.{◌≡◌, ◌^◌, ◌<◌, take, uint}
 use Rattle.ion_binary.proofs.body.few_value.Given as goal
 
 abbrev pub invariant-loop-octet : goal.invariant-loop-octet

@@ -1,13 +1,5 @@
-use Rattle.std.proofs.Common.{sym, subst, ap, ◌∙◌, ◌≡◌, ◌+◌, ◌*◌, ◌-◌, ◌≤◌, ℕ, List, length, take, arith}
-use Rattle.std.proofs.lemmas.Grind.{common_steps, elements}
-use Rattle.std.proofs.lemmas.List.{length-append, length-take-le}
-use Rattle.ion_meter.specs.Windows.{left, lent}
-use Rattle.ion_meter.proofs.Lent.{lent-take}
-use Rattle.ion_value.specs.Calls.{passed_over}
-use Rattle.ion_value.specs.Shares.{GrowsWithin}
-use Rattle.ion_value.proofs.Cursors.{extends-moves, moves-then}
-use Rattle.ion_value.proofs.GrowsWithin.{grows-then, passed-then}
-use Rattle.ion_value.proofs.Passing.{Passed, Passed-then, Passed-lent, take_on}
+use Rattle.ion_binary.proofs.Below.{rules, sym, subst, ap, ◌∙◌, ◌≡◌, ◌+◌, ◌*◌, ◌-◌, ◌≤◌, ℕ, List, length, take, arith, common_steps, elements, length-take-le, left, lent, lent-take, passed_over, GrowsWithin, extends-moves, moves-then, grows-then, passed-then, Passed, Passed-then, Passed-lent, take_on}
+use Rattle.std.proofs.lemmas.List.{length-append}
 use Rattle.ion_binary.proofs.body.gather.Goals as goal
 
 pub loop-source-preserved : goal.loop-source-preserved
@@ -47,20 +39,25 @@ loop-source-preserved g c =
           let m = c.loop-source.meter in
           let paid = length-take-le here octets there in
           let sum = passed-then g.I.Input s0 s t inv.passed.moves next.moves in
-          let place = next.place in
-          let within = next.stands.within in
-          let limit = next.moves.limit in
-          let over : here ≤ passed_over s t = omega (arith, place, within, limit) in
+          let over : here ≤ passed_over s t = omega (arith, next.place, next.stands.within, next.moves.limit) in
           let own = inv.grows.own in
-          let held = cost.held in
           let peak = cost.peak in
-          let put : GrowsWithin m c.extend.new.meter (length text) (length c.extend.new.self) here = record { own = omega (arith, long); peak = omega (arith, held, peak, paid) } in
+          let put : GrowsWithin m c.extend.new.meter (length text) (length c.extend.new.self) here = record { own = omega (arith, long); peak = omega (arith, cost.held, peak, paid) } in
           grows-then c.args.meter.now m c.extend.new.meter (length c.args.text.now) (length text) (length c.extend.new.self) (16 * passed_over s0 s) here (16 * passed_over s0 t) inv.held inv.grows put
           (omega (arith, sum)) (omega (arith, sum, over, own));
     }
 
-pub returns-in-Ok-None-clause-cut : goal.returns-in-Ok-None-clause-cut
-returns-in-Ok-None-clause-cut g c = grind (arith, elements)
+pub returns-in-Ok-None : goal.returns-in-Ok-None
+returns-in-Ok-None g c = record {
+  all = grind (arith, common_steps) steps 400000;
+  cut = grind (arith, elements);
+  plain = grind (arith, common_steps) steps 400000;
+  reads =
+      let moves = moves-then g.I.Input c.args.source.now c.loop-source.source c.peek.new.self c.loop-source.invariant.passed.moves
+      (extends-moves g.I.Input c.loop-source.source c.peek.new.self c.peek.ensures.kept) in
+      grind (arith, common_steps, moves) steps 1200000;
+  goes = grind (arith, common_steps) steps 400000;
+}
 
 pub consume-requires : goal.consume-requires
 consume-requires g c = grind (arith, common_steps)
@@ -68,17 +65,14 @@ consume-requires g c = grind (arith, common_steps)
 pub loop-source-smaller : goal.loop-source-smaller
 loop-source-smaller g c = grind (arith, common_steps)
 
-pub returns-in-Err-extend-clause-plain : goal.returns-in-Err-extend-clause-plain
-returns-in-Err-extend-clause-plain g c = grind (arith, common_steps) steps 400000
-
-pub returns-in-Err-extend-clause-cut : goal.returns-in-Err-extend-clause-cut
-returns-in-Err-extend-clause-cut g c = grind (arith, common_steps) steps 400000
-
-pub returns-in-Err-extend-clause-goes : goal.returns-in-Err-extend-clause-goes
-returns-in-Err-extend-clause-goes g c = grind (arith, common_steps) steps 400000
-
-pub returns-in-Err-extend-clause-all : goal.returns-in-Err-extend-clause-all
-returns-in-Err-extend-clause-all g c = grind (arith, common_steps) steps 400000
+pub returns-in-Err-extend : goal.returns-in-Err-extend
+returns-in-Err-extend g c = record {
+  all = grind (arith, common_steps) steps 400000;
+  cut = grind (arith, common_steps) steps 400000;
+  plain = grind (arith, common_steps) steps 400000;
+  reads = search rules;
+  goes = grind (arith, common_steps) steps 400000;
+}
 
 pub returns : goal.returns
 returns g c = grind (arith, common_steps) steps 400000
@@ -92,32 +86,14 @@ extend-requires g c = grind (arith, common_steps) steps 400000
 pub loop-source-init : goal.loop-source-init
 loop-source-init g c = grind (arith, common_steps) steps 400000
 
-pub returns-in-Err-clause-plain : goal.returns-in-Err-clause-plain
-returns-in-Err-clause-plain g c = grind (arith, common_steps) steps 400000
-
-pub returns-in-Err-clause-goes : goal.returns-in-Err-clause-goes
-returns-in-Err-clause-goes g c = grind (arith, common_steps) steps 400000
-
-pub returns-in-Err-clause-cut : goal.returns-in-Err-clause-cut
-returns-in-Err-clause-cut g c = grind (arith, common_steps) steps 400000
-
-pub returns-in-Err-clause-all : goal.returns-in-Err-clause-all
-returns-in-Err-clause-all g c = grind (arith, common_steps) steps 400000
-
-pub returns-in-Ok-None-clause-goes : goal.returns-in-Ok-None-clause-goes
-returns-in-Ok-None-clause-goes g c = grind (arith, common_steps) steps 400000
+pub returns-in-Err : goal.returns-in-Err
+returns-in-Err g c = record {
+  all = grind (arith, common_steps) steps 400000;
+  cut = grind (arith, common_steps) steps 400000;
+  plain = grind (arith, common_steps) steps 400000;
+  reads = search rules;
+  goes = grind (arith, common_steps) steps 400000;
+}
 
 pub overflow_sub-count : goal.overflow_sub-count
 overflow_sub-count g c = grind (arith, common_steps) steps 400000
-
-pub returns-in-Ok-None-clause-plain : goal.returns-in-Ok-None-clause-plain
-returns-in-Ok-None-clause-plain g c = grind (arith, common_steps) steps 400000
-
-pub returns-in-Ok-None-clause-reads : goal.returns-in-Ok-None-clause-reads
-returns-in-Ok-None-clause-reads g c =
-    let moves = moves-then g.I.Input c.args.source.now c.loop-source.source c.peek.new.self c.loop-source.invariant.passed.moves
-    (extends-moves g.I.Input c.loop-source.source c.peek.new.self c.peek.ensures.kept) in
-    grind (arith, common_steps, moves) steps 1200000
-
-pub returns-in-Ok-None-clause-all : goal.returns-in-Ok-None-clause-all
-returns-in-Ok-None-clause-all g c = grind (arith, common_steps) steps 400000

@@ -1,8 +1,4 @@
-use Rattle.std.proofs.Common.{◌≡◌, ◌+◌, ◌*◌, ◌-◌, ◌≤◌, length, take, max}
-use Rattle.ion_meter.specs.Windows.{left}
-use Rattle.ion_value.specs.Calls.{passed_over}
-use Rattle.ion_value.specs.Shares.{GrowsWithin}
-use Rattle.ion_value.proofs.Passing.{Passed}
+use Rattle.ion_binary.proofs.Below.{◌≡◌, ◌+◌, ◌*◌, ◌-◌, ◌≤◌, length, take, max, left, passed_over, GrowsWithin, Passed}
 use Rattle.ion_binary.proofs.body.gather.Given as goal
 
 abbrev pub invariant-loop-source : goal.invariant-loop-source

@@ -1,6 +1,4 @@
-use Rattle.std.proofs.Common.{arith}
-use Rattle.std.proofs.lemmas.Grind.{common_steps}
-use Rattle.std.proofs.lemmas.Str.{IsUtf8-from_ascii}
+use Rattle.ion_binary.proofs.Below.{arith, common_steps, IsUtf8-from_ascii}
 use Rattle.ion_binary.proofs.body.is_text.Goals as goal
 
 pub returns-then-is_short_ascii : goal.returns-then-is_short_ascii

@@ -1,11 +1,6 @@
-use Rattle.std.proofs.Common.{◌≡◌, Ok, refl, ap, sym, ◌∙◌, ℕ, List, take, arith}
-use Rattle.std.proofs.lemmas.Grind.{common_steps}
-use Rattle.ion_meter.proofs.Lent.{lent-take}
-use Rattle.ion_value.specs.Scalar.{scalar_of_body}
+use Rattle.ion_binary.proofs.Below.{◌≡◌, Ok, refl, ap, sym, ◌∙◌, ℕ, List, take, arith, common_steps, lent-take, scalar_of_body, cursor, lent-there, IsPassed-cursor}
 use Rattle.ion_binary.specs.Bodies.{as_scalar}
-use Rattle.ion_meter.specs.Sources.{cursor}
 use Rattle.ion_binary.proofs.BodyParts.{body_here-refused, body_here-read}
-use Rattle.ion_value.proofs.Passing.{lent-there, IsPassed-cursor}
 use Rattle.ion_binary.proofs.body.number_in_window.Goals as goal
 
 pub returns-in-Err-clause-gives : goal.returns-in-Err-clause-gives

@@ -1,8 +1,4 @@
-use Rattle.std.proofs.Common.{arith, subst, ap, ◌∙◌, ◌≡◌, ◌+◌, ◌-◌, ◌≤◌, ℕ, List, length}
-use Rattle.std.proofs.lemmas.Grind.{common_steps}
-use Rattle.ion_meter.specs.Windows.{lent}
-use Rattle.ion_value.proofs.Cursors.{extends-moves, moves-then}
-use Rattle.ion_value.proofs.Passing.{Passed, Passed-then, Passed-lent}
+use Rattle.ion_binary.proofs.Below.{arith, subst, ap, ◌∙◌, ◌≡◌, ◌+◌, ◌-◌, ◌≤◌, ℕ, List, length, common_steps, lent, extends-moves, moves-then, Passed, Passed-then, Passed-lent}
 use Rattle.ion_binary.proofs.body.pass_over.Goals as goal
 
 pub loop-more-preserved : goal.loop-more-preserved

@@ -1,5 +1,4 @@
-use Rattle.std.proofs.Common.{◌≡◌, ◌-◌, ◌≤◌}
-use Rattle.ion_value.proofs.Passing.{Passed}
+use Rattle.ion_binary.proofs.Below.{◌≡◌, ◌-◌, ◌≤◌, Passed}
 use Rattle.ion_binary.proofs.body.pass_over.Given as goal
 
 abbrev pub invariant-loop-more : goal.invariant-loop-more

@@ -1,6 +1,4 @@
-use Rattle.std.proofs.Common.{◌∙◌, length, sym, arith}
-use Rattle.std.proofs.lemmas.Grind.{common_steps}
-use Rattle.ion_meter.proofs.Putting.{put_cut, put_then}
+use Rattle.ion_binary.proofs.Below.{◌∙◌, length, sym, arith, common_steps, put_cut, put_then}
 use Rattle.ion_binary.specs.ItemOctets.{declaration_front, strings_octets}
 use Rattle.ion_binary.proofs.DeclarationOctets.{declaration-none, declaration-some}
 use Rattle.ion_binary.proofs.declaration.put_declaration.Goals as goal

@@ -1,6 +1,4 @@
-use Rattle.std.proofs.Common.{arith}
-use Rattle.std.proofs.lemmas.Grind.{common_steps}
-use Rattle.ion_meter.proofs.Putting.{put_cut}
+use Rattle.ion_binary.proofs.Below.{arith, common_steps, put_cut}
 use Rattle.ion_binary.proofs.declaration.put_string.Goals as goal
 
 pub returns-in-Err : goal.returns-in-Err

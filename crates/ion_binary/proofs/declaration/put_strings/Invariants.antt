@@ -1,5 +1,4 @@
-use Rattle.std.proofs.Common.{◌-◌, ◌≤◌, length, drop}
-use Rattle.ion_meter.proofs.Onward.{Onward}
+use Rattle.ion_binary.proofs.Below.{◌-◌, ◌≤◌, length, drop, Onward}
 use Rattle.ion_binary.specs.ItemOctets.{strings_octets}
 use Rattle.ion_binary.proofs.declaration.put_strings.Given as goal
 

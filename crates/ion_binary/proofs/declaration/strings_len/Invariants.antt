@@ -1,5 +1,4 @@
-use Rattle.std.proofs.Common.{◌≡◌, ◌+◌, ◌-◌, ◌≤◌, length, drop}
-use Rattle.ion_symbols.specs.Output.{texts_cost}
+use Rattle.ion_binary.proofs.Below.{◌≡◌, ◌+◌, ◌-◌, ◌≤◌, length, drop, texts_cost}
 use Rattle.ion_binary.specs.ItemOctets.{strings_octets}
 use Rattle.ion_binary.proofs.declaration.strings_len.Given as goal
 

@@ -1,8 +1,4 @@
-use Rattle.std.proofs.Common.{◌≡◌, ◌+◌, ◌-◌, ◌*◌, ◌/◌, ◌%◌, ◌^◌, ◌<◌, ◌∷◌, [], ◌++◌, if◌then◌else◌, List, ℕ, length, take, refl, ap, ◌∙◌, arith}
-use Rattle.std.specs.Int.{bytes_high_first, leading_zeros, w64}
-use Rattle.std.proofs.lemmas.List.{length-take-le}
-use Rattle.ion_value.specs.Number.{coefficient_octets}
-use Rattle.ion_value.proofs.Fields.{length-bytes_high_first}
+use Rattle.ion_binary.proofs.Below.{◌≡◌, ◌+◌, ◌-◌, ◌*◌, ◌/◌, ◌%◌, ◌^◌, ◌<◌, ◌∷◌, [], ◌++◌, if◌then◌else◌, List, ℕ, length, take, refl, ap, ◌∙◌, arith, bytes_high_first, leading_zeros, w64, length-take-le, coefficient_octets, length-bytes_high_first}
 use Rattle.ion_binary.specs.Canonical.{headed}
 use Rattle.ion_binary.proofs.FewOctets.{few-headed}
 use Rattle.ion_binary.proofs.ShortDecimals.{one-zero, signed-block, sum-fits}
@@ -22,8 +18,8 @@ overflow_add-wrapping_shl c =
     let fits = sum-fits n zeros c.args.negative c.requires.some c.requires.most refl in
     record { fits = omega (arith, m, h, fits) }
 
-pub returns-clause-octets : goal.returns-clause-octets
-returns-clause-octets c =
+pub returns : goal.returns
+returns c =
     let n : ℕ = c.args.coefficient in
     let zeros : ℕ = (leading_zeros w64 n - 1) / 8 in
     let size : ℕ = 8 - zeros in

@@ -1,15 +1,11 @@
-use Rattle.std.proofs.Common.{◌≡◌, ◌+◌, ◌-◌, ◌*◌, ◌/◌, ◌∷◌, ◌++◌, List, ℕ, length, take, refl, ap, sym, ◌∙◌, arith}
-use Rattle.std.specs.Int.{bytes_high_first, leading_zeros, w64}
-use Rattle.std.proofs.lemmas.List.{length-take-le}
-use Rattle.ion_value.specs.Number.{uint_octets}
-use Rattle.ion_value.proofs.Fields.{length-bytes_high_first}
+use Rattle.ion_binary.proofs.Below.{◌≡◌, ◌+◌, ◌-◌, ◌*◌, ◌/◌, ◌∷◌, ◌++◌, List, ℕ, length, take, refl, ap, sym, ◌∙◌, arith, bytes_high_first, leading_zeros, w64, length-take-le, uint_octets, length-bytes_high_first}
 use Rattle.ion_binary.specs.Canonical.{headed}
 use Rattle.ion_binary.proofs.FewOctets.{few-headed}
 use Rattle.ion_binary.proofs.ShortInts.{shifted-uint}
 use Rattle.ion_binary.proofs.few.few_number.Goals as goal
 
-pub returns-clause-octets : goal.returns-clause-octets
-returns-clause-octets c =
+pub returns : goal.returns
+returns c =
     let all : List ℕ = c.to_be_bytes.result in
     let zeros : ℕ = leading_zeros w64 c.args.n / 8 in
     let size : ℕ = 8 - zeros in

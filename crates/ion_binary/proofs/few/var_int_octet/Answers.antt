@@ -1,5 +1,4 @@
-use Rattle.std.proofs.Common.{◌≡◌, ◌+◌, ◌<◌, Bool, true, false, [], ◌∷◌, ℕ, subst, sym, arith}
-use Rattle.ion_value.specs.Number.{var_int_octets}
+use Rattle.ion_binary.proofs.Below.{◌≡◌, ◌+◌, ◌<◌, Bool, true, false, [], ◌∷◌, ℕ, subst, sym, arith, var_int_octets}
 use Rattle.ion_binary.proofs.ShortDecimals.{small-exponent}
 use Rattle.ion_binary.proofs.few.var_int_octet.Goals as goal
 

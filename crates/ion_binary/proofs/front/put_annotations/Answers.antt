@@ -1,7 +1,4 @@
-use Rattle.std.proofs.Common.{◌≡◌, ◌∙◌, ◌<◌, ap, sym, arith, refl, length, None, Some}
-use Rattle.std.proofs.lemmas.Grind.{common_steps}
-use Rattle.std.specs.Prelude.{slice_get}
-use Rattle.ion_value.specs.Items.{annotations_of, raw_field, symbol_at}
+use Rattle.ion_binary.proofs.Below.{◌≡◌, ◌∙◌, ◌<◌, ap, sym, arith, refl, length, None, Some, common_steps, slice_get, annotations_of, raw_field, symbol_at}
 use Rattle.ion_binary.specs.Canonical.{id_in, id_octets}
 use Rattle.ion_binary.specs.Numbering.{users}
 use Rattle.ion_binary.proofs.Contents.{adds-then}

@@ -1,5 +1,4 @@
-use Rattle.std.proofs.Common.{◌-◌, ◌≤◌, length, take, Bool, Ok}
-use Rattle.ion_value.specs.Items.{annotations_of}
+use Rattle.ion_binary.proofs.Below.{◌-◌, ◌≤◌, length, take, Bool, Ok, annotations_of}
 use Rattle.ion_binary.specs.Canonical.{id_in, id_octets}
 use Rattle.ion_binary.specs.Late.{Adds}
 use Rattle.ion_binary.specs.Numbering.{Numbers, PutsWithin, numbering, users}

@@ -1,7 +1,4 @@
-use Rattle.std.proofs.Common.{◌++◌, ◌∙◌, ap, refl, append_assoc, arith}
-use Rattle.std.proofs.lemmas.Grind.{common_steps}
-use Rattle.ion_value.specs.Items.{annotations_of, item_of, raw_field, raw_head}
-use Rattle.ion_value.specs.Writable.{field_symbols}
+use Rattle.ion_binary.proofs.Below.{◌++◌, ◌∙◌, ap, refl, append_assoc, arith, common_steps, annotations_of, item_of, raw_field, raw_head, field_symbols}
 use Rattle.ion_binary.specs.Canonical.{with_symbols}
 use Rattle.ion_binary.specs.Writing.{head_symbols}
 use Rattle.ion_binary.proofs.Contents.{adds-then}

@@ -1,5 +1,4 @@
-use Rattle.std.proofs.Common.{ℕ, ◌<◌, ◌≤◌, drop, get_or, length, take}
-use Rattle.ion_meter.proofs.Onward.{Onward}
+use Rattle.ion_binary.proofs.Below.{ℕ, ◌<◌, ◌≤◌, drop, get_or, length, take, Onward}
 use Rattle.ion_binary.specs.declared.held_octets.LateHeader.{LateHeader}
 use Rattle.ion_binary.specs.Late.{spread}
 use Rattle.ion_binary.proofs.held_octets.put_pieces.Given as goal

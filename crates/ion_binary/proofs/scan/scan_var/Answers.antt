@@ -1,7 +1,4 @@
-use Rattle.std.proofs.Common.{arith, ap, ◌∙◌, ◌+◌, ◌-◌, ◌*◌, [], get_or, Ok}
-use Rattle.ion_meter.specs.declared.fault.Reason.TheVariants.{Overrun, Truncated}
-use Rattle.ion_meter.specs.Sources.{skip}
-use Rattle.ion_value.proofs.Numbers.{seven-fits, append-lt}
+use Rattle.ion_binary.proofs.Below.{arith, ap, ◌∙◌, ◌+◌, ◌-◌, ◌*◌, [], get_or, Ok, Overrun, Truncated, skip, seven-fits, append-lt}
 use Rattle.ion_binary.specs.Parts.{var_from}
 use Rattle.ion_binary.specs.Scanned.{window}
 use Rattle.ion_binary.proofs.ScannedParts.{ends-reaches, octet_lacks, octet_over, octet_shown, skip-none}

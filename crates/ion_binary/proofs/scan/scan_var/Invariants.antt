@@ -1,5 +1,4 @@
-use Rattle.std.proofs.Common.{◌≡◌, ◌-◌, ◌^◌, ◌<◌, ◌≤◌, ℕ, List, length}
-use Rattle.ion_meter.specs.Sources.{skip}
+use Rattle.ion_binary.proofs.Below.{◌≡◌, ◌-◌, ◌^◌, ◌<◌, ◌≤◌, ℕ, List, length, skip}
 use Rattle.ion_binary.specs.Descriptor.{Region, var_uint_at}
 use Rattle.ion_binary.specs.Parts.{var_from}
 use Rattle.ion_binary.specs.Scanned.{EndsAt, window}

@@ -1,8 +1,4 @@
-use Rattle.std.proofs.Common.{◌≡◌, ℕ, ◌+◌, Bool, true, false, not, List, take, drop, None, slice_get, refl, sym, ap, ◌∙◌, arith}
-use Rattle.std.proofs.lemmas.Grind.{common_steps}
-use Rattle.ion_meter.specs.Windows.{left}
-use Rattle.ion_meter.proofs.Lent.{lent-IsGiven, IsPassed-left}
-use Rattle.ion_meter.specs.Sources.{cursor}
+use Rattle.ion_binary.proofs.Below.{◌≡◌, ℕ, ◌+◌, Bool, true, false, not, List, take, drop, None, slice_get, refl, sym, ap, ◌∙◌, arith, common_steps, left, lent-IsGiven, IsPassed-left, cursor}
 use Rattle.ion_binary.proofs.TypedValueCode.{is_version, lent-three, version-cut, version-other, version-read}
 use Rattle.ion_binary.proofs.value.next_version.Goals as goal
 

@@ -1,7 +1,4 @@
-use Rattle.std.proofs.Common.{Some, refl, arith}
-use Rattle.ion_meter.specs.Sources.{cursor}
-use Rattle.ion_meter.proofs.Lent.{lent-CanPass}
-use Rattle.ion_value.specs.Answers.{itself}
+use Rattle.ion_binary.proofs.Below.{Some, refl, arith, cursor, lent-CanPass, itself}
 use Rattle.ion_binary.specs.Descriptor.{var_uint_at}
 use Rattle.ion_binary.proofs.ScannedParts.{reads-passed, scanned-cut, scanned-fault, scanned-whole}
 use Rattle.ion_binary.proofs.window.next_var_uint.Goals as goal

@@ -1,6 +1,4 @@
-use Rattle.std.proofs.Common.{◌≡◌, ◌-◌, length}
-use Rattle.ion_meter.specs.Sources.{Moves, Stands, cursor}
-use Rattle.ion_meter.specs.Windows.{lent}
+use Rattle.ion_binary.proofs.Below.{◌≡◌, ◌-◌, length, Moves, Stands, cursor, lent}
 use Rattle.ion_binary.proofs.window.next_var_uint.Given as goal
 
 abbrev pub invariant-scans : goal.invariant-scans

@@ -1,7 +1,4 @@
-use Rattle.std.proofs.Common.{arith, length}
-use Rattle.std.proofs.lemmas.Grind.{common_steps}
-use Rattle.ion_meter.specs.Windows.{lent}
-use Rattle.ion_meter.proofs.Lent.{lent-IsGiven}
+use Rattle.ion_binary.proofs.Below.{arith, length, common_steps, lent, lent-IsGiven}
 use Rattle.ion_binary.proofs.ScannedParts.{lent-all}
 use Rattle.ion_binary.proofs.window.refill.Goals as goal
 

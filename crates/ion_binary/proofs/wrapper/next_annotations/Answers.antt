@@ -1,15 +1,7 @@
-use Rattle.std.proofs.Common.{arith, ap, sym, ◌∙◌, ◌≡◌, ◌+◌, ◌*◌, ◌-◌, ◌≤◌, [], length, None, Some, Err}
-use Rattle.std.proofs.lemmas.Grind.{common_steps}
+use Rattle.ion_binary.proofs.Below.{arith, ap, sym, ◌∙◌, ◌≡◌, ◌+◌, ◌*◌, ◌-◌, ◌≤◌, [], length, None, Some, Err, common_steps, AnnotationLimit, cursor, itself, passed_over, GrowsWithin, moves-then, grows-then, passed-then}
 use Rattle.std.proofs.lemmas.List.{length-append}
-use Rattle.ion_meter.specs.declared.fault.Reason.TheVariants.{AnnotationLimit}
 use Rattle.ion_binary.specs.Descriptor.{var_uint_at}
-use Rattle.ion_meter.specs.Sources.{cursor}
-use Rattle.ion_value.specs.Answers.{itself}
 use Rattle.ion_binary.specs.Wrappers.{as_annotations}
-use Rattle.ion_value.specs.Calls.{passed_over}
-use Rattle.ion_value.specs.Shares.{GrowsWithin}
-use Rattle.ion_value.proofs.Cursors.{moves-then}
-use Rattle.ion_value.proofs.GrowsWithin.{grows-then, passed-then}
 use Rattle.ion_binary.proofs.Annotations.{ids_at-ended, ids_at-refused, ids_at-limited, ids_at-one_more, answers_at-refused, charges-grown}
 use Rattle.ion_binary.proofs.wrapper.next_annotations.Goals as goal
 
@@ -69,14 +61,10 @@ loop-limits-preserved g c =
           let before = 16 * length c.loop-limits.annotations in
           let after = 16 * length c.push.new.self in
           let sum = passed-then g.I.Input s0 s t inv.moves o.reads.moves in
-          let further = o.taken in
-          let within = o.reads.stands.within in
-          let limit = o.reads.moves.limit in
-          let one : 1 ≤ passed_over s t = omega (arith, further, within, limit) in
-          let held = c.in_default.ensures.cost.held in
+          let one : 1 ≤ passed_over s t = omega (arith, o.taken, o.reads.stands.within, o.reads.moves.limit) in
           let peak = c.in_default.ensures.cost.peak in
           let own = inv.grows.own in
-          let put : GrowsWithin m c.push.new.meter before after 16 = record { own = omega (arith, more); peak = omega (arith, held, peak) } in
+          let put : GrowsWithin m c.push.new.meter before after 16 = record { own = omega (arith, more); peak = omega (arith, c.in_default.ensures.cost.held, peak) } in
           grows-then c.args.meter.now m c.push.new.meter 0 before after (16 * passed_over s0 s) 16 (16 * passed_over s0 t) inv.charges.held inv.grows put (omega (arith, sum)) (omega (arith, sum, one, own));
       taken = omega (arith, more, inv.taken, o.taken);
       same = λ t.

@@ -1,8 +1,5 @@
-use Rattle.std.proofs.Common.{◌≡◌, ◌-◌, ◌*◌, ◌≤◌, length}
-use Rattle.ion_value.specs.Calls.{passed_over}
-use Rattle.ion_value.specs.Shares.{Charges, GrowsWithin}
+use Rattle.ion_binary.proofs.Below.{◌≡◌, ◌-◌, ◌*◌, ◌≤◌, length, passed_over, Charges, GrowsWithin, cursor, Stands, Moves}
 use Rattle.ion_binary.specs.Reading.{ids_at}
-use Rattle.ion_meter.specs.Sources.{cursor, Stands, Moves}
 use Rattle.ion_binary.specs.Wrappers.{as_annotations}
 use Rattle.ion_binary.proofs.Annotations.{after}
 use Rattle.ion_binary.proofs.wrapper.next_annotations.Given as goal

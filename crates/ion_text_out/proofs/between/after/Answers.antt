@@ -1,5 +1,4 @@
-use Rattle.std.proofs.Common.{arith}
-use Rattle.std.proofs.lemmas.Grind.{common_steps}
+use Rattle.ion_text_out.proofs.Below.{arith, common_steps}
 use Rattle.ion_text_out.proofs.between.after.Goals as goal
 
 pub returns-then-is_empty : goal.returns-then-is_empty

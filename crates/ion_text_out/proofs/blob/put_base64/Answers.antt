@@ -1,5 +1,4 @@
-use Rattle.std.proofs.Common.{refl, sym, arith, ◌+◌}
-use Rattle.std.proofs.lemmas.Grind.{common_steps}
+use Rattle.ion_text_out.proofs.Below.{refl, sym, arith, ◌+◌, common_steps}
 use Rattle.ion_text_out.proofs.Blobs.{no_part, next_part, part_cut, last_part}
 use Rattle.ion_text_out.proofs.blob.put_base64.Goals as goal
 

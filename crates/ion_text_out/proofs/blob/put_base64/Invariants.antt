@@ -1,7 +1,4 @@
-use Rattle.std.proofs.Common.{◌≡◌, ◌≤◌, length, take, ◌-◌, ◌%◌, Ok}
-use Rattle.base64.specs.Engines.{standard}
-use Rattle.base64.specs.GeneralPurpose.{encode_of}
-use Rattle.ion_meter.specs.Sinks.{HasPut}
+use Rattle.ion_text_out.proofs.Below.{◌≡◌, ◌≤◌, length, take, ◌-◌, ◌%◌, Ok, standard, encode_of, HasPut}
 use Rattle.ion_text_out.proofs.blob.put_base64.Given as goal
 
 abbrev pub invariant-pieces : goal.invariant-pieces

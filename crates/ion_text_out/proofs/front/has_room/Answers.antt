@@ -1,5 +1,4 @@
-use Rattle.std.proofs.Common.{arith}
-use Rattle.std.proofs.lemmas.Grind.{common_steps}
+use Rattle.ion_text_out.proofs.Below.{arith, common_steps}
 use Rattle.ion_text_out.proofs.Gaps.{front-length, item-within}
 use Rattle.ion_text_out.proofs.front.has_room.Goals as goal
 

@@ -1,6 +1,4 @@
-use Rattle.std.specs.Prelude.{Option, Some, None, IfSome}
-use Rattle.ion_value.specs.PlainItems.{IsRightlyQuoted, StandsAfter}
-use Rattle.ion_value.specs.declared.plain_item.TextAt.{TextAt}
+use Rattle.ion_text_out.proofs.Below.{Option, Some, None, IfSome, IsRightlyQuoted, StandsAfter, TextAt}
 use Rattle.ion_text_out.proofs.front.spell_notes.Goals as goal
 
 second_quoted : (annotation second : Option TextAt) → IfSome second (StandsAfter annotation) → IfSome second IsRightlyQuoted

@@ -1,8 +1,5 @@
-use Rattle.std.proofs.Common.{arith}
-use Rattle.std.proofs.lemmas.Grind.{common_steps}
-use Rattle.ion_value.specs.Items.{annotations_of}
+use Rattle.ion_text_out.proofs.Below.{arith, common_steps, annotations_of, put_nothing}
 use Rattle.ion_text_out.proofs.Annotations.{annotations-next, annotations-cut}
-use Rattle.ion_meter.proofs.Putting.{put_nothing}
 use Rattle.ion_text_out.proofs.item.put_annotations.Goals as goal
 
 pub annotations-init : goal.annotations-init

@@ -1,6 +1,4 @@
-use Rattle.std.proofs.Common.{◌≡◌, ◌-◌, ◌≤◌, length, take, None, Ok}
-use Rattle.ion_value.specs.Items.{annotations_of}
-use Rattle.ion_meter.specs.Sinks.{HasPut}
+use Rattle.ion_text_out.proofs.Below.{◌≡◌, ◌-◌, ◌≤◌, length, take, None, Ok, annotations_of, HasPut}
 use Rattle.ion_text_out.specs.Writing.{annotations_text}
 use Rattle.ion_text_out.proofs.item.put_annotations.Given as goal
 

@@ -1,5 +1,4 @@
-use Rattle.std.proofs.Common.{sym, ◌∙◌}
-use Rattle.ion_meter.proofs.Putting.{put_cut, put_then}
+use Rattle.ion_text_out.proofs.Below.{sym, ◌∙◌, put_cut, put_then}
 use Rattle.ion_text_out.proofs.ItemParts.{on_ok}
 use Rattle.ion_text_out.proofs.item.put_closing.Goals as goal
 

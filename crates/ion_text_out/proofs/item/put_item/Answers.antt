@@ -1,6 +1,4 @@
-use Rattle.std.proofs.Common.{sym, ◌∙◌, arith}
-use Rattle.std.proofs.lemmas.Grind.{common_steps}
-use Rattle.ion_value.specs.Items.{item_of, raw_head}
+use Rattle.ion_text_out.proofs.Below.{sym, ◌∙◌, arith, common_steps, item_of, raw_head}
 use Rattle.ion_text_out.specs.Writing.{shown}
 use Rattle.ion_text_out.proofs.ItemParts.{item_first, item_middle, item_last, on_ok}
 use Rattle.ion_text_out.proofs.item.put_item.Goals as goal

@@ -1,5 +1,4 @@
-use Rattle.std.proofs.Common.{arith}
-use Rattle.ion_meter.proofs.Onward.{onward_as, onward_then, onward_cut}
+use Rattle.ion_text_out.proofs.Below.{arith, onward_as, onward_then, onward_cut}
 use Rattle.ion_text_out.proofs.Gaps.{blanks_last, blanks_then}
 use Rattle.ion_text_out.proofs.put.put_blanks.Goals as goal
 

@@ -1,6 +1,4 @@
-use Rattle.std.proofs.Common.{◌*◌}
-use Rattle.std.specs.Prelude.{replicate}
-use Rattle.ion_meter.proofs.Onward.{Onward}
+use Rattle.ion_text_out.proofs.Below.{◌*◌, replicate, Onward}
 use Rattle.ion_text_out.proofs.put.put_blanks.Given as goal
 
 abbrev pub invariant-levels : goal.invariant-levels

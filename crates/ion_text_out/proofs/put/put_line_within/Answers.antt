@@ -1,5 +1,4 @@
-use Rattle.std.proofs.Common.{◌∙◌, ◌*◌, arith, codes}
-use Rattle.std.specs.Prelude.{replicate}
+use Rattle.ion_text_out.proofs.Below.{◌∙◌, ◌*◌, arith, codes, replicate}
 use Rattle.ion_text_out.proofs.Gaps.{blanks_last, put_before}
 use Rattle.ion_text_out.proofs.put.put_line_within.Goals as goal
 

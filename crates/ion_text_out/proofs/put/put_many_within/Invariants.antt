@@ -1,5 +1,4 @@
-use Rattle.std.proofs.Common.{◌≡◌, ◌≤◌, ◌+◌, ◌*◌, ◌++◌, length}
-use Rattle.std.specs.Prelude.{replicate}
+use Rattle.ion_text_out.proofs.Below.{◌≡◌, ◌≤◌, ◌+◌, ◌*◌, ◌++◌, length, replicate}
 use Rattle.ion_text_out.proofs.put.put_many_within.Given as goal
 
 abbrev pub invariant-levels : goal.invariant-levels

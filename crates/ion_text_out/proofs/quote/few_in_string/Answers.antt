@@ -1,5 +1,4 @@
-use Rattle.std.proofs.Common.{arith}
-use Rattle.std.proofs.lemmas.Grind.{common_steps}
+use Rattle.ion_text_out.proofs.Below.{arith, common_steps}
 use Rattle.ion_text_out.proofs.quote.few_in_string.Goals as goal
 
 pub returns-then-not-is_string_byte : goal.returns-then-not-is_string_byte

@@ -1,5 +1,4 @@
-use Rattle.std.proofs.Common.{nat_lt, get_or, refl, sym, arith}
-use Rattle.std.proofs.lemmas.Bool.{agree_below_at}
+use Rattle.ion_text_out.proofs.Below.{nat_lt, get_or, refl, sym, arith, agree_below_at}
 use Rattle.ion_text_out.specs.declared.quote.TheConstants.{SYMBOL_BYTES}
 use Rattle.ion_text_out.specs.Escape.{is_shown}
 use Rattle.ion_text_out.proofs.quote.is_symbol_byte.Goals as goal

@@ -1,6 +1,4 @@
-use Rattle.std.proofs.Common.{arith}
-use Rattle.std.proofs.lemmas.Grind.{common_steps}
-use Rattle.ion_meter.proofs.Onward.{onward_as, onward_then, onward_cut, onward_end}
+use Rattle.ion_text_out.proofs.Below.{arith, common_steps, onward_as, onward_then, onward_cut, onward_end}
 use Rattle.ion_text_out.proofs.Quoted.{run_then, run_last, escape_then}
 use Rattle.ion_text_out.proofs.quote.put_inside.Goals as goal
 

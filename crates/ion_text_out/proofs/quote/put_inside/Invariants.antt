@@ -1,7 +1,5 @@
-use Rattle.std.proofs.Common.{length}
-use Rattle.std.specs.List.{flat_map}
+use Rattle.ion_text_out.proofs.Below.{length, flat_map, Onward}
 use Rattle.ion_text_out.specs.Escape.{byte_text}
-use Rattle.ion_meter.proofs.Onward.{Onward}
 use Rattle.ion_text_out.proofs.quote.put_inside.Given as goal
 
 abbrev pub invariant-runs : goal.invariant-runs

@@ -1,6 +1,4 @@
-use Rattle.std.proofs.Common.{arith}
-use Rattle.std.proofs.lemmas.Grind.{common_steps}
-use Rattle.std.proofs.lemmas.List.{take_rest}
+use Rattle.ion_text_out.proofs.Below.{arith, common_steps, take_rest}
 use Rattle.ion_text_out.specs.Escape.{is_shown}
 use Rattle.ion_text_out.proofs.ShownRuns.{over_block, to_hidden}
 use Rattle.ion_text_out.proofs.Quoted.{all_after}

@@ -1,5 +1,4 @@
-use Rattle.std.proofs.Common.{◌≡◌, ◌-◌, ◌≤◌, true, length, take}
-use Rattle.ion_value.specs.Digits.{all_are}
+use Rattle.ion_text_out.proofs.Below.{◌≡◌, ◌-◌, ◌≤◌, true, length, take, all_are}
 use Rattle.ion_text_out.specs.Escape.{is_shown}
 use Rattle.ion_text_out.proofs.quote.shown_run.Given as goal
 

@@ -1,6 +1,4 @@
-use Rattle.std.proofs.Common.{◌≤◌, ◌-◌, ◌++◌, length, take, drop, arith}
-use Rattle.std.proofs.lemmas.Grind.{common_steps}
-use Rattle.std.proofs.lemmas.List.{take_all}
+use Rattle.ion_text_out.proofs.Below.{◌≤◌, ◌-◌, ◌++◌, length, take, drop, arith, common_steps, take_all}
 use Rattle.ion_text_out.proofs.ShownRuns.{ends_hidden}
 use Rattle.ion_text_out.proofs.quote.stand_between.Goals as goal
 

@@ -1,6 +1,4 @@
-use Rattle.std.proofs.Common.{arith}
-use Rattle.std.proofs.lemmas.Grind.{common_steps}
-use Rattle.ion_meter.proofs.Putting.{put_cut, put_then}
+use Rattle.ion_text_out.proofs.Below.{arith, common_steps, put_cut, put_then}
 use Rattle.ion_text_out.proofs.scalar.put_clob.Goals as goal
 
 pub returns-in-Err : goal.returns-in-Err

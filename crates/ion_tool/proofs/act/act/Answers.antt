@@ -1,4 +1,4 @@
-use Rattle.std.proofs.Common.{option_map, refl, subst}
+use Rattle.std.proofs.Common.{false, option_map, refl, subst}
 use Rattle.ion_tool.specs.declared.words.Task.{Task}
 use Rattle.ion_tool.specs.Serving.{label_of, run_bound, IsAnswered, Keeps}
 use Rattle.ion_tool.proofs.Acts.{is_check, written}
@@ -16,7 +16,7 @@ returns-in-Check-clause-answered g c i o =
 
 pub returns-in-Check-clause-kept : goal.returns-in-Check-clause-kept
 returns-in-Check-clause-kept g c =
-    subst (λ (t : Task). Keeps g.I.Input g.O.Output (run_bound t c.args.limits) c.check.result.0 c.args.meter.now c.check.new.meter c.args.input c.check.result.1 c.args.out c.check.result.2)
+    subst (λ (t : Task). Keeps g.I.Input g.O.Output false (run_bound t c.args.limits) c.check.result.0 c.args.meter.now c.check.new.meter c.args.input c.check.result.1 c.args.out c.check.result.2)
     (is_check c.args.task c.in-Check.is) c.check.ensures.kept
 
 pub returns-in-Convert-clause-answered : goal.returns-in-Convert-clause-answered

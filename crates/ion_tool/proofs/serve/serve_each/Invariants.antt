@@ -7,7 +7,7 @@ use Rattle.ion_tool.proofs.serve.serve_each.Given as goal
 
 abbrev pub invariant-loop-word : goal.invariant-loop-word
 invariant-loop-word g l = record {
-  room : HasRoom (2 ^ 48 - 524288) 0 l.meter;
+  room : HasRoom (2 ^ 48) 0 l.meter;
   in_failures : g.I.Input.failure_count l.input < 2 ^ 64 - 1;
   out_failures : g.O.Output.failure_count l.out < 2 ^ 64 - 1;
   err_failures : g.E.Output.failure_count l.err < 2 ^ 64 - 1;

@@ -1,5 +1,4 @@
-use Rattle.std.proofs.Common.{◌≡◌, ◌<◌, List, ℕ, length, ap, sym, ◌∙◌, arith}
-use Rattle.std.proofs.lemmas.Grind.{common_steps}
+use Rattle.ion_binary.proofs.Below.{◌≡◌, ◌<◌, List, ℕ, length, ap, sym, ◌∙◌, arith, common_steps}
 use Rattle.ion_binary.proofs.FewOctets.{low-length, room-next}
 use Rattle.ion_binary.proofs.few.Few.after.Goals as goal
 

@@ -6,13 +6,11 @@ use Rattle.ion_binary.proofs.held_octets.HeldOctets.all.Goals as goal
 pub returns-clause-octets : goal.returns-clause-octets
 returns-clause-octets g c =
     let s = c.self.inside in
-    let m = c.self.invariant.1 in
-    let none : missing_of s.late.items ≡ 0 = let t : s.missing ≤ 0 = c.if-self-gt0.false in omega (arith, t, m) in
+    let none : missing_of s.late.items ≡ 0 = let t : s.missing ≤ 0 = c.if-self-gt0.false in omega (arith, t, c.self.invariant.1) in
     c.as_slice.ensures ∙ ap (λ (x : Content). x.all) (content-none s.late.items s.there c.args.self.now c.self.view_is none)
 
 pub returns-clause-none : goal.returns-clause-none
 returns-clause-none g c =
     let s = c.self.inside in
-    let m = c.self.invariant.1 in
-    let none : missing_of s.late.items ≡ 0 = let t : s.missing ≤ 0 = c.if-self-gt0.false in omega (arith, t, m) in
+    let none : missing_of s.late.items ≡ 0 = let t : s.missing ≤ 0 = c.if-self-gt0.false in omega (arith, t, c.self.invariant.1) in
     ap (λ (x : Content). x.late) (sym (content-none s.late.items s.there c.args.self.now c.self.view_is none))

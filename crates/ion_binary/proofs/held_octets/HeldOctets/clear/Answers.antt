@@ -1,5 +1,4 @@
-use Rattle.std.proofs.Common.{◌≡◌, ◌+◌, ◌*◌, [], List, ℕ, length, ap, sym, subst, ◌∙◌, arith}
-use Rattle.ion_meter.specs.Counts.{Shrinks}
+use Rattle.ion_binary.proofs.Below.{◌≡◌, ◌+◌, ◌*◌, [], List, ℕ, length, ap, sym, subst, ◌∙◌, arith, Shrinks}
 use Rattle.ion_binary.specs.declared.held_octets.LateHeader.{LateHeader}
 use Rattle.ion_binary.specs.Late.{AreLate, Content, missing_of}
 use Rattle.ion_binary.proofs.Contents.{content, none-late}

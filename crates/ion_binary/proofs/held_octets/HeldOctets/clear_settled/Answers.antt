@@ -1,5 +1,4 @@
-use Rattle.std.proofs.Common.{◌≡◌, ◌+◌, ◌*◌, [], List, ℕ, length, ap, sym, subst, ◌∙◌, arith}
-use Rattle.ion_meter.specs.Counts.{Shrinks}
+use Rattle.ion_binary.proofs.Below.{◌≡◌, ◌+◌, ◌*◌, [], List, ℕ, length, ap, sym, subst, ◌∙◌, arith, Shrinks}
 use Rattle.ion_binary.specs.declared.held_octets.LateHeader.{LateHeader}
 use Rattle.ion_binary.specs.Late.{AreLate, Content}
 use Rattle.ion_binary.proofs.Contents.{content, no-items}
@@ -23,6 +22,5 @@ returns-clause-cost g c =
     let s = c.self.inside in
     let cost : length s.there + 16 * length s.late.items ≡ c.args.self.now.cost = ap (λ (x : Content). x.cost) c.self.view_is in
     let late : length s.late.items ≡ c.args.self.now.late = ap (λ (x : Content). x.late) c.self.view_is in
-    let none = c.requires.none in
-    let k : length s.there ≡ c.args.self.now.cost = omega (arith, cost, late, none) in
+    let k : length s.there ≡ c.args.self.now.cost = omega (arith, cost, late, c.requires.none) in
     subst (λ (n : ℕ). Shrinks c.args.meter.now c.clear.new.meter n) k c.clear.ensures.cost

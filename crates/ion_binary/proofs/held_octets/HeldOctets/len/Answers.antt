@@ -10,8 +10,7 @@ overflow_add-result g c =
     let there : length c.as_slice.result.now ≡ length s.there = ap (λ (os : List ℕ). length os) c.as_slice.ensures in
     let long = spread-length s.late.items s.there inv.2 in
     let view : length (spread s.late.items s.there) ≡ length c.args.self.now.all = ap (λ (x : Content). length x.all) c.self.view_is in
-    let short = c.requires in
-    omega (arith, there, long, view, short, inv.1)
+    omega (arith, there, long, view, c.requires, inv.1)
 
 pub returns : goal.returns
 returns g c =

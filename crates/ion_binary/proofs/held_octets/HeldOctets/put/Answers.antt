@@ -1,5 +1,4 @@
-use Rattle.std.proofs.Common.{List, ℕ, length, ap, subst, sym, ◌∙◌}
-use Rattle.ion_meter.specs.Sinks.{IsPut}
+use Rattle.ion_binary.proofs.Below.{List, ℕ, length, ap, subst, sym, ◌∙◌, IsPut}
 use Rattle.ion_binary.specs.declared.held_octets.LateHeader.{LateHeader}
 use Rattle.ion_binary.specs.Late.{AreLate, Content, spread}
 use Rattle.ion_binary.proofs.held_octets.HeldOctets.put.Goals as goal

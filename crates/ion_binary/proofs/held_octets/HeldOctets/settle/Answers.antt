@@ -1,5 +1,4 @@
-use Rattle.std.proofs.Common.{◌≡◌, ◌+◌, ◌*◌, List, ℕ, Some, length, take, refl, ap, sym, subst, ◌∙◌, arith}
-use Rattle.ion_meter.specs.Counts.{Shrinks}
+use Rattle.ion_binary.proofs.Below.{◌≡◌, ◌+◌, ◌*◌, List, ℕ, Some, length, take, refl, ap, sym, subst, ◌∙◌, arith, Shrinks}
 use Rattle.ion_binary.specs.declared.held_octets.LateHeader.{LateHeader}
 use Rattle.ion_binary.specs.Late.{Content, IsCosted, Moved, spread}
 use Rattle.ion_binary.proofs.Contents.{content, costed-is, refused-moved, settled-moved}
@@ -13,20 +12,18 @@ extend_zeros-requires-clause-room g c =
     let inv = c.self.invariant in
     let long = spread-length s.late.items s.there inv.2 in
     let view : length (spread s.late.items s.there) ≡ length c.args.self.now.all = ap (λ (x : Content). length x.all) c.self.view_is in
-    let room = c.requires.room in
-    omega (arith, long, view, room, inv.1)
+    omega (arith, long, view, c.requires.room, inv.1)
 
 pub returns-in-Err-clause-moved : goal.returns-in-Err-clause-moved
 returns-in-Err-clause-moved g c =
     let s = c.self.inside in
     let v = c.args.self.now in
     let costed = costed-is s.late.items s.there v c.self.view_is c.self.invariant.2 in
-    let most = costed.most in
     let same : c.extend_zeros.new.self ≡ s.there = c.in-Err.ensures.err in
     let now : content s.late.items c.extend_zeros.new.self ≡ v = ap (λ (os : List ℕ). content s.late.items os) same ∙ c.self.view_is in
     let cap : ℕ = length v.all + 16 * v.late in
     let M : Content → Type 0 = λ x. Moved v x c.args.meter.now c.extend_zeros.new.meter cap (Some c.in-Err.fault) in
-    subst M (sym now) (refused-moved v v c.args.meter.now c.extend_zeros.new.meter cap c.in-Err.fault costed c.in-Err.ensures.refused refl (omega (arith, most)) c.in-Err.ensures.memory)
+    subst M (sym now) (refused-moved v v c.args.meter.now c.extend_zeros.new.meter cap c.in-Err.fault costed c.in-Err.ensures.refused refl (omega (arith, costed.most)) c.in-Err.ensures.memory)
 
 pub returns-clause-all : goal.returns-clause-all
 returns-clause-all g c =

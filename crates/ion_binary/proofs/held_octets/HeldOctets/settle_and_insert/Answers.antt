@@ -1,4 +1,4 @@
-use Rattle.std.proofs.Common.{◌≡◌, List, ℕ, OnOk, length, ap, subst, arith}
+use Rattle.std.proofs.Common.{◌≡◌, List, ℕ, OnOk, length, ap, subst, arith, rules}
 use Rattle.ion_binary.specs.Held.{put_at}
 use Rattle.ion_binary.proofs.Contents.{moved-more}
 use Rattle.ion_binary.proofs.LateOnes.{err-all, settled-then}
@@ -7,40 +7,35 @@ use Rattle.ion_binary.proofs.held_octets.HeldOctets.settle_and_insert.Goals as g
 pub insert_settled-requires-clause-within : goal.insert_settled-requires-clause-within
 insert_settled-requires-clause-within g c =
     let same : length c.settle.new.self.all ≡ length c.args.self.now.all = ap (λ (os : List ℕ). length os) c.in_default.ensures.all in
-    let within = c.requires.within in
-    omega (arith, same, within)
+    omega (arith, same, c.requires.within)
 
 pub insert_settled-requires-clause-room : goal.insert_settled-requires-clause-room
 insert_settled-requires-clause-room g c =
-    let held = c.in_default.ensures.moved.charges.held in
-    let most = c.in_default.ensures.moved.costed.most in
-    let none = c.in_default.ensures.none in
     let same : length c.settle.new.self.all ≡ length c.args.self.now.all = ap (λ (os : List ℕ). length os) c.in_default.ensures.all in
-    let room = c.requires.room in
-    omega (arith, held, most, none, same, room)
+    omega (arith, c.in_default.ensures.moved.charges.held, c.in_default.ensures.moved.costed.most, c.in_default.ensures.none, same, c.requires.room)
 
 pub insert_settled-requires-clause-countable : goal.insert_settled-requires-clause-countable
 insert_settled-requires-clause-countable g c =
     let counted = c.in_default.ensures.moved.memory.counted (λ e. absurd (Prim.cc e)) in
-    let countable = c.requires.countable in
-    omega (arith, counted, countable)
+    omega (arith, counted, c.requires.countable)
 
-pub returns-clause-ok : goal.returns-clause-ok
-returns-clause-ok g c =
-    let P : List ℕ → Type 0 = λ a. OnOk c.insert_settled.result (c.insert_settled.new.self.all ≡ put_at c.args.offset c.args.octets.now a) in
-    subst P c.in_default.ensures.all c.insert_settled.ensures.ok
+pub returns : goal.returns
+returns g c = record {
+  ok =
+      let P : List ℕ → Type 0 = λ a. OnOk c.insert_settled.result (c.insert_settled.new.self.all ≡ put_at c.args.offset c.args.octets.now a) in
+      subst P c.in_default.ensures.all c.insert_settled.ensures.ok;
+  err = err-all c.insert_settled.result c.insert_settled.new.self c.settle.new.self c.args.self.now c.insert_settled.ensures.err c.in_default.ensures.all;
+  late = let none = c.insert_settled.ensures.none in omega (arith, none);
+  moved =
+      settled-then c.insert_settled.result c.args.self.now c.settle.new.self c.insert_settled.new.self c.args.meter.now c.settle.new.meter c.insert_settled.new.meter c.args.octets.now c.args.offset
+      c.in_default.ensures.moved c.in_default.ensures.all c.in_default.ensures.none c.requires.within c.requires.held c.insert_settled.ensures.none c.insert_settled.ensures.ok c.insert_settled.ensures.cost
+      c.insert_settled.ensures.costs c.insert_settled.ensures.err c.insert_settled.ensures.memory c.insert_settled.ensures.refused;
+}
 
-pub returns-clause-err : goal.returns-clause-err
-returns-clause-err g c = err-all c.insert_settled.result c.insert_settled.new.self c.settle.new.self c.args.self.now c.insert_settled.ensures.err c.in_default.ensures.all
-
-pub returns-clause-late : goal.returns-clause-late
-returns-clause-late g c = let none = c.insert_settled.ensures.none in omega (arith, none)
-
-pub returns-clause-moved : goal.returns-clause-moved
-returns-clause-moved g c =
-    settled-then c.insert_settled.result c.args.self.now c.settle.new.self c.insert_settled.new.self c.args.meter.now c.settle.new.meter c.insert_settled.new.meter c.args.octets.now c.args.offset
-    c.in_default.ensures.moved c.in_default.ensures.all c.in_default.ensures.none c.requires.within c.requires.held c.insert_settled.ensures.none c.insert_settled.ensures.ok c.insert_settled.ensures.cost
-    c.insert_settled.ensures.costs c.insert_settled.ensures.err c.insert_settled.ensures.memory c.insert_settled.ensures.refused
-
-pub returns-in-Err-clause-moved : goal.returns-in-Err-clause-moved
-returns-in-Err-clause-moved g c = moved-more c.args.self.now c.settle.new.self c.args.meter.now c.settle.new.meter _ _ _ c.in-Err.ensures.moved (omega arith)
+pub returns-in-Err : goal.returns-in-Err
+returns-in-Err g c = record {
+  ok = search rules;
+  err = search rules;
+  late = c.in-Err.ensures.late;
+  moved = moved-more c.args.self.now c.settle.new.self c.args.meter.now c.settle.new.meter _ _ _ c.in-Err.ensures.moved (omega arith);
+}

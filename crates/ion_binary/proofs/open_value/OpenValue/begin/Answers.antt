@@ -1,4 +1,4 @@
-use Rattle.std.proofs.Common.{◌<◌, ℕ, List, ap, subst, ◌∙◌}
+use Rattle.ion_binary.proofs.Below.{◌<◌, ℕ, List, ap, subst, ◌∙◌, arith, common_steps}
 use Rattle.ion_binary.specs.declared.headers.HeaderPlace.{HeaderPlace}
 use Rattle.ion_binary.specs.Held.{begun_at, begun_headers, size_of}
 use Rattle.ion_binary.proofs.MovedSteps.{open-to-again, stepped-then}
@@ -12,25 +12,22 @@ pub begin_spared-requires-clause-open : goal.begin_spared-requires-clause-open
 begin_spared-requires-clause-open g c =
     open-to-again c.args.self.now c.spare.new.self c.args.place c.requires.open c.in_default.ensures.octets c.in_default.ensures.headers c.in_default.ensures.counts
 
-pub returns-clause-octets : goal.returns-clause-octets
-returns-clause-octets g c is = c.begin_spared.ensures.octets is ∙ ap (λ (o : List ℕ). begun_at c.args.place o) c.in_default.ensures.octets
-
-pub returns-clause-headers : goal.returns-clause-headers
-returns-clause-headers g c is =
-    let w = c.spare.new.self in
-    c.begin_spared.ensures.headers is
-    ∙ (ap (λ (o : List ℕ). begun_headers c.args.place o c.args.kind w.headers) c.in_default.ensures.octets
-    ∙ ap (λ (hs : List HeaderPlace). begun_headers c.args.place c.args.self.now.octets.all c.args.kind hs) c.in_default.ensures.headers)
-
-pub returns-clause-over : goal.returns-clause-over
-returns-clause-over g c is =
-    let v = c.args.self.now in
-    let w = c.spare.new.self in
-    let P : List ℕ → Type 0 = λ o. c.args.limits.value < size_of (begun_at c.args.place o) (begun_headers c.args.place o c.args.kind w.headers) in
-    let Q : List HeaderPlace → Type 0 = λ hs. c.args.limits.value < size_of (begun_at c.args.place v.octets.all) (begun_headers c.args.place v.octets.all c.args.kind hs) in
-    subst Q c.in_default.ensures.headers (subst P c.in_default.ensures.octets (c.begin_spared.ensures.over is))
-
-pub returns-clause-stepped : goal.returns-clause-stepped
-returns-clause-stepped g c =
-    stepped-then c.args.limits c.args.self.now c.spare.new.self c.begin_spared.new.self c.args.meter.now c.spare.new.meter c.begin_spared.new.meter _ c.requires.can_step
-    c.in_default.ensures.stepped c.begin_spared.ensures.stepped
+pub returns : goal.returns
+returns g c = record {
+  octets = λ is. c.begin_spared.ensures.octets is ∙ ap (λ (o : List ℕ). begun_at c.args.place o) c.in_default.ensures.octets;
+  headers = λ is.
+      let w = c.spare.new.self in
+      c.begin_spared.ensures.headers is
+      ∙ (ap (λ (o : List ℕ). begun_headers c.args.place o c.args.kind w.headers) c.in_default.ensures.octets
+      ∙ ap (λ (hs : List HeaderPlace). begun_headers c.args.place c.args.self.now.octets.all c.args.kind hs) c.in_default.ensures.headers);
+  «open» = grind (arith, common_steps) steps 400000;
+  over = λ is.
+      let v = c.args.self.now in
+      let w = c.spare.new.self in
+      let P : List ℕ → Type 0 = λ o. c.args.limits.value < size_of (begun_at c.args.place o) (begun_headers c.args.place o c.args.kind w.headers) in
+      let Q : List HeaderPlace → Type 0 = λ hs. c.args.limits.value < size_of (begun_at c.args.place v.octets.all) (begun_headers c.args.place v.octets.all c.args.kind hs) in
+      subst Q c.in_default.ensures.headers (subst P c.in_default.ensures.octets (c.begin_spared.ensures.over is));
+  stepped =
+      stepped-then c.args.limits c.args.self.now c.spare.new.self c.begin_spared.new.self c.args.meter.now c.spare.new.meter c.begin_spared.new.meter _ c.requires.can_step
+      c.in_default.ensures.stepped c.begin_spared.ensures.stepped;
+}

@@ -1,5 +1,4 @@
-use Rattle.std.proofs.Common.{rules, ◌≡◌, ◌≢◌, ◌<◌, ap, sym, ◌∙◌, arith}
-use Rattle.ion_value.specs.Number.{var_uint_octets}
+use Rattle.ion_binary.proofs.Below.{rules, ◌≡◌, ◌≢◌, ◌<◌, ap, sym, ◌∙◌, arith, var_uint_octets}
 use Rattle.ion_binary.proofs.NotedOctets.{named-octets}
 use Rattle.ion_binary.proofs.PutInRoom.{begins-same}
 use Rattle.ion_binary.proofs.open_value.OpenValue.begin_after_long.Goals as goal

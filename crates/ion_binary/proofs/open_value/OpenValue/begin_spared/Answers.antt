@@ -1,7 +1,5 @@
-use Rattle.std.proofs.Common.{◌≡◌, ◌<◌, ◌≤◌, ◌*◌, ◌++◌, ◌∷◌, ℕ, List, length, drop, sym, ap, subst, ◌∙◌, rules, arith}
-use Rattle.std.proofs.lemmas.Grind.{common_steps}
+use Rattle.ion_binary.proofs.Below.{◌≡◌, ◌<◌, ◌≤◌, ◌*◌, ◌++◌, ◌∷◌, ℕ, List, length, drop, sym, ap, subst, ◌∙◌, rules, arith, common_steps, AllByRecursion}
 use Rattle.ion_binary.specs.declared.headers.HeaderPlace.{HeaderPlace}
-use Rattle.std.specs.List.{AllByRecursion}
 use Rattle.ion_binary.specs.Counting.{ArePlaced, AreReached, IsCounted, counted_length}
 use Rattle.ion_binary.specs.Grammar.{type_code}
 use Rattle.ion_binary.specs.Held.{begun_at, begun_headers, header_at, wrapper_headers}
@@ -28,6 +26,15 @@ closed_size-requires-clause-reached g c =
     let Q : List HeaderPlace → Type 0 = λ gs. AreReached c.args.self.now.counts c.len-octets.result gs in
     subst P (sym counts) (subst Q (sym headers) r)
 
+pub returns-then-closed_size-limits-clause-octets : goal.returns-then-closed_size-limits-clause-octets
+returns-then-closed_size-limits-clause-octets g c = grind (arith, common_steps) steps 400000
+
+pub returns-then-closed_size-limits-clause-headers : goal.returns-then-closed_size-limits-clause-headers
+returns-then-closed_size-limits-clause-headers g c = grind (arith, common_steps) steps 400000
+
+pub returns-then-closed_size-limits-clause-open : goal.returns-then-closed_size-limits-clause-open
+returns-then-closed_size-limits-clause-open g c = grind (arith, common_steps) steps 400000
+
 pub returns-then-closed_size-limits-clause-over : goal.returns-then-closed_size-limits-clause-over
 returns-then-closed_size-limits-clause-over g c is =
     let o : List ℕ = c.args.self.now.octets.all in
@@ -52,19 +59,21 @@ returns-then-closed_size-limits-clause-over g c is =
     let i : IsCounted ns (length (begun_at place o)) (begun_headers place o c.args.kind hs) = subst Q n (subst P same c.closed_size.ensures.counted) in
     let p = begun-placed (drop place o) place (length (begun_at place o)) (header_at (length (begun_at place o)) (type_code c.args.kind)) hs c.requires.open.placed (omega arith) (omega (arith, within, more)) in
     let few = begun-few (drop place o) place hs in
-    let deep = c.requires.spared in
-    let depth = c.requires.can_step.checked.depth in
     let value = c.requires.can_step.checked.value in
     let short : length (begun_at place o) ≤ c.args.limits.value =
     let b : length c.begin_wrapper.new.self.octets.all ≡ length (begun_at place o) = ap (λ (os : List ℕ). length os) octets in
-    let w = c.begin_wrapper.ensures.stepped.within.octets in
-    omega (arith, b, w) in
-    let s = size-counted ns (length (begun_at place o)) (begun_headers place o c.args.kind hs) i p (omega (arith, few, deep, depth)) (omega (arith, short, value)) in
+    omega (arith, b, c.begin_wrapper.ensures.stepped.within.octets) in
+    let s = size-counted ns (length (begun_at place o)) (begun_headers place o c.args.kind hs) i p (omega (arith, few, c.requires.spared, c.requires.can_step.checked.depth)) (omega (arith, short, value)) in
     let t : c.args.limits.value < c.closed_size.result = c.if-closed_size-limits.true in
-    let size = c.closed_size.ensures.size in
     let sized : counted_length ns c.len-octets.result c.closed_size.new.self.headers ≡ counted_length ns (length (begun_at place o)) (begun_headers place o c.args.kind hs) =
     ap (counted_length ns c.len-octets.result) same ∙ ap (λ k. counted_length ns k (begun_headers place o c.args.kind hs)) n in
-    omega (arith, t, size, sized, s)
+    omega (arith, t, c.closed_size.ensures.size, sized, s)
+
+pub returns-clause-octets : goal.returns-clause-octets
+returns-clause-octets g c = grind (arith, common_steps) steps 400000
+
+pub returns-clause-headers : goal.returns-clause-headers
+returns-clause-headers g c = grind (arith, common_steps) steps 400000
 
 pub returns-clause-open : goal.returns-clause-open
 returns-clause-open g c is =
@@ -75,18 +84,17 @@ returns-clause-open g c is =
     let few : length w.headers ≤ 2 * c.args.limits.depth = grind (arith, common_steps) in
     let n : c.len-octets.result ≡ length w.octets.all = c.len-octets.ensures ∙ ap (λ (x : Content). length x.all) (sym c.closed_size.ensures.octets) in
     let P : ℕ → Type 0 = λ k. IsCounted w.counts k w.headers in
-    let t = c.if-closed_size-limits.false in
     let size = c.closed_size.ensures.size in
     let long : counted_length w.counts c.len-octets.result w.headers ≡ counted_length w.counts (length w.octets.all) w.headers = ap (λ k. counted_length w.counts k w.headers) n in
     record {
       placed = placed;
       codes = codes;
       reached = reached;
-      fits = counted-fits c.args.limits w.counts w.octets.all w.headers c.requires.can_step.checked placed few (subst P n c.closed_size.ensures.counted) (omega (arith, t, size, long));
+      fits = counted-fits c.args.limits w.counts w.octets.all w.headers c.requires.can_step.checked placed few (subst P n c.closed_size.ensures.counted) (omega (arith, c.if-closed_size-limits.false, size, long));
     }
 
 pub returns-clause-over : goal.returns-clause-over
-returns-clause-over c = grind (arith, common_steps) steps 400000
+returns-clause-over g c = grind (arith, common_steps) steps 400000
 
 pub returns-then-not-branch-clause-over : goal.returns-then-not-branch-clause-over
 returns-then-not-branch-clause-over c = grind (arith, common_steps) steps 400000
@@ -97,26 +105,11 @@ returns-then-not-branch-clause-open c = grind (arith, common_steps) steps 400000
 pub push-requires-clause-countable : goal.push-requires-clause-countable
 push-requires-clause-countable c = grind (arith, common_steps) steps 400000
 
-pub returns-clause-headers : goal.returns-clause-headers
-returns-clause-headers c = grind (arith, common_steps) steps 400000
-
-pub returns-clause-octets : goal.returns-clause-octets
-returns-clause-octets c = grind (arith, common_steps) steps 400000
-
 pub closed_size-requires-clause-short : goal.closed_size-requires-clause-short
 closed_size-requires-clause-short c = grind (arith, common_steps) steps 400000
 
-pub returns-then-closed_size-limits-clause-open : goal.returns-then-closed_size-limits-clause-open
-returns-then-closed_size-limits-clause-open c = grind (arith, common_steps) steps 400000
-
 pub closed_size-requires-clause-few : goal.closed_size-requires-clause-few
 closed_size-requires-clause-few c = grind (arith, common_steps) steps 400000
-
-pub returns-then-closed_size-limits-clause-octets : goal.returns-then-closed_size-limits-clause-octets
-returns-then-closed_size-limits-clause-octets c = grind (arith, common_steps) steps 400000
-
-pub returns-then-closed_size-limits-clause-headers : goal.returns-then-closed_size-limits-clause-headers
-returns-then-closed_size-limits-clause-headers c = grind (arith, common_steps) steps 400000
 
 pub overflow_cast-header : goal.overflow_cast-header
 overflow_cast-header c = grind (arith, common_steps) steps 400000

@@ -1,5 +1,4 @@
-use Rattle.std.proofs.Common.{◌≡◌, ◌≤◌, get_or, length, arith}
-use Rattle.std.proofs.lemmas.Grind.{common_steps}
+use Rattle.ion_binary.proofs.Below.{◌≡◌, ◌≤◌, get_or, length, arith, common_steps}
 use Rattle.ion_binary.proofs.CountedHeaders.{beyond-none}
 use Rattle.ion_binary.proofs.open_value.OpenValue.closed_size.Goals as goal
 

@@ -1,7 +1,4 @@
-use Rattle.std.proofs.Common.{◌≡◌, ◌+◌, ◌-◌, ◌∷◌, List, ℕ, drop, length, refl, ap, subst, ◌∙◌, arith}
-use Rattle.std.proofs.lemmas.Grind.{common_steps}
-use Rattle.std.proofs.lemmas.Option.{none-some}
-use Rattle.ion_meter.specs.Counts.{Shrinks}
+use Rattle.ion_binary.proofs.Below.{◌≡◌, ◌+◌, ◌-◌, ◌∷◌, List, ℕ, drop, length, refl, ap, subst, ◌∙◌, arith, common_steps, none-some, Shrinks}
 use Rattle.ion_binary.specs.declared.headers.HeaderPlace.{HeaderPlace}
 use Rattle.ion_binary.specs.Canonical.{header}
 use Rattle.ion_binary.specs.Counting.{ArePlaced, cut}
@@ -48,17 +45,14 @@ returns-clause-stepped g c =
     let cost : w.octets.cost ≡ v.octets.cost + length x = ap (λ (y : Content). y.cost) c.cut.ensures.octets ∙ c.head_if_room.ensures.costs t in
     let late : w.octets.late ≡ v.octets.late = ap (λ (y : Content). y.late) c.cut.ensures.octets ∙ c.head_if_room.ensures.late t in
     let grows = c.head_if_room.ensures.cost t in
-    let beside = c.requires.can_step.within.room in
-    let kept = c.cut.ensures.room in
     let least = c.requires.can_step.within.costed.least in
     let most = c.requires.can_step.within.costed.most in
-    let some = c.requires.can_step.within.costed.late in
     record {
       within = record {
         octets = omega (arith, fits);
         headers = omega (arith, few, before, now, late);
-        costed = record { least = omega (arith, least, long, put, cost); most = omega (arith, most, long, put, cost, late); late = omega (arith, some, late, long, put) };
-        room = omega (arith, few, now, late, beside, kept);
+        costed = record { least = omega (arith, least, long, put, cost); most = omega (arith, most, long, put, cost, late); late = omega (arith, c.requires.can_step.within.costed.late, late, long, put) };
+        room = omega (arith, few, now, late, c.requires.can_step.within.room, c.cut.ensures.room);
       };
       memory = record { memory = λ e. absurd (none-some _ e); counted = λ e. shrinks.refused ∙ grows.refused };
       alone = λ f e. absurd (none-some _ e);

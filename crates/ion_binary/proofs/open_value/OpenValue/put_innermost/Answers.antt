@@ -32,7 +32,6 @@ pub returns-in-Ok-clause-stepped : goal.returns-in-Ok-clause-stepped
 returns-in-Ok-clause-stepped g c =
     let v = c.args.self.now in
     let w = record c.cut.new.self { room = c.room_of-self.result } in
-    let n = c.len.ensures in
     let k2 = c.late.ensures in
     let beside = c.room_of-self.ensures in
     let h = c.in-Some.innermost in
@@ -47,7 +46,7 @@ returns-in-Ok-clause-stepped g c =
     let k : ℕ = length v.octets.all + length (header h.code (length v.octets.all - h.place)) + 16 * max v.octets.late c.most_late-most.result in
     let M : Content → Type 0 = λ x. Moved v.octets x c.pop.new.meter c.head.new.meter k None in
     popped-stepped c.args.limits v w c.args.meter.now c.pop.new.meter c.head.new.meter k None c.requires.can_step c.in-Some.ensures.cost (omega (arith, few, left))
-    (subst M (sym c.cut.ensures.octets) c.in-Ok.ensures.moved) (omega (arith, fits)) (omega (arith, few, left, before, most, late, same)) (omega (arith, few, left, before, most, room)) (omega (arith, n, k2, beside))
+    (subst M (sym c.cut.ensures.octets) c.in-Ok.ensures.moved) (omega (arith, fits)) (omega (arith, few, left, before, most, late, same)) (omega (arith, few, left, before, most, room)) (omega (arith, c.len.ensures, k2, beside))
 
 pub returns-in-Err-clause-stepped : goal.returns-in-Err-clause-stepped
 returns-in-Err-clause-stepped g c =
@@ -59,12 +58,11 @@ returns-in-Err-clause-stepped g c =
     let same : length c.head.new.self.all ≡ length v.octets.all = ap (λ (os : List ℕ). length os) c.in-Err.ensures.err in
     let room = header-fits c.args.limits v h c.pop.new.self c.requires.open c.in-Some.ensures.items in
     let most = c.most_late-most.ensures in
-    let late = c.in-Err.ensures.late in
     let n = c.len-in-Err.ensures in
     let k2 = c.late-in-Err.ensures in
     let beside = c.room_of-self-in-Err.ensures in
     popped-stepped c.args.limits v (record { octets = c.head.new.self; headers = c.pop.new.self; counts = v.counts; room = c.room_of-self-in-Err.result }) c.args.meter.now c.pop.new.meter c.head.new.meter _ (Some c.in-Err.fault) c.requires.can_step
-    c.in-Some.ensures.cost (omega (arith, few)) c.in-Err.ensures.moved (omega (arith, same, short)) (omega (arith, few, before, most, late)) (omega (arith, few, before, most, room)) (omega (arith, n, k2, beside))
+    c.in-Some.ensures.cost (omega (arith, few)) c.in-Err.ensures.moved (omega (arith, same, short)) (omega (arith, few, before, most, c.in-Err.ensures.late)) (omega (arith, few, before, most, room)) (omega (arith, n, k2, beside))
 
 pub cut-requires-clause-descend : goal.cut-requires-clause-descend
 cut-requires-clause-descend g c = c.requires.open.reached.descend

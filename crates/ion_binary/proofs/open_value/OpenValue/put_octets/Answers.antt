@@ -1,5 +1,4 @@
-use Rattle.std.proofs.Common.{rules, ◌≡◌, ◌≢◌, ◌<◌, ℕ, List, sym, ap, ◌∙◌, arith}
-use Rattle.ion_value.specs.Number.{var_uint_octets}
+use Rattle.ion_binary.proofs.Below.{rules, ◌≡◌, ◌≢◌, ◌<◌, ℕ, List, sym, ap, ◌∙◌, arith, var_uint_octets}
 use Rattle.ion_binary.specs.Opening.{both_octets, noted, noted_by}
 use Rattle.ion_binary.proofs.NotedOctets.{named-octets}
 use Rattle.ion_binary.proofs.PutInRoom.{adds-same}

@@ -1,5 +1,4 @@
-use Rattle.std.proofs.Common.{◌<◌, ◌≤◌, ℕ, List, length, get_or, sym, ◌∙◌, arith}
-use Rattle.std.proofs.lemmas.Grind.{common_steps}
+use Rattle.ion_binary.proofs.Below.{◌<◌, ◌≤◌, ℕ, List, length, get_or, sym, ◌∙◌, arith, common_steps}
 use Rattle.ion_binary.specs.declared.headers.HeaderPlace.{HeaderPlace}
 use Rattle.ion_binary.specs.Counting.{content_around, most_at}
 use Rattle.ion_binary.specs.Places.{thresholds}

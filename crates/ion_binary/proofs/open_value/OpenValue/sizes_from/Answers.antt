@@ -1,5 +1,4 @@
-use Rattle.std.proofs.Common.{arith}
-use Rattle.std.proofs.lemmas.Grind.{common_steps}
+use Rattle.ion_binary.proofs.Below.{arith, common_steps}
 use Rattle.ion_binary.proofs.open_value.OpenValue.sizes_from.Goals as goal
 
 pub returns-clause-sizes : goal.returns-clause-sizes

@@ -1,5 +1,4 @@
-use Rattle.std.proofs.Common.{sym, arith}
-use Rattle.std.proofs.lemmas.Grind.{common_steps}
+use Rattle.ion_binary.proofs.Below.{sym, arith, common_steps}
 use Rattle.ion_binary.specs.Wrappers.{as_frames}
 use Rattle.ion_binary.proofs.Handing.{ends_around}
 use Rattle.ion_binary.proofs.ReaderParts.{as_frames-length}

@@ -1,15 +1,6 @@
-use Rattle.std.proofs.Common.{◌≡◌, ◌+◌, ◌<◌, None, [], ◌∷◌, ◌++◌, length, refl, ap, sym, subst, ◌∙◌, arith}
-use Rattle.std.proofs.lemmas.Grind.{common_steps}
-use Rattle.std.proofs.lemmas.List.{length_push}
-use Rattle.std.proofs.lemmas.Bool.{true≢false}
-use Rattle.ion_meter.proofs.Lent.{IsPassed-total, lent-CanPass}
-use Rattle.ion_value.proofs.Passing.{IsPassed-moves}
+use Rattle.ion_binary.proofs.Below.{◌≡◌, ◌+◌, ◌<◌, None, [], ◌∷◌, ◌++◌, length, refl, ap, sym, subst, ◌∙◌, arith, common_steps, length_push, true≢false, IsPassed-total, lent-CanPass, IsPassed-moves, PlainItem, named_item, More, Fits}
 use Rattle.ion_value.specs.declared.item.Head.TheVariants as code
-use Rattle.ion_value.specs.declared.plain_item.PlainItem.{PlainItem}
-use Rattle.ion_value.specs.Items.{named_item}
 use Rattle.ion_value.specs.PlainItems as PlainItems
-use Rattle.ion_value.specs.Reading.{More}
-use Rattle.ion_value.specs.Standing.{Fits}
 use Rattle.ion_value.specs.Value as value
 use Rattle.ion_binary.specs.declared.wrapper.Frame.{Frame}
 use Rattle.ion_binary.specs.Lane.{frame_in}

@@ -1,9 +1,4 @@
-use Rattle.std.proofs.Common.{◌≡◌, ◌<◌, [], None, List, length, refl, ap, sym, subst, ◌∙◌, arith}
-use Rattle.std.proofs.lemmas.Grind.{common_steps}
-use Rattle.std.proofs.lemmas.Bool.{true≢false}
-use Rattle.ion_meter.specs.Sources.{cursor}
-use Rattle.ion_value.specs.Reading.{Gives, More}
-use Rattle.ion_value.specs.Items.{named_item}
+use Rattle.ion_binary.proofs.Below.{◌≡◌, ◌<◌, [], None, List, length, refl, ap, sym, subst, ◌∙◌, arith, common_steps, true≢false, cursor, Gives, More, named_item}
 use Rattle.ion_value.specs.Value as value
 use Rattle.ion_binary.specs.Lane.{frame_in}
 use Rattle.ion_binary.specs.Positions.{Frame}

@@ -1,5 +1,4 @@
-use Rattle.std.proofs.Common.{ap, sym, ◌∙◌, arith}
-use Rattle.std.proofs.lemmas.Grind.{common_steps}
+use Rattle.ion_binary.proofs.Below.{ap, sym, ◌∙◌, arith, common_steps}
 use Rattle.ion_binary.specs.Shapes.{as_shape}
 use Rattle.ion_binary.proofs.HandingKeeps.{hands-none}
 use Rattle.ion_binary.proofs.reader.BinReader.hand_head.Goals as goal

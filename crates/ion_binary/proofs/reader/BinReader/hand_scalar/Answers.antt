@@ -1,12 +1,5 @@
-use Rattle.std.proofs.Common.{◌≡◌, ◌+◌, length, refl, ap, sym, subst, ◌∙◌, arith}
-use Rattle.std.proofs.lemmas.Bool.{true≢false}
-use Rattle.ion_meter.proofs.Lent.{IsPassed-total, lent-CanPass}
-use Rattle.ion_value.proofs.Passing.{IsPassed-moves}
-use Rattle.ion_value.specs.declared.plain_item.PlainItem.{PlainItem}
-use Rattle.ion_value.specs.Items.{named_item}
+use Rattle.ion_binary.proofs.Below.{◌≡◌, ◌+◌, length, refl, ap, sym, subst, ◌∙◌, arith, true≢false, IsPassed-total, lent-CanPass, IsPassed-moves, PlainItem, named_item, More, Fits}
 use Rattle.ion_value.specs.PlainItems as PlainItems
-use Rattle.ion_value.specs.Reading.{More}
-use Rattle.ion_value.specs.Standing.{Fits}
 use Rattle.ion_value.specs.Value as value
 use Rattle.ion_binary.specs.Bodies.{as_scalar}
 use Rattle.ion_binary.specs.Positions.{placed_scalar}

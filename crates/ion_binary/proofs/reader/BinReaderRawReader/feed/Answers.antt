@@ -1,9 +1,4 @@
-use Rattle.std.proofs.Common.{ap, sym, subst, ◌∙◌, arith}
-use Rattle.std.proofs.lemmas.Grind.{common_steps}
-use Rattle.ion_meter.specs.declared.profile.Rules.{Rules}
-use Rattle.ion_meter.proofs.ReadOn.{read_on-same}
-use Rattle.ion_value.specs.Items.{named_item}
-use Rattle.ion_value.proofs.Handing.{finished-feeds}
+use Rattle.ion_binary.proofs.Below.{ap, sym, subst, ◌∙◌, arith, common_steps, Rules, read_on-same, named_item, finished-feeds}
 use Rattle.ion_binary.specs.Lane.{joint}
 use Rattle.ion_binary.specs.Reader.{most_of}
 use Rattle.ion_binary.proofs.Feeding.{exceeds-same, hands-again, hands-begin, hands_on-none, hands_on-then, nothing-left}

@@ -1,7 +1,5 @@
-use Rattle.std.specs.Prelude.{length}
-use Rattle.ion_value.specs.Items.{named_item}
+use Rattle.ion_binary.proofs.Below.{length, named_item, left}
 use Rattle.ion_binary.specs.Lane.{HandsOn}
-use Rattle.ion_meter.specs.Windows.{left}
 use Rattle.ion_binary.proofs.reader.BinReaderRawReader.feed.Given as goal
 
 abbrev pub invariant-runs : goal.invariant-runs

@@ -1,7 +1,4 @@
-use Rattle.std.proofs.Common.{arith, ap, Ok}
-use Rattle.std.proofs.lemmas.Bool.{not-true}
-use Rattle.std.proofs.lemmas.Grind.{common_steps}
-use Rattle.ion_meter.proofs.ReadOn.{read_on-not, reads_on-is}
+use Rattle.ion_binary.proofs.Below.{arith, ap, Ok, not-true, common_steps, read_on-not, reads_on-is}
 use Rattle.ion_binary.proofs.reader.BinReaderRawReader.next.Goals as goal
 
 pub returns-in-Ok-clause-read_on : goal.returns-in-Ok-clause-read_on

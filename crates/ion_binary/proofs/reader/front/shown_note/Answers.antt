@@ -1,5 +1,4 @@
-use Rattle.std.proofs.Common.{◌≡◌, ◌+◌, ◌∙◌, Ok, get_or, ap, sym, arith}
-use Rattle.std.proofs.lemmas.Grind.{common_steps}
+use Rattle.ion_binary.proofs.Below.{◌≡◌, ◌+◌, ◌∙◌, Ok, get_or, ap, sym, arith, common_steps}
 use Rattle.ion_binary.specs.declared.reader.front.ShownNote.{ShownNote}
 use Rattle.ion_binary.specs.Descriptor.{wrapper}
 use Rattle.ion_binary.specs.Shapes.{as_shape}

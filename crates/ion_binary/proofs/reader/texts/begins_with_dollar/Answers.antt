@@ -1,5 +1,4 @@
-use Rattle.std.proofs.Common.{sym, subst}
-use Rattle.ion_value.specs.Name.{coded, IsQuotedAs}
+use Rattle.ion_binary.proofs.Below.{sym, subst, coded, IsQuotedAs}
 use Rattle.ion_binary.proofs.Handing.{simple-no_dollar}
 use Rattle.ion_binary.proofs.reader.texts.begins_with_dollar.Goals as goal
 

@@ -1,10 +1,4 @@
-use Rattle.std.proofs.Common.{◌≡◌, Ok, Option, Some, Result, ◌<◌, ℕ, List, Bool, true, false, not, None, refl, ap, sym, subst, ◌∙◌, arith}
-use Rattle.std.proofs.lemmas.Grind.{common_steps}
-use Rattle.ion_meter.specs.declared.fault.Fault.{Fault}
-use Rattle.ion_meter.specs.declared.fault.Reason.{Reason}
-use Rattle.ion_meter.specs.declared.fault.Reason.TheVariants.{ValueLimit}
-use Rattle.ion_value.specs.Items.{item_of, raw_head}
-use Rattle.ion_value.specs.Value.{Head, PlacedItem, SymbolAt, map_head, user_item, user_symbol_at}
+use Rattle.ion_binary.proofs.Below.{◌≡◌, Ok, Option, Some, Result, ◌<◌, ℕ, List, Bool, true, false, not, None, refl, ap, sym, subst, ◌∙◌, arith, common_steps, Fault, Reason, ValueLimit, item_of, raw_head, Head, PlacedItem, SymbolAt, map_head, user_item, user_symbol_at}
 use Rattle.ion_binary.specs.declared.headers.HeaderPlace.{HeaderPlace}
 use Rattle.ion_binary.specs.Canonical.{id_in}
 use Rattle.ion_binary.specs.Held.{Held, moved_headers, moved_octets, size_of, with_names}
@@ -67,6 +61,23 @@ returns-in-Ok-true-clause-passes g c =
     ap (λ (os : List ℕ). size_of os c.take.new.self.headers) octets ∙ ap (size_of (added (held_in w) item).octets) headers in
     not-refused w.limits (held_in w) item none (omega (arith, s, size))
 
+pub returns-in-Ok-true-clause-no_device : goal.returns-in-Ok-true-clause-no_device
+returns-in-Ok-true-clause-no_device g c = grind (arith, common_steps) steps 400000
+
+pub returns-in-Ok-true-clause-open : goal.returns-in-Ok-true-clause-open
+returns-in-Ok-true-clause-open g c = grind (arith, common_steps) steps 400000
+
+pub returns-in-Ok-true-clause-refuses : goal.returns-in-Ok-true-clause-refuses
+returns-in-Ok-true-clause-refuses g c = grind (arith, common_steps) steps 400000
+
+pub returns-in-Ok-true-clause-taken : goal.returns-in-Ok-true-clause-taken
+returns-in-Ok-true-clause-taken g c =
+    let n = c.in-Ok.ensures.numbers in
+    let w = c.args.self.now in
+    taken-stepped w (fronted w c.put_front.new.symbols c.put_front.new.buffer) c.take.new.self c.args.meter.now c.put_front.new.meter c.take.new.meter None c.requires.can_take
+    (front-taken w c.put_front.new.symbols c.put_front.new.buffer c.args.meter.now c.put_front.new.meter None c.requires.can_take c.put_front.ensures.adds n.charges n.memory n.limit n.share n.within)
+    c.in-Ok-true.ensures.stepped
+
 pub returns-in-Ok-false-clause-refuses : goal.returns-in-Ok-false-clause-refuses
 returns-in-Ok-false-clause-refuses g c r p is =
     let w = c.args.self.now in
@@ -94,9 +105,6 @@ returns-in-Ok-false-clause-refuses g c r p is =
 pub returns-in-Err-clause-no_device : goal.returns-in-Err-clause-no_device
 returns-in-Err-clause-no_device g c = grind (arith, common_steps) steps 400000
 
-pub returns-in-Ok-true-clause-no_device : goal.returns-in-Ok-true-clause-no_device
-returns-in-Ok-true-clause-no_device g c = grind (arith, common_steps) steps 400000
-
 pub returns-then-not-front-clause-no_device : goal.returns-then-not-front-clause-no_device
 returns-then-not-front-clause-no_device g c = grind (arith, common_steps) steps 400000
 
@@ -105,12 +113,6 @@ returns-in-Err-take-clause-no_device g c = grind (arith, common_steps) steps 400
 
 pub returns-in-Ok-false-clause-no_device : goal.returns-in-Ok-false-clause-no_device
 returns-in-Ok-false-clause-no_device g c = grind (arith, common_steps) steps 400000
-
-pub returns-in-Ok-true-clause-open : goal.returns-in-Ok-true-clause-open
-returns-in-Ok-true-clause-open g c = grind (arith, common_steps) steps 400000
-
-pub returns-in-Ok-true-clause-refuses : goal.returns-in-Ok-true-clause-refuses
-returns-in-Ok-true-clause-refuses g c = grind (arith, common_steps) steps 400000
 
 pub put_front-requires-clause-can_number : goal.put_front-requires-clause-can_number
 put_front-requires-clause-can_number g c = grind (arith, common_steps) steps 400000
@@ -131,14 +133,6 @@ take-requires-clause-can_step g c =
     let n = c.in-Ok.ensures.numbers in
     front-can-step c.args.self.now c.put_front.new.symbols c.put_front.new.buffer c.args.meter.now c.put_front.new.meter c.requires.can_take
     (front-taken c.args.self.now c.put_front.new.symbols c.put_front.new.buffer c.args.meter.now c.put_front.new.meter None c.requires.can_take c.put_front.ensures.adds n.charges n.memory n.limit n.share n.within)
-
-pub returns-in-Ok-true-clause-taken : goal.returns-in-Ok-true-clause-taken
-returns-in-Ok-true-clause-taken g c =
-    let n = c.in-Ok.ensures.numbers in
-    let w = c.args.self.now in
-    taken-stepped w (fronted w c.put_front.new.symbols c.put_front.new.buffer) c.take.new.self c.args.meter.now c.put_front.new.meter c.take.new.meter None c.requires.can_take
-    (front-taken w c.put_front.new.symbols c.put_front.new.buffer c.args.meter.now c.put_front.new.meter None c.requires.can_take c.put_front.ensures.adds n.charges n.memory n.limit n.share n.within)
-    c.in-Ok-true.ensures.stepped
 
 pub returns-in-Ok-false-clause-taken : goal.returns-in-Ok-false-clause-taken
 returns-in-Ok-false-clause-taken g c =

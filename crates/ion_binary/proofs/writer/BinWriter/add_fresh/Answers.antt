@@ -1,5 +1,4 @@
-use Rattle.std.proofs.Common.{refl, arith}
-use Rattle.std.proofs.lemmas.Grind.{common_steps}
+use Rattle.ion_binary.proofs.Below.{refl, arith, common_steps}
 use Rattle.ion_binary.proofs.writer.BinWriter.add_fresh.Goals as goal
 
 pub returns-in-None : goal.returns-in-None
@@ -19,7 +18,7 @@ put_fresh-requires g c = record {
     inside = omega (arith, c.if-len-eq0.false, c.len.ensures);
     whole = c.if-not-is_scalar.ensures refl;
     text = c.in-Some-fresh_of.ensures;
-    known = c.in-Some.ensures.known;
-    annotation = c.in-Some.ensures.octets;
+    known = c.in-Some.ensures.note_known;
+    annotation = c.in-Some.ensures.note;
   };
 }

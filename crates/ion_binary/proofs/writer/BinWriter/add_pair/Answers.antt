@@ -1,5 +1,4 @@
-use Rattle.std.proofs.Common.{List, ℕ, ◌∙◌, ap, map, arith}
-use Rattle.ion_value.specs.Value.{PlacedItem, user_symbol_at}
+use Rattle.ion_binary.proofs.Below.{List, ℕ, ◌∙◌, ap, map, arith, PlacedItem, user_symbol_at}
 use Rattle.ion_binary.specs.Canonical.{id_in}
 use Rattle.ion_binary.specs.Held.{counted_ids}
 use Rattle.ion_binary.specs.Opening.{both_octets}
@@ -18,6 +17,6 @@ returns g c =
     let pair = c.in-Some-pair_ids.ensures in
     let head = c.in-Some-name_of.ensures in
     member-noted w c.put_after.new.self c.args.meter.now c.put_after.new.meter item c.put_after.result c.in-Some.name notes (both_octets c.octets-scalar.result) c.requires.can_take
-    (omega (arith, c.if-len-eq0.false, c.len.ensures)) c.requires.whole field.known (pair.known c.args.place) head.known field.octets
+    (omega (arith, c.if-len-eq0.false, c.len.ensures)) c.requires.whole field.field_known (pair.known c.args.place) head.known field.field
     (ap counted_ids (c.as_slice.ensures.value ∙ pair.octets c.args.place) ∙ counted-are (id_in texts) (map user_symbol_at item.annotations))
     (c.octets-scalar.ensures ∙ c.spell-spelled.ensures (id_in texts) head.name) c.put_after.ensures

@@ -1,5 +1,4 @@
-use Rattle.std.proofs.Common.{Option, subst, sym}
-use Rattle.ion_value.specs.declared.plain_item.TextAt.{TextAt}
+use Rattle.ion_binary.proofs.Below.{Option, subst, sym, TextAt}
 use Rattle.ion_binary.specs.Plain.{TakesPlain, as_item, as_pair, with_note}
 use Rattle.ion_binary.proofs.PlainAdded.{adds-taken}
 use Rattle.ion_binary.proofs.writer.BinWriter.add_plain.Goals as goal

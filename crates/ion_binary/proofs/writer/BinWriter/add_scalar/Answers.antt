@@ -1,5 +1,4 @@
-use Rattle.std.proofs.Common.{◌++◌, List, ℕ, refl, take}
-use Rattle.ion_value.specs.Value.{PlacedItem}
+use Rattle.ion_binary.proofs.Below.{◌++◌, List, ℕ, refl, take, PlacedItem}
 use Rattle.ion_binary.specs.Canonical.{id_in}
 use Rattle.ion_binary.specs.ItemOctets.{head_octets, user_head}
 use Rattle.ion_binary.specs.Plain.{as_item}

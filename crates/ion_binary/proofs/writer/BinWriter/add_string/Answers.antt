@@ -1,5 +1,4 @@
-use Rattle.std.proofs.Common.{◌≡◌, ℕ, List, refl, subst, sym}
-use Rattle.ion_value.specs.Value.{Head, PlacedItem, SymbolAt, map_head, user_symbol_at}
+use Rattle.ion_binary.proofs.Below.{◌≡◌, ℕ, List, refl, subst, sym, Head, PlacedItem, SymbolAt, map_head, user_symbol_at}
 use Rattle.ion_binary.specs.Canonical.{headed, id_in}
 use Rattle.ion_binary.specs.ItemOctets.{head_octets}
 use Rattle.ion_binary.specs.Plain.{HaveIds, IsWhole, as_item}

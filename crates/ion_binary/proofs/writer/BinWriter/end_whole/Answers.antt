@@ -1,5 +1,4 @@
-use Rattle.std.proofs.Common.{◌≡◌, List, ℕ, length, ap, ◌∙◌, arith}
-use Rattle.std.proofs.lemmas.Grind.{common_steps}
+use Rattle.ion_binary.proofs.Below.{◌≡◌, List, ℕ, length, ap, ◌∙◌, arith, common_steps}
 use Rattle.ion_binary.specs.Canonical.{header}
 use Rattle.ion_binary.specs.Late.{Content}
 use Rattle.ion_binary.specs.Plain.{as_item}

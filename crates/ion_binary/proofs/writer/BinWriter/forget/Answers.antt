@@ -1,6 +1,4 @@
-use Rattle.std.proofs.Common.{◌≡◌, [], ◌≢◌, length, inl, inr, true, refl, ap, sym, ◌∙◌, arith}
-use Rattle.std.proofs.lemmas.Grind.{common_steps}
-use Rattle.ion_symbols.specs.Output.{Output}
+use Rattle.ion_binary.proofs.Below.{◌≡◌, [], ◌≢◌, length, inl, inr, true, refl, ap, sym, ◌∙◌, arith, common_steps, Output}
 use Rattle.ion_binary.specs.Writer.{held_in}
 use Rattle.ion_binary.proofs.WriterSteps.{forgotten, kept, same-held}
 use Rattle.ion_binary.proofs.writer.BinWriter.forget.Goals as goal
@@ -10,10 +8,8 @@ pub returns-then-cost-self-clause-held : goal.returns-then-cost-self-clause-held
 returns-then-cost-self-clause-held g c =
     let w = c.args.self.now in
     let none : length w.open_value.headers ≡ 0 = let n = c.len-begins.ensures in let t = c.if-begins.true in omega (arith, n, t) in
-    let e = c.cost.ensures in
-    let t = c.if-cost-self.true in
     same-held w.open_value.octets.all w.open_value.octets.all w.open_value.headers w.open_value.headers c.clear.new.self.texts [] 0 0 true true refl refl (ap (λ (o : Output). o.texts) c.clear.ensures.cleared) refl refl
-    ∙ sym (forgotten w.limits.symbols (held_in w) w.open_value.headers none (omega (arith, e, t)))
+    ∙ sym (forgotten w.limits.symbols (held_in w) w.open_value.headers none (omega (arith, c.cost.ensures, c.if-cost-self.true)))
 
 pub returns-else-begins-clause-held : goal.returns-else-begins-clause-held
 returns-else-begins-clause-held g c =
@@ -21,9 +17,8 @@ returns-else-begins-clause-held g c =
     elim c.else-begins.branch [
       | else-begins-via-then-begins+else-cost-self b ↦ let e = b.cost.ensures in let f = b.if-cost-self.false in sym (kept w.limits.symbols (held_in w) w.open_value.headers (inr (omega (arith, e, f))))
       | else-begins-via-else-begins b ↦
-          let n = c.len-begins.ensures in
           let f : c.len-begins.result ≢ 0 = b.if-begins.false in
-          sym (kept w.limits.symbols (held_in w) w.open_value.headers (inl (omega (arith, n, f))))
+          sym (kept w.limits.symbols (held_in w) w.open_value.headers (inl (omega (arith, c.len-begins.ensures, f))))
     ]
 
 pub returns-then-cost-self-clause-can_take : goal.returns-then-cost-self-clause-can_take

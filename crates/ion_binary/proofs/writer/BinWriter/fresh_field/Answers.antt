@@ -1,5 +1,4 @@
-use Rattle.std.proofs.Common.{List, ℕ, option_map, ap}
-use Rattle.ion_value.specs.PlainItems.{placed_text}
+use Rattle.ion_binary.proofs.Below.{List, ℕ, option_map, ap, placed_text}
 use Rattle.ion_binary.specs.declared.writer.fresh.Fresh.{Fresh}
 use Rattle.ion_binary.specs.Plain.{as_item}
 use Rattle.ion_binary.proofs.FreshAdded.{fresh-field}

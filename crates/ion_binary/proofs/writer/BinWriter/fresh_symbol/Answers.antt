@@ -1,8 +1,5 @@
-use Rattle.std.proofs.Common.{List, ℕ, ap, ◌∙◌}
-use Rattle.ion_value.specs.declared.item.Sym.{Sym}
-use Rattle.ion_value.specs.Items.{raw_head, symbol_of}
+use Rattle.ion_binary.proofs.Below.{List, ℕ, ap, ◌∙◌, Sym, raw_head, symbol_of, Head, SymbolAt}
 use Rattle.ion_value.specs.Value as value
-use Rattle.ion_value.specs.Value.{Head, SymbolAt}
 use Rattle.ion_binary.specs.declared.writer.fresh.Fresh.{Fresh}
 use Rattle.ion_binary.specs.Plain.{as_item}
 use Rattle.ion_binary.proofs.FreshAdded.{fresh-symbol}

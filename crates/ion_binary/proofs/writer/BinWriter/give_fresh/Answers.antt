@@ -1,7 +1,4 @@
-use Rattle.std.proofs.Common.{◌≡◌, ◌+◌, ◌++◌, List, ℕ, length, subst, sym, arith, length-append}
-use Rattle.std.proofs.lemmas.Grind.{common_steps}
-use Rattle.ion_meter.specs.Counts.{Grows}
-use Rattle.ion_value.specs.Value.{PlacedItem}
+use Rattle.ion_binary.proofs.Below.{◌≡◌, ◌+◌, ◌++◌, List, ℕ, length, subst, sym, arith, length-append, common_steps, Grows, PlacedItem}
 use Rattle.ion_binary.specs.Plain.{as_item}
 use Rattle.ion_binary.proofs.FreshAdded.{fresh-plain}
 use Rattle.ion_binary.proofs.writer.BinWriter.give_fresh.Goals as goal

@@ -1,6 +1,4 @@
-use Rattle.std.proofs.Common.{rules, arith, sym, ◌∙◌}
-use Rattle.std.proofs.lemmas.Grind.{common_steps}
-use Rattle.std.proofs.lemmas.List.{nil_from_length}
+use Rattle.ion_binary.proofs.Below.{rules, arith, sym, ◌∙◌, common_steps, nil_from_length}
 use Rattle.ion_binary.proofs.writer.BinWriter.is_settled.Goals as goal
 
 pub returns : goal.returns

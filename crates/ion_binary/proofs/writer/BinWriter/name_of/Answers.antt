@@ -1,7 +1,5 @@
-use Rattle.std.proofs.Common.{List, ℕ, subst, sym, ◌≡◌}
-use Rattle.std.specs.Prelude.{IfSome}
+use Rattle.ion_binary.proofs.Below.{List, ℕ, subst, sym, ◌≡◌, IfSome, raw_head, symbol_at}
 use Rattle.ion_value.specs.declared.item.Head.{Head}
-use Rattle.ion_value.specs.Items.{raw_head, symbol_at}
 use Rattle.ion_binary.specs.Canonical.{id_in}
 use Rattle.ion_binary.specs.ItemOctets.{head_name, user_head}
 use Rattle.ion_binary.specs.Plain.{HaveIds}

@@ -1,5 +1,4 @@
-use Rattle.std.proofs.Common.{rules, ◌≡◌, List, ℕ, ap, ◌∙◌}
-use Rattle.ion_value.specs.Number.{var_uint_octets}
+use Rattle.ion_binary.proofs.Below.{rules, ◌≡◌, List, ℕ, ap, ◌∙◌, var_uint_octets}
 use Rattle.ion_binary.proofs.PlainAdded.{pair-known, pair-octets}
 use Rattle.ion_binary.proofs.writer.BinWriter.pair_ids.Goals as goal
 

@@ -1,5 +1,4 @@
-use Rattle.std.proofs.Common.{◌∷◌, ◌++◌, [], List, ℕ, ap, ◌∙◌, arith}
-use Rattle.std.proofs.lemmas.Grind.{common_steps}
+use Rattle.ion_binary.proofs.Below.{◌∷◌, ◌++◌, [], List, ℕ, ap, ◌∙◌, arith, common_steps}
 use Rattle.ion_binary.specs.Canonical.{id_in}
 use Rattle.ion_binary.specs.Opening.{both_octets, noted, noted_by}
 use Rattle.ion_binary.proofs.writer.BinWriter.put_spelled.Goals as goal

@@ -1,7 +1,4 @@
-use Rattle.std.proofs.Common.{◌≡◌, List, ℕ, None, drop, subst, arith}
-use Rattle.std.proofs.lemmas.Grind.{common_steps}
-use Rattle.ion_meter.proofs.Putting.{put_cut, put_then}
-use Rattle.ion_meter.specs.Sinks.{IsPut}
+use Rattle.ion_binary.proofs.Below.{◌≡◌, List, ℕ, None, drop, subst, arith, common_steps, put_cut, put_then, IsPut}
 use Rattle.ion_binary.specs.Canonical.{declaration}
 use Rattle.ion_binary.proofs.WriterSteps.{none-not-some, on-ok-const, puts-octets, since-cost, since-declared}
 use Rattle.ion_binary.proofs.writer.BinWriter.put_value.Goals as goal
@@ -13,9 +10,7 @@ returns-in-Err-clause-puts g c =
 pub put_declaration-requires-clause-cost : goal.put_declaration-requires-clause-cost
 put_declaration-requires-clause-cost g c =
     let s = since-cost c.args.self.now.symbols.texts c.new_since-texts.result _ c.new_since-texts.ensures in
-    let share = c.requires.sound.share in
-    let symbols = c.requires.sound.checked.symbols in
-    omega (arith, s, share, symbols)
+    omega (arith, s, c.requires.sound.share, c.requires.sound.checked.symbols)
 
 pub returns-in-Err-put_declaration-clause-puts : goal.returns-in-Err-put_declaration-clause-puts
 returns-in-Err-put_declaration-clause-puts g c =

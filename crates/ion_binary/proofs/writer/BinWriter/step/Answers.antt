@@ -1,11 +1,4 @@
-use Rattle.std.proofs.Common.{rules, ◌≡◌, ℕ, List, None, Some, Err, Result, subst, ◌∙◌, arith}
-use Rattle.std.proofs.lemmas.Grind.{common_steps}
-use Rattle.ion_meter.specs.declared.fault.Fault.{Fault}
-use Rattle.ion_meter.specs.declared.fault.Fault.TheVariants.{Refused}
-use Rattle.ion_meter.specs.declared.fault.Reason.{Reason}
-use Rattle.ion_meter.specs.declared.limits.Limits.{Limits}
-use Rattle.ion_value.specs.Items.{item_of}
-use Rattle.ion_value.specs.Value.{PlacedItem, user_item}
+use Rattle.ion_binary.proofs.Below.{rules, ◌≡◌, ℕ, List, None, Some, Err, Result, subst, ◌∙◌, arith, common_steps, Fault, Refused, Reason, Limits, item_of, PlacedItem, user_item}
 use Rattle.ion_binary.specs.Held.{held_forgotten, held_of}
 use Rattle.ion_binary.specs.Writer.{PutsOctets, held_in, item_refusal}
 use Rattle.ion_binary.proofs.WriterFollows.{adds-are, follows-err, follows-out, forgotten-is, may-add-after}

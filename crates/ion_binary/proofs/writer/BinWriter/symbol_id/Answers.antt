@@ -1,8 +1,4 @@
-use Rattle.std.proofs.Common.{◌≡◌, List, ℕ, refl, subst, sym}
-use Rattle.std.specs.Prelude.{IfSome}
-use Rattle.ion_value.specs.declared.item.Sym.{Sym}
-use Rattle.ion_value.specs.Items.{symbol_of}
-use Rattle.ion_value.specs.Value.{user_symbol}
+use Rattle.ion_binary.proofs.Below.{◌≡◌, List, ℕ, refl, subst, sym, IfSome, Sym, symbol_of, user_symbol}
 use Rattle.ion_binary.specs.Canonical.{id_in, with_symbol}
 use Rattle.ion_binary.proofs.PlainAdded.{name-is, name-kept}
 use Rattle.ion_binary.proofs.writer.BinWriter.symbol_id.Goals as goal

@@ -1,9 +1,5 @@
-use Rattle.std.proofs.Common.{◌≡◌, true, arith, ◌∙◌, Bool, ap, sym, subst}
-use Rattle.std.proofs.lemmas.Grind.{common_steps}
-use Rattle.ion_value.specs.Items.{raw_head}
-use Rattle.ion_value.specs.PlainItems.{placed_item}
+use Rattle.ion_binary.proofs.Below.{◌≡◌, true, arith, ◌∙◌, Bool, ap, sym, subst, common_steps, raw_head, placed_item, PlacedItem}
 use Rattle.ion_value.specs.Value as value
-use Rattle.ion_value.specs.Value.{PlacedItem}
 use Rattle.ion_binary.specs.Opening.{MayCome}
 use Rattle.ion_binary.specs.Plain.{TakesPlain, as_item, as_pair}
 use Rattle.ion_binary.specs.Writer.{ComesAt}
@@ -31,91 +27,61 @@ add_plain-requires-clause-comes g c =
     subst (λ (i : PlacedItem). MayCome w.limits w.open_value i) placed
     (plain-comes w (written_after w.limits at.0) item (at.1.holds, may-come w.limits at.0 item at.2))
 
-pub returns-clause-stands : goal.returns-clause-stands
-returns-clause-stands g c is path stands next =
+pub returns : goal.returns
+returns g c =
     let w = c.args.self.now in
     let item : PlacedItem = placed_item c.args.item in
     let placed : item ≡ as_pair c.single_of-single.result c.args.item.second = ap (λ (i : SingleItem). as_pair i c.args.item.second) (sym c.single_of-single.ensures) in
     let P : PlacedItem → Bool → Type 0 = λ i b. TakesPlain w c.add_plain.new.self c.args.meter.now c.add_plain.new.meter c.args.sink.now c.add_plain.new.sink i b in
-    let p = subst (λ (i : PlacedItem). P i true) (sym placed) (subst (P (as_pair c.single_of-single.result c.args.item.second)) is c.add_plain.ensures) in
-    let f = taken-follows w c.add_plain.new.self c.args.meter.now c.add_plain.new.meter c.args.sink.now c.add_plain.new.sink (written_after w.limits path) item p (stands.holds, may-come w.limits path item next) in
-    (stands-after w.limits c.add_plain.new.self path item p.taken.limits (p.taken.failed ∙ stands.well) f.holds, f.passes)
+    record {
+      sound = grind (arith, common_steps) steps 400000;
+      stands = λ is path stands next.
+          let p = subst (λ (i : PlacedItem). P i true) (sym placed) (subst (P (as_pair c.single_of-single.result c.args.item.second)) is c.add_plain.ensures) in
+          let f = taken-follows w c.add_plain.new.self c.args.meter.now c.add_plain.new.meter c.args.sink.now c.add_plain.new.sink (written_after w.limits path) item p (stands.holds, may-come w.limits path item next) in
+          (stands-after w.limits c.add_plain.new.self path item p.taken.limits (p.taken.failed ∙ stands.well) f.holds, f.passes);
+      puts = λ is path stands next.
+          let p = subst (λ (i : PlacedItem). P i true) (sym placed) (subst (P (as_pair c.single_of-single.result c.args.item.second)) is c.add_plain.ensures) in
+          taken-puts w c.add_plain.new.self c.args.meter.now c.add_plain.new.meter c.args.sink.now c.add_plain.new.sink (written_after w.limits path) item p (stands.holds, may-come w.limits path item next);
+      declines = grind (arith, common_steps) steps 400000;
+      same = grind (arith, common_steps) steps 400000;
+      device = grind (arith, common_steps) steps 400000;
+      counted = grind (arith, common_steps) steps 400000;
+      charges = grind (arith, common_steps) steps 400000;
+    }
 
-pub returns-clause-puts : goal.returns-clause-puts
-returns-clause-puts g c is path stands next =
+pub returns-then-len-eq1 : goal.returns-then-len-eq1
+returns-then-len-eq1 g c =
     let w = c.args.self.now in
     let item : PlacedItem = placed_item c.args.item in
-    let placed : item ≡ as_pair c.single_of-single.result c.args.item.second = ap (λ (i : SingleItem). as_pair i c.args.item.second) (sym c.single_of-single.ensures) in
-    let P : PlacedItem → Bool → Type 0 = λ i b. TakesPlain w c.add_plain.new.self c.args.meter.now c.add_plain.new.meter c.args.sink.now c.add_plain.new.sink i b in
-    let p = subst (λ (i : PlacedItem). P i true) (sym placed) (subst (P (as_pair c.single_of-single.result c.args.item.second)) is c.add_plain.ensures) in
-    taken-puts w c.add_plain.new.self c.args.meter.now c.add_plain.new.meter c.args.sink.now c.add_plain.new.sink (written_after w.limits path) item p (stands.holds, may-come w.limits path item next)
-
-pub returns-then-len-eq1-clause-stands : goal.returns-then-len-eq1-clause-stands
-returns-then-len-eq1-clause-stands g c is path stands next =
-    let w = c.args.self.now in
-    let item : PlacedItem = placed_item c.args.item in
-    let comes : ComesAt w (written_after w.limits path) item = (stands.holds, may-come w.limits path item next) in
     let head : raw_head c.args.item.head ≡ value.end = ap raw_head (sym (ap (λ (i : SingleItem). i.head) c.single_of-single.ensures) ∙ c.in-End.is) in
-    let single : item ≡ as_item c.single_of-single.result =
-    ended-single w c.args.item (plain-comes w (written_after w.limits path) item comes) head ∙ ap as_item (sym c.single_of-single.ensures) in
     let P : PlacedItem → Bool → Type 0 = λ i b. TakesPlain w c.end_whole.new.self c.args.meter.now c.end_whole.new.meter c.args.sink.now c.end_whole.new.sink i b in
-    let p = subst (λ (i : PlacedItem). P i true) (sym single) (subst (P (as_item c.single_of-single.result)) is c.end_whole.ensures) in
-    let f = taken-follows w c.end_whole.new.self c.args.meter.now c.end_whole.new.meter c.args.sink.now c.end_whole.new.sink (written_after w.limits path) item p comes in
-    (stands-after w.limits c.end_whole.new.self path item p.taken.limits (p.taken.failed ∙ stands.well) f.holds, f.passes)
-
-pub returns-then-len-eq1-clause-puts : goal.returns-then-len-eq1-clause-puts
-returns-then-len-eq1-clause-puts g c is path stands next =
-    let w = c.args.self.now in
-    let item : PlacedItem = placed_item c.args.item in
-    let comes : ComesAt w (written_after w.limits path) item = (stands.holds, may-come w.limits path item next) in
-    let head : raw_head c.args.item.head ≡ value.end = ap raw_head (sym (ap (λ (i : SingleItem). i.head) c.single_of-single.ensures) ∙ c.in-End.is) in
-    let single : item ≡ as_item c.single_of-single.result =
-    ended-single w c.args.item (plain-comes w (written_after w.limits path) item comes) head ∙ ap as_item (sym c.single_of-single.ensures) in
-    let P : PlacedItem → Bool → Type 0 = λ i b. TakesPlain w c.end_whole.new.self c.args.meter.now c.end_whole.new.meter c.args.sink.now c.end_whole.new.sink i b in
-    let p = subst (λ (i : PlacedItem). P i true) (sym single) (subst (P (as_item c.single_of-single.result)) is c.end_whole.ensures) in
-    taken-puts w c.end_whole.new.self c.args.meter.now c.end_whole.new.meter c.args.sink.now c.end_whole.new.sink (written_after w.limits path) item p comes
-
-pub returns-then-len-eq1-clause-charges : goal.returns-then-len-eq1-clause-charges
-returns-then-len-eq1-clause-charges g c = grind (arith, common_steps) steps 400000
-
-pub returns-clause-declines : goal.returns-clause-declines
-returns-clause-declines g c = grind (arith, common_steps) steps 400000
-
-pub returns-then-len-eq1-clause-sound : goal.returns-then-len-eq1-clause-sound
-returns-then-len-eq1-clause-sound g c = grind (arith, common_steps) steps 400000
-
-pub returns-clause-charges : goal.returns-clause-charges
-returns-clause-charges g c = grind (arith, common_steps) steps 400000
-
-pub returns-clause-sound : goal.returns-clause-sound
-returns-clause-sound g c = grind (arith, common_steps) steps 400000
-
-pub returns-clause-counted : goal.returns-clause-counted
-returns-clause-counted g c = grind (arith, common_steps) steps 400000
-
-pub returns-then-len-eq1-clause-declines : goal.returns-then-len-eq1-clause-declines
-returns-then-len-eq1-clause-declines g c = grind (arith, common_steps) steps 400000
-
-pub returns-then-len-eq1-clause-counted : goal.returns-then-len-eq1-clause-counted
-returns-then-len-eq1-clause-counted g c = grind (arith, common_steps) steps 400000
-
-pub returns-clause-same : goal.returns-clause-same
-returns-clause-same g c = grind (arith, common_steps) steps 400000
-
-pub returns-clause-device : goal.returns-clause-device
-returns-clause-device g c = grind (arith, common_steps) steps 400000
-
-pub returns-then-len-eq1-clause-device : goal.returns-then-len-eq1-clause-device
-returns-then-len-eq1-clause-device g c = grind (arith, common_steps) steps 400000
+    record {
+      sound = grind (arith, common_steps) steps 400000;
+      stands = λ is path stands next.
+          let comes : ComesAt w (written_after w.limits path) item = (stands.holds, may-come w.limits path item next) in
+          let single : item ≡ as_item c.single_of-single.result =
+          ended-single w c.args.item (plain-comes w (written_after w.limits path) item comes) head ∙ ap as_item (sym c.single_of-single.ensures) in
+          let p = subst (λ (i : PlacedItem). P i true) (sym single) (subst (P (as_item c.single_of-single.result)) is c.end_whole.ensures) in
+          let f = taken-follows w c.end_whole.new.self c.args.meter.now c.end_whole.new.meter c.args.sink.now c.end_whole.new.sink (written_after w.limits path) item p comes in
+          (stands-after w.limits c.end_whole.new.self path item p.taken.limits (p.taken.failed ∙ stands.well) f.holds, f.passes);
+      puts = λ is path stands next.
+          let comes : ComesAt w (written_after w.limits path) item = (stands.holds, may-come w.limits path item next) in
+          let single : item ≡ as_item c.single_of-single.result =
+          ended-single w c.args.item (plain-comes w (written_after w.limits path) item comes) head ∙ ap as_item (sym c.single_of-single.ensures) in
+          let p = subst (λ (i : PlacedItem). P i true) (sym single) (subst (P (as_item c.single_of-single.result)) is c.end_whole.ensures) in
+          taken-puts w c.end_whole.new.self c.args.meter.now c.end_whole.new.meter c.args.sink.now c.end_whole.new.sink (written_after w.limits path) item p comes;
+      declines = grind (arith, common_steps) steps 400000;
+      same = grind (arith, common_steps) steps 400000;
+      device = grind (arith, common_steps) steps 400000;
+      counted = grind (arith, common_steps) steps 400000;
+      charges = grind (arith, common_steps) steps 400000;
+    }
 
 pub end_whole-requires-clause-can_take : goal.end_whole-requires-clause-can_take
 end_whole-requires-clause-can_take g c = grind (arith, common_steps) steps 400000
 
 pub add_plain-requires-clause-can_take : goal.add_plain-requires-clause-can_take
 add_plain-requires-clause-can_take g c = grind (arith, common_steps) steps 400000
-
-pub returns-then-len-eq1-clause-same : goal.returns-then-len-eq1-clause-same
-returns-then-len-eq1-clause-same g c = grind (arith, common_steps) steps 400000
 
 pub end_whole-requires-clause-head : goal.end_whole-requires-clause-head
 end_whole-requires-clause-head g c = grind (arith, common_steps) steps 400000

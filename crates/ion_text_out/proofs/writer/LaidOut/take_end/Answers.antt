@@ -1,5 +1,4 @@
-use Rattle.std.proofs.Common.{ℕ, length, ap, arith}
-use Rattle.std.proofs.lemmas.List.{length-append}
+use Rattle.ion_text_out.proofs.Below.{ℕ, length, ap, arith, length-append}
 use Rattle.ion_text_out.proofs.Plain.{after_end-short, closing-short}
 use Rattle.ion_text_out.proofs.writer.LaidOut.take_end.Goals as goal
 

@@ -1,9 +1,5 @@
-use Rattle.std.proofs.Common.{refl, ap, subst, length, arith}
-use Rattle.std.proofs.lemmas.Grind.{common_steps}
-use Rattle.ion_value.specs.Float.{value_of}
-use Rattle.ion_value.specs.Items.{raw_head, symbol_at}
+use Rattle.ion_text_out.proofs.Below.{refl, ap, subst, length, arith, common_steps, value_of, raw_head, symbol_at, Head, SymbolAt}
 use Rattle.ion_value.specs.Value as value
-use Rattle.ion_value.specs.Value.{Head, SymbolAt}
 use Rattle.ion_text_out.specs.Writing.{HasRoom}
 use Rattle.ion_text_out.proofs.Taken.{begin_taken, end_taken, quoted_taken, scalar_taken, spelled_taken}
 use Rattle.ion_text_out.proofs.Plain.{quoted_body}

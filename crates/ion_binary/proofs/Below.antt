@@ -1,0 +1,111 @@
+-- The names of the crates below that most proofs here cite, passed on from one place. Declares nothing.
+pub use Rattle.std.proofs.Common.{Bool, Err, IfErr, IsTrue, IsUtf8, List, MatchOption, None, Ok, OnErr, OnOk, Option, Result, Some, [], add-one, add-zero, ap, append-nil, append_assoc, ap₂, arith, codes, cond, drop, eq-eqb, eqb, false, filter, get_or, if◌then◌else◌, inl, inr, is_some, leb, length, length-append, lit<, ltb, map, max, min, nat_eq, nat_le, nat_lt, neg_ℤ, not, option_and_then, option_map, refl, replicate, reverse, rules, set, subst, suc, suc-mul, sum, sym, take, take_at, true, unwrap_or, zero, ℕ, ℤ, ◌%◌, ◌&&◌, ◌*◌, ◌++◌, ◌+◌, ◌-ℤ◌, ◌-◌, ◌/◌, ◌<◌, ◌==◌, ◌^◌, ◌||◌, ◌↔◌, ◌∙◌, ◌∷◌, ◌≡◌, ◌≢◌, ◌≤◌, ◌⊎◌}
+pub use Rattle.std.proofs.Math.ListN.{get_or-append}
+pub use Rattle.std.proofs.Math.Nat.{add-mul, div-div-eq-div-mul, mod-eq_of_lt, mul-div_cancel, mul-le-mul_right, mul-lt-mul_of_pos_right, mul_assoc, pow-le-pow_right, pow-suc, pow-zero}
+pub use Rattle.std.proofs.Math.Seq.{drop-append_seam, drop-cons, take-append_seam}
+pub use Rattle.std.proofs.lemmas.Bool.{and_cases, and_parts, cases_Bool, cases_eq, cases_lt, eqb-false, eqb-true, false_from_ne_true, le-leb, le-ltb, leb-false, leb-true, lt-leb, lt-ltb, ltb-false, ltb-true, ne_eqb, not-false, not-true, or_cases, or_parts, or_right, true≢false}
+pub use Rattle.std.proofs.lemmas.Bool.Decides.{nat_tests}
+pub use Rattle.std.proofs.lemmas.Grind.{common_steps, elements, reverse_onto}
+pub use Rattle.std.proofs.lemmas.Int.{ints}
+pub use Rattle.std.proofs.lemmas.Iterator.Adapters.{option_map_id}
+pub use Rattle.std.proofs.lemmas.List.{append_cancel_left, drop-append-le, drop-drop, drop-take, drop_at, get_or-drop, get_or-set_other, get_or-set_same, length-drop, length-map, length-replicate, length-reverse, length-set, length-take, length-take-le, length_push, map-append, nil_from_length, reverse-append, take-append-drop, take-append-le, take-take, take_all}
+pub use Rattle.std.proofs.lemmas.List.Concat.{flat_map-append}
+pub use Rattle.std.proofs.lemmas.List.Elements.{All-from_get_or, All-get_or}
+pub use Rattle.std.proofs.lemmas.List.Sums.{sum_by-cons}
+pub use Rattle.std.proofs.lemmas.Nat.{div-add-mod', div-mul-add, leading_length, mod-mul-add, mod-pow-add, mod_below, pow-add, shl-shr, shl_whole}
+pub use Rattle.std.proofs.lemmas.Option.{none-some, slice_get-get_or}
+pub use Rattle.std.proofs.lemmas.Result.{IfOk-at_ok}
+pub use Rattle.std.proofs.lemmas.Slice.Eq.{bytes_eq-Decides}
+pub use Rattle.std.proofs.lemmas.Str.{IsUtf8-from_ascii, IsUtf8-from_is_utf8, is_utf8-from_IsUtf8}
+pub use Rattle.std.specs.Bool.{⊤}
+pub use Rattle.std.specs.Cmp.Lexicographic.{pointwise}
+pub use Rattle.std.specs.Int.{byte_at, bytes_high_first, bytes_low_first, leading_zeros, w64}
+pub use Rattle.std.specs.List.{AllByRecursion, flat_map, insert}
+pub use Rattle.std.specs.Prelude.{IfSome, from_bits, negsuc, pos, slice_get, slice_index_or}
+pub use Rattle.std.specs.Result.{IfOk, IsErr, IsErrAnd}
+pub use Rattle.std.specs.Str.{bytes_eq, is_utf8}
+pub use Rattle.ion_float.proofs.OctetLaws.{octets-IsFloat, octets-read}
+pub use Rattle.ion_meter.proofs.Lent.{IsPassed-left, IsPassed-total, lent-CanPass, lent-IsGiven, lent-take}
+pub use Rattle.ion_meter.proofs.Onward.{Onward, onward_as, onward_cut, onward_end, onward_then}
+pub use Rattle.ion_meter.proofs.Putting.{Puts-longer, Puts-nothing, put_cut, put_then}
+pub use Rattle.ion_meter.proofs.ReadOn.{read_on-not, read_on-same, reads_on-is}
+pub use Rattle.ion_meter.specs.Counts.{Counts, Grows, IsRefused, Shrinks}
+pub use Rattle.ion_meter.specs.Entries.{Entries}
+pub use Rattle.ion_meter.specs.Limits.{AreChecked}
+pub use Rattle.ion_meter.specs.Sinks.{IsPut}
+pub use Rattle.ion_meter.specs.Sources.{BytesAreLeft, Cursor, Exceeds, Moves, Stands, cursor, skip}
+pub use Rattle.ion_meter.specs.Windows.{Incoming, IsPassed, Outgoing, left, lent}
+pub use Rattle.ion_meter.specs.declared.fault.Fault.{Fault}
+pub use Rattle.ion_meter.specs.declared.fault.Fault.TheVariants.{InputLimit, Memory, ReadFault, Refused, WriteFault}
+pub use Rattle.ion_meter.specs.declared.fault.Reason.{Reason}
+pub use Rattle.ion_meter.specs.declared.fault.Reason.TheVariants.{AnnotationLimit, BadAnnotation, BadDescriptor, BadNumber, BadText, BadTimestamp, BadToken, BadVar, BadVersion, DepthLimit, Float, Overrun, Range, ScalarLimit, SymbolLimit, Truncated, ValueLimit}
+pub use Rattle.ion_meter.specs.declared.limits.Limits.{Limits}
+pub use Rattle.ion_meter.specs.declared.profile.Profile.{Profile}
+pub use Rattle.ion_meter.specs.declared.profile.Rules.{Rules}
+pub use Rattle.ion_symbols.proofs.DeclarationMeaning.{what_is_said, why_it_is_refused}
+pub use Rattle.ion_symbols.proofs.Keeping.{cost_append}
+pub use Rattle.ion_symbols.proofs.OtherSymbols.{value_symbols-map}
+pub use Rattle.ion_symbols.specs.Declaration.{Ground, word_by_id}
+pub use Rattle.ion_symbols.specs.Laws.{AnyAbove, FieldStands, IsCostly, IsDoubled, IsSlot, MembersStand, SomeAbove, SymbolAbove, SymbolStands, ValueStands}
+pub use Rattle.ion_symbols.specs.Output.{Output, id_given, id_or_new, known_id, or_given, position, system_id, system_texts, texts_cost}
+pub use Rattle.ion_symbols.specs.Resolved.{AreResolved}
+pub use Rattle.ion_symbols.specs.Table.{Shared, Slot, Slots, Table, local_slot, slot_in, slot_of, slots_cost, system, system_slots, text_at, text_of_slot}
+pub use Rattle.ion_symbols.specs.Tree.{declared, declares_table, element, next_table, user_at, user_tops}
+pub use Rattle.ion_symbols.specs.UserValues.{IsUser, is_declaring}
+pub use Rattle.ion_symbols.specs.Users.{is_declaration}
+pub use Rattle.ion_value.proofs.Cursors.{answers-refused, cursor-extends, extends-moves, moves-then}
+pub use Rattle.ion_value.proofs.Cut.{Cut, IfSome-Cut, var_cut-IsVar}
+pub use Rattle.ion_value.proofs.Days.{local-is, moved-is, offset-bounds, one_outcome, utc-is}
+pub use Rattle.ion_value.proofs.DecimalOctets.{Read-decimal_of_bytes, decimal_body-DecimalBody, decimal_body-parts, decimal_in_range-Made, decimal_of_bytes-Ok, exponent_octets-short}
+pub use Rattle.ion_value.proofs.Faults.{Blames, Free, bind_blames, blames_more, fault_free, free, if_blames, in_range-free, part_blames, refuse_blames, refuse_free, then_blames, value-free, years-free}
+pub use Rattle.ion_value.proofs.Fields.{ShortestUInt, byte-bytes_high_first, length-bytes_high_first, pow-256, uint-drop}
+pub use Rattle.ion_value.proofs.GrowingPaths.{end_in, end_in-open_in, mark_in, path_items-end_in, path_items-mark_in, path_items-open_in, path_items-put_in, put_in, put_in-open_in}
+pub use Rattle.ion_value.proofs.GrowsWithin.{grows-then, passed-then}
+pub use Rattle.ion_value.proofs.Handing.{feeds-then, feeds-under, finished-feeds, stays-then, takes-more}
+pub use Rattle.ion_value.proofs.Numbers.{append-lt, number-lt, seven-fits, seven-low, uint-lt, uint-take_more}
+pub use Rattle.ion_value.proofs.Octets.{Below-from, Digits, Digits-fewest, Signing, Signing-fewest, digits_in-Digits, low-same, number-below, number-same, uint-spelled, with_sign-Signing}
+pub use Rattle.ion_value.proofs.Passing.{IsPassed-cursor, IsPassed-moves, Passed, Passed-lent, Passed-then, lent-there, take_on}
+pub use Rattle.ion_value.proofs.Paths.{same_path}
+pub use Rattle.ion_value.proofs.Permitted.{GivesPermitted, MembersArePermitted, ValueIsPermitted, all-permitted, members-permitted, permitted-alike, reading-permitted, scalar-all, value-permitted}
+pub use Rattle.ion_value.proofs.ReadingLaws.{ending_of-items_then, prefixes}
+pub use Rattle.ion_value.proofs.Readings.{items_of-items_then, items_then-append, reading_by-ends, reading_by-gives, reading_by-goes_on, reading_by-step}
+pub use Rattle.ion_value.proofs.TextDecimals.{spelled, value-both}
+pub use Rattle.ion_value.proofs.TimestampBodies.{body-fraction, body-whole, bytes-back, fraction-short, var_int-short, whole-short}
+pub use Rattle.ion_value.proofs.TimestampOctets.{append-none, bytes-reading, fields_cut-some, is_moment-is, is_moment-true, joined}
+pub use Rattle.ion_value.proofs.VarOctets.{var_uint_octets-VarUInt, var_uint_octets-fewest}
+pub use Rattle.ion_value.proofs.WentWell.{if-any, if-next, if-passed, if-then}
+pub use Rattle.ion_value.specs.Answers.{Answers, AnswersAt, itself}
+pub use Rattle.ion_value.specs.Calls.{Reads, passed_over}
+pub use Rattle.ion_value.specs.Decimal.{IsDecimal, Parts, decimal_body, decimal_in_range, decimal_of_bytes, decimal_of_cut, decimal_of_parts, exponent_octets, fraction_digits, is_decimal, is_exponent_mark, is_float, is_nothing, is_point, power_value}
+pub use Rattle.ion_value.specs.Digits.{digit_value, digits_value, first_is, has_minus, is_digit, without_minus}
+pub use Rattle.ion_value.specs.Feeding.{CanTake, Feeds, Hands, StaysWell, more}
+pub use Rattle.ion_value.specs.FloatOctets.{float_octets, float_of_octets}
+pub use Rattle.ion_value.specs.Int.{IsInt, int_of_bytes}
+pub use Rattle.ion_value.specs.Items.{annotations_of, is_none_left, item_of, named, named_at, named_item, raw_annotation, raw_field, raw_head, symbol_at, symbol_of, text_or_id}
+pub use Rattle.ion_value.specs.Name.{IsQuotedAs, coded, is_plain, is_simple, raw_id}
+pub use Rattle.ion_value.specs.Number.{IsVar, VarUInt, coefficient_octets, digits_in, int_magnitude, int_negative, marked, number, signed, uint, uint_octets, var_cut, var_int_magnitude, var_int_negative, var_int_octets, var_uint, var_uint_octets, with_sign}
+pub use Rattle.ion_value.specs.Outcome.{one_if_closed}
+pub use Rattle.ion_value.specs.Parts.{Placed, part, refuse, ◌>>=◌, ◌>>◌}
+pub use Rattle.ion_value.specs.Path.{Nest, Path, begin_item, close_all, closed, closing, inner, nest_items, open_in, opened, outermost, path_items, with_head, with_item}
+pub use Rattle.ion_value.specs.PlainItems.{HasKnownName, HaveNoDollar, IsPlainItem, IsRightlyQuoted, StandsAfter, listed, placed_item, placed_text, single_item, with_second}
+pub use Rattle.ion_value.specs.Reading.{Ends, Finished, Gives, GoesOn, Leaves, More, Reading, Step, Stopped, Stops, after_item, after_nothing, items_of, items_then, next_reading, reading_by, reading_for}
+pub use Rattle.ion_value.specs.ReadingLaws.{Allows, ArePermitted, AreWithin, HeadIsPermitted, IsLimit, IsPermitted, ending_of}
+pub use Rattle.ion_value.specs.Scalar.{float_of_body, scalar_of_body, string_of, with_value}
+pub use Rattle.ion_value.specs.Shares.{Charges, GoesWithReading, GrowsWithin, MemoryCauses, WriteCauses, fault_of}
+pub use Rattle.ion_value.specs.Standing.{Continues, Fits, HasAnnotations, HasPlace, InRange, WritesWithin, has_field, in_struct, is_marker, open_after, open_after_all}
+pub use Rattle.ion_value.specs.Timestamp.{IsMoment, IsMoved, IsOffset, IsTimestamp, KeepsPrecision, date_in_range, digits_after_point, digits_at, exponent_in, fields, fields_cut, has_offset_shape, has_seconds_shape, in_local_time, in_years, is_date, is_fraction, is_moment, is_offset_mark, is_text_offset, local_of, looks_like, moved, offset_in, offset_minutes, offset_of_text, precision_of_seconds, second_precision, time_of_parts, timestamp_body, timestamp_in_utc, timestamp_of_bytes, timestamp_of_cut, timestamp_of_fields, utc_fields, utc_of, with_utc}
+pub use Rattle.ion_value.specs.TimestampFields.{whole_octets}
+pub use Rattle.ion_value.specs.Value.{Head, Id, Item, Known, Members, PlacedItem, Scalar, Symbol, SymbolAt, Text, Top, Unknown, UserSymbol, Value, bare_item, begin, container, end, map_head, map_members, map_scalar, map_value, marker, member, member_items, no_place, nothing, one_top, scalar, string, top_items, tree, unplaced_top, user_item, user_items, user_symbol, user_symbol_at, value_items, version, whole}
+pub use Rattle.ion_value.specs.Writable.{AreBytes, AreWritable, HasBytes, HasText, IsRaw, IsText, IsWritable, MembersHaveBytes, SymbolIsText, ValueHasBytes, field_symbols, members_symbols, scalar_symbols, value_symbols}
+pub use Rattle.ion_value.specs.declared.decimal.Decimal.{Decimal}
+pub use Rattle.ion_value.specs.declared.int.Int.{Int}
+pub use Rattle.ion_value.specs.declared.ion_type.IonType.{IonType}
+pub use Rattle.ion_value.specs.declared.ion_type.Kind.{Kind}
+pub use Rattle.ion_value.specs.declared.item.Annotation.{Annotation}
+pub use Rattle.ion_value.specs.declared.item.Sym.{Sym}
+pub use Rattle.ion_value.specs.declared.plain_item.PlainItem.{PlainItem}
+pub use Rattle.ion_value.specs.declared.plain_item.TextAt.{TextAt}
+pub use Rattle.ion_value.specs.declared.timestamp.Precision.{Precision}
+pub use Rattle.ion_value.specs.declared.timestamp.Precision.TheVariants.{Day, Fraction, Minute, Month, Second, Year}
+pub use Rattle.ion_value.specs.declared.timestamp.Timestamp.{Timestamp}
+pub use lib.Ieee.{binary64, fin, inf}

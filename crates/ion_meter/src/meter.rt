@@ -91,7 +91,7 @@ impl<A: Allocator + Copy> Meter<A> {
     }
 
     /// Counts a growth that the allocator refused.
-    pub(crate) fn refuse(&mut self)
+    pub fn refuse(&mut self)
         requires { self.old.refused < 2 ^ 64 - 1 }
         ensures { IsRefused self.old self.new }
     {

@@ -1,6 +1,7 @@
 //! What runs write of worked streams, in whatever pieces they come, and how they end.
 
 use super::devices::{Giving, Taking, Telling, Waiting, answer};
+use super::parts::expect_parts;
 use super::heaps::{LITTLE, fives, ignored};
 use super::round_trip::expect_round_trip;
 use super::same::{same, same_at};
@@ -76,6 +77,7 @@ pub fn expect_octets(rt: &impl Abort, alloc: Global, case: Case, shown: &[u8]) {
     expect(rt, alloc, case, To::Text, shown);
     expect(rt, alloc, case, To::Other, shown);
     expect(rt, alloc, case, To::Nothing, b"");
+    expect_parts(rt, alloc, case, To::Text, shown);
     let want = refused(Reason::SameForm, 0);
     expect(rt, alloc, Case { want, ..case }, To::Binary, b"");
     expect_round_trip(rt, alloc, case);
@@ -159,6 +161,7 @@ pub fn expect_text(rt: &impl Abort, alloc: Global, case: Case, shown: &[u8]) {
     expect(rt, alloc, case, To::Text, shown);
     expect(rt, alloc, case, To::Nothing, b"");
     expect_cut(rt, alloc, case, shown);
+    expect_parts(rt, alloc, case, To::Text, shown);
     expect_round_trip(rt, alloc, case);
 }
 

@@ -49,3 +49,7 @@ mod RefusalsStand
 mod KeptBytes
 mod JoinedStreams
 mod BinaryParts
+mod PartItems
+mod StretchesTaken
+mod Judging
+mod RefusedBehind

@@ -1,4 +1,25 @@
 //! A stream that is run in parts, by calls that keep nothing in the library.
+ghost use Rattle.std.specs.Prelude.{◌≡◌, ◌≢◌, ℕ, ◌+◌, ◌-◌, ◌*◌, ◌^◌, ◌<◌, ◌≤◌, ◌↔◌, ◌++◌, true, false, [], List, length, max, None, Ok, Err, OnErr, vec_len, vec_capacity};
+ghost use Rattle.ion_meter.specs.declared.fault.Reason.{Reason};
+ghost use Rattle.ion_meter.specs.declared.fault.Fault.{Fault};
+ghost use Rattle.ion_meter.specs.declared.fault.Fault.TheVariants.{Refused, Memory, ReadFault, WriteFault, InputLimit};
+ghost use Rattle.ion_meter.specs.Limits.{AreChecked};
+ghost use Rattle.ion_meter.specs.Windows.{HasPrefix};
+ghost use Rattle.ion_value.specs.Items.{is_none_left};
+ghost use Rattle.ion_value.specs.Outcome.{Accepted, Rejected};
+ghost use Rattle.ion_value.specs.Value.{PlacedItem};
+ghost use Rattle.ion_text_in.specs.Firm.{ends_line, ends_firmly, begins_value};
+ghost use Rattle.ion_transcode.specs.declared.in_parts.Stretch.TheVariants as stretch;
+ghost use Rattle.ion_transcode.specs.declared.in_parts.Stretch.{Stretch};
+ghost use Rattle.ion_transcode.specs.declared.in_parts.Chosen as chosen;
+ghost use Rattle.ion_transcode.specs.declared.in_parts.Taken as code;
+ghost use Rattle.ion_transcode.specs.declared.to.Form.TheVariants as form;
+ghost use Rattle.ion_transcode.specs.Bound.{bound, share_as};
+ghost use Rattle.ion_transcode.specs.Calls.{HasRoom};
+ghost use Rattle.ion_transcode.specs.Forms.{form_of, reading_of};
+ghost use Rattle.ion_transcode.specs.InParts.{is_cut};
+ghost use Rattle.ion_transcode.specs.PartCalls.{IsKept, Takes, TakesAll, IsRefused, GivesAllBack, Runs, IsStretch, CountsAs, HasCount, IsChosen, beginning, then_kept};
+ghost use Rattle.ion_transcode.specs.Verdict.{IsWrittenWith};
 
 mod counting;
 mod finding;
@@ -7,6 +28,7 @@ mod pieces;
 use self::counting::{Counted, Reads, count, count_own_items};
 use self::finding::find;
 use self::pieces::Pieces;
+use crate::laws::stretches_of_parts;
 use crate::run::run_with;
 use crate::to::{Form, To};
 use ion_meter::device::Output;
@@ -37,7 +59,7 @@ pub struct Taken {
 
 /// What a stretch of a part is, and so what is kept behind it.
 #[derive(Clone, Copy, PartialEq, Eq)]
-enum Stretch {
+pub(crate) enum Stretch {
     /// Each item is one of a user value: what was kept stays.
     Values,
     /// A version marker, and then items of user values alone: a marker is kept.
@@ -50,80 +72,100 @@ enum Stretch {
     Other,
 }
 
-/// Bytes from the first of a part on.
+/// A stretch of so many bytes, from the first of a part on.
 #[derive(Clone, Copy)]
-struct Chosen {
-    cut: usize,
-    stretch: Stretch,
+pub(crate) struct Chosen {
+    pub(crate) cut: usize,
+    pub(crate) stretch: Stretch,
 }
 
-/// A version marker, at the beginning of a stream of a form; a text needs none.
-fn beginning(form: Form) -> &'static [u8] {
+/// What is kept behind a version marker: another one, which a text needs not.
+fn beginning(form: Form) -> &'static [u8]
+    ensures { result.now ≡ beginning form }
+{
     match form {
-        Form::Binary => b"\xE0\x01\x00\xEA",
-        Form::Text => b"\n",
+        Form::Binary => &[0xE0, 0x01, 0x00, 0xEA],
+        Form::Text => &[0x0A],
     }
 }
 
 /// Whether the last of some bytes is a line feed, or there is none.
-fn ends_line(bytes: &[u8]) -> bool {
+fn ends_line(bytes: &[u8]) -> bool
+    ensures { result ≡ ends_line bytes.now }
+{
     match bytes.last() {
         None => true,
         Some(byte) => *byte == b'\n',
     }
 }
 
-/// Whether a value begins with the first of some bytes.
-fn begins_value(bytes: &[u8]) -> bool {
+/// Whether a value begins with the first of some bytes, which what stands before them cannot go on
+/// with.
+fn begins_value(bytes: &[u8]) -> bool
+    ensures { result ≡ begins_value bytes.now }
+{
     match bytes.first() {
         None => false,
         Some(byte) => {
-            !matches!(*byte, b' ' | b'\t' | b'\r' | b'\n' | 0x0B | 0x0C | b'\'' | b'/' | b':')
+            let is_white = *byte == b' ' || (9 <= *byte && *byte <= 13);
+            let goes_on = *byte == b'\'' || *byte == b'/' || *byte == b':';
+            !(is_white || goes_on)
         }
     }
 }
 
-/// Whether a part may be cut before some bytes of it.
-fn is_cut(form: Form, is_firm: bool, part: &[u8], next: &[u8]) -> bool {
+/// Whether bytes may be cut before others, where the last of their items is firm or not.
+fn is_cut(form: Form, is_firm: bool, part: &[u8], next: &[u8]) -> bool
+    ensures { (items : List PlacedItem) → is_firm ≡ ends_firmly items
+        → result ≡ is_cut form items part.now next.now }
+{
     match form {
         Form::Binary => true,
         Form::Text => ends_line(part) && (is_firm || begins_value(next)),
     }
 }
 
-/// What a stretch is, by how many items stand before it, what all are, and how many of them are those
-/// of user values. `begins` says that it begins a binary stream, which begins with a marker.
-fn stretch_of(form: Form, before: u64, begins: bool, all: Counted, own: u64) -> Stretch {
-    let none = all.items - all.items.min(own);
-    if none == before && !(begins && form == Form::Binary) {
-        Stretch::Values
-    } else if all.is_marked && none == before + 1 {
-        Stretch::Marked
-    } else if own == 0 && (form == Form::Binary || all.is_firm) {
-        Stretch::Declared
-    } else {
-        Stretch::Other
+/// What a stretch is, by how many items stand before it, whether it begins a stream, what all items are,
+/// and how many of them are those of user values.
+fn stretch_of(form: Form, before: u64, begins: bool, all: Counted, own: u64) -> Stretch
+    ensures { CountsAs form before begins all own result }
+{
+    if all.items < own {
+        return Stretch::Other;
     }
+    let none = all.items - own;
+    if none == before && (!begins || form == Form::Text) {
+        return Stretch::Values;
+    }
+    if none > before && none - before == 1 && all.is_marked {
+        return Stretch::Marked;
+    }
+    if own == 0 && (form == Form::Binary || all.is_firm) {
+        return Stretch::Declared;
+    }
+    Stretch::Other
 }
 
-/// What a stretch is.
-fn judge<A: Allocator + Copy>(
+/// What bytes are behind kept ones, whose items were counted, where others follow.
+fn judge_behind<A: Allocator + Copy>(
     meter: &mut Meter<A>,
     catalog: &Catalog<A>,
     reads: Reads,
     kept: &[u8],
-    bytes: &[u8],
-    cut: usize,
-) -> Result<Stretch, Fault> {
-    let (part, next) = bytes.split_at(cut.min(bytes.len()));
-    if part.is_empty() {
-        return Ok(Stretch::Other);
-    }
-    let before = match count(meter, reads, 0, Pieces::new(kept, &[])) {
-        Ok(counted) => counted.items,
-        Err(Fault::Memory) => return Err(Fault::Memory),
-        Err(_) => return Ok(Stretch::Other),
-    };
+    part: &[u8],
+    next: &[u8],
+    before: u64,
+) -> Result<Stretch, Fault>
+    requires checked { AreChecked reads.limits }
+    requires room { HasRoom (2 ^ 48) 0 meter.old }
+    requires some { is_none_left part.now ≡ false }
+    requires before { HasCount (reading_of reads.profile reads.form reads.limits kept.now) before }
+    ensures stretch { (what : Stretch) → result ≡ Ok what
+        → IsStretch reads.profile catalog.now reads.limits reads.form kept.now part.now next.now
+        what }
+    ensures gives_back { GivesAllBack (4096 + share_as reads.limits None) result
+        meter.old meter.new }
+{
     let all = match count(meter, reads, before, Pieces::new(kept, part)) {
         Ok(counted) => counted,
         Err(Fault::Memory) => return Err(Fault::Memory),
@@ -140,6 +182,45 @@ fn judge<A: Allocator + Copy>(
     }
 }
 
+/// What some bytes of a part are.
+fn judge<A: Allocator + Copy>(
+    meter: &mut Meter<A>,
+    catalog: &Catalog<A>,
+    reads: Reads,
+    kept: &[u8],
+    bytes: &[u8],
+    cut: usize,
+) -> Result<Chosen, Fault>
+    requires checked { AreChecked reads.limits }
+    requires room { HasRoom (2 ^ 48) 0 meter.old }
+    ensures chosen { (c : chosen.Chosen) → result ≡ Ok c
+        → IsChosen reads.profile catalog.now reads.limits reads.form kept.now bytes.now
+        c.cut c.stretch }
+    ensures gives_back { GivesAllBack (4096 + share_as reads.limits None) result
+        meter.old meter.new }
+{
+    let nothing = Chosen {
+        cut: 0,
+        stretch: Stretch::Other,
+    };
+    let (part, next) = bytes.split_at(cut.min(bytes.len()));
+    if part.is_empty() {
+        return Ok(nothing);
+    }
+    let before = match count(meter, reads, 0, Pieces::new(kept, &[])) {
+        Ok(counted) => counted.items,
+        Err(Fault::Memory) => return Err(Fault::Memory),
+        Err(_) => return Ok(nothing),
+    };
+    match judge_behind(meter, catalog, reads, kept, part, next, before) {
+        Err(fault) => Err(fault),
+        Ok(stretch) => Ok(Chosen {
+            cut: part.len(),
+            stretch,
+        }),
+    }
+}
+
 /// What is taken of a part: a stretch, or its first value alone.
 fn choose<A: Allocator + Copy>(
     meter: &mut Meter<A>,
@@ -147,37 +228,105 @@ fn choose<A: Allocator + Copy>(
     reads: Reads,
     kept: &[u8],
     bytes: &[u8],
-) -> Result<Chosen, Fault> {
+) -> Result<Chosen, Fault>
+    requires checked { AreChecked reads.limits }
+    requires room { HasRoom (2 ^ 48) 0 meter.old }
+    ensures chosen { (c : chosen.Chosen) → result ≡ Ok c
+        → IsChosen reads.profile catalog.now reads.limits reads.form kept.now bytes.now
+        c.cut c.stretch }
+    ensures gives_back { GivesAllBack (4096 + share_as reads.limits None) result
+        meter.old meter.new }
+{
     let found = match find(meter, reads, kept, bytes) {
         Ok(found) => found,
         Err(fault) => return Err(fault),
     };
-    match judge(meter, catalog, reads, kept, bytes, found.cut) {
+    let chosen = match judge(meter, catalog, reads, kept, bytes, found.cut) {
+        Ok(chosen) => chosen,
         Err(fault) => return Err(fault),
-        Ok(Stretch::Other) => {}
-        Ok(stretch) => return Ok(Chosen { cut: found.cut, stretch }),
+    };
+    if chosen.stretch == Stretch::Other && found.first < found.cut {
+        return judge(meter, catalog, reads, kept, bytes, found.first);
     }
-    match judge(meter, catalog, reads, kept, bytes, found.first) {
-        Err(fault) => Err(fault),
-        Ok(stretch) => Ok(Chosen { cut: found.first, stretch }),
-    }
+    Ok(chosen)
 }
 
-/// Whether what was kept goes, and what is kept behind it.
-fn kept_by<'a>(form: Form, stretch: Stretch, is_none: bool, part: &'a [u8]) -> (bool, &'a [u8]) {
+/// Whether what was kept goes behind a stretch, and what is kept then behind it.
+fn kept_by<'a>(form: Form, stretch: Stretch, kept: &[u8], part: &'a [u8]) -> (bool, &'a [u8])
+    ensures goes { result.0 ≡ true → then_kept form stretch kept.now part.now ≡ result.1.now }
+    ensures stays { result.0 ≡ false
+        → then_kept form stretch kept.now part.now ≡ kept.now ++ result.1.now }
+{
     match stretch {
         Stretch::Marked => (true, beginning(form)),
         Stretch::Declared => (false, part),
-        Stretch::Values if is_none => (false, beginning(form)),
-        _ => (false, &[]),
+        Stretch::Values if kept.is_empty() => (true, beginning(form)),
+        Stretch::Values | Stretch::Refused | Stretch::Other => (false, &[]),
     }
 }
 
+/// Keeps more bytes, behind those that were kept or in their place.
+fn keep<A: Allocator>(kept: &mut Vec<u8, A>, goes: bool, more: &[u8])
+    requires room { vec_len kept.old + length more.now ≤ vec_capacity kept.old }
+    ensures goes { goes ≡ true → kept.new.items ≡ more.now }
+    ensures stays { goes ≡ false → kept.new.items ≡ kept.old.items ++ more.now }
+{
+    if goes {
+        kept.clear();
+    }
+    let _ = kept.extend_from_slice(more);
+}
+
 /// A fault whose place is counted from the first byte behind kept ones.
-fn behind(fault: Fault, kept: usize) -> Fault {
+fn behind(fault: Fault, kept: usize) -> Fault
+    ensures refused { (r : Reason) (p : ℕ) → result ≡ Refused r p
+        → (q : ℕ) × (fault ≡ Refused r q) × (p ≡ q - kept) }
+    ensures same { ((r : Reason) (p : ℕ) → fault ≢ Refused r p) → result ≡ fault }
+{
     match fault {
         Fault::Refused(reason, place) => Fault::Refused(reason, place.saturating_sub(kept as u64)),
         fault => fault,
+    }
+}
+
+/// Runs some bytes of a part behind kept ones.
+fn run_behind<O: Output, A: Allocator + Copy>(
+    meter: &mut Meter<A>,
+    catalog: &Catalog<A>,
+    reads: Reads,
+    to: To,
+    kept: &[u8],
+    part: &[u8],
+    output: O,
+) -> (Result<Taken, Fault>, O)
+    requires checked { AreChecked reads.limits }
+    requires held { meter.old.held ≤ 2 ^ 48 }
+    requires countable { meter.old.refused < 2 ^ 64 - 1 }
+    requires writes { O.failure_count output < 2 ^ 64 - 1 }
+    ensures accepted { (t : code.Taken) → result.0 ≡ Ok t → (t.bytes ≡ length part.now)
+        × IsWrittenWith reads.profile catalog.now reads.limits to (kept.now ++ part.now)
+        (Accepted t.values) (O.observable output) (O.written output) (O.written result.1) }
+    ensures refused { (r : Reason) (p : ℕ) → result.0 ≡ Err (Refused r p)
+        → (q : ℕ) × (p ≡ q - length kept.now)
+        × IsWrittenWith reads.profile catalog.now reads.limits to (kept.now ++ part.now)
+        (Rejected r q) (O.observable output) (O.written output) (O.written result.1) }
+    ensures runs { Runs (bound reads.limits form.Text to) result.0 meter.old meter.new
+        O.Output output result.1 }
+    ensures limit { result.0 ≡ Err InputLimit
+        → reads.limits.input < length (kept.now ++ part.now) }
+{
+    let input = Pieces::new(kept, part);
+    let (outcome, _, output) =
+        run_with(meter, catalog, reads.limits, reads.profile, to, input, output);
+    match outcome {
+        Err(fault) => (Err(behind(fault, kept.len())), output),
+        Ok(summary) => {
+            let taken = Taken {
+                bytes: part.len() as u64,
+                values: summary.values,
+            };
+            (Ok(taken), output)
+        }
     }
 }
 
@@ -191,54 +340,44 @@ fn take<O: Output, A: Allocator + Copy>(
     part: &[u8],
     stretch: Stretch,
     output: O,
-) -> (Result<Taken, Fault>, O) {
-    let (goes, more) = kept_by(reads.form, stretch, kept.is_empty(), part);
+) -> (Result<Taken, Fault>, O)
+    requires checked { AreChecked reads.limits }
+    requires held { meter.old.held ≤ 2 ^ 48 }
+    requires countable { meter.old.refused < 2 ^ 64 - 1 }
+    requires writes { O.failure_count output < 2 ^ 64 - 1 }
+    requires form { reads.form ≡ form_of (kept.old.items ++ part.now) }
+    requires some { is_none_left part.now ≡ false }
+    requires stretch { stretch ≢ stretch.Other }
+    ensures taken { (next : List ℕ)
+        → IsStretch reads.profile catalog.now reads.limits reads.form kept.old.items part.now next
+        stretch
+        → IsKept reads.profile catalog.now reads.limits kept.old.items
+        → (t : code.Taken) → result.0 ≡ Ok t → (t.bytes ≡ length part.now)
+        × TakesAll reads.profile catalog.now reads.limits to kept.old.items part.now next t.values
+        kept.new.items (O.observable output) (O.written output) (O.written result.1) }
+    ensures refused { (next : List ℕ)
+        → IsStretch reads.profile catalog.now reads.limits reads.form kept.old.items part.now next
+        stretch
+        → (r : Reason) (p : ℕ) → result.0 ≡ Err (Refused r p)
+        → IsRefused reads.profile catalog.now reads.limits to kept.old.items (part.now ++ next)
+        false r p (O.observable output) (O.written output) (O.written result.1) }
+    ensures stays { OnErr result.0 (kept.new.items ≡ kept.old.items) }
+    ensures runs { Runs (bound reads.limits form.Text to) result.0 meter.old meter.new
+        O.Output output result.1 }
+    ensures limit { result.0 ≡ Err InputLimit
+        → reads.limits.input < length (kept.old.items ++ part.now) }
+{
+    stretches_of_parts();
+    let (goes, more) = kept_by(reads.form, stretch, kept.as_slice(), part);
     if kept.try_reserve(more.len()).is_err() {
         meter.refuse();
         return (Err(Fault::Memory), output);
     }
-    let input = Pieces::new(kept.as_slice(), part);
-    let (outcome, _, output) =
-        run_with(meter, catalog, reads.limits, reads.profile, to, input, output);
-    match outcome {
-        Err(fault) => (Err(behind(fault, kept.len())), output),
-        Ok(summary) => {
-            if goes {
-                kept.clear();
-            }
-            let _ = kept.extend_from_slice(more);
-            let taken = Taken {
-                bytes: part.len() as u64,
-                values: summary.values,
-            };
-            (Ok(taken), output)
-        }
+    let (outcome, output) = run_behind(meter, catalog, reads, to, kept.as_slice(), part, output);
+    if outcome.is_ok() {
+        keep(kept, goes, more);
     }
-}
-
-/// Runs the last part to its end.
-fn run_last<O: Output, A: Allocator + Copy>(
-    meter: &mut Meter<A>,
-    catalog: &Catalog<A>,
-    limits: Limits,
-    profile: Profile,
-    to: To,
-    kept: &[u8],
-    bytes: &[u8],
-    output: O,
-) -> (Result<Taken, Fault>, O) {
-    let input = Pieces::new(kept, bytes);
-    let (outcome, _, output) = run_with(meter, catalog, limits, profile, to, input, output);
-    match outcome {
-        Err(fault) => (Err(behind(fault, kept.len())), output),
-        Ok(summary) => {
-            let taken = Taken {
-                bytes: bytes.len() as u64,
-                values: summary.values,
-            };
-            (Ok(taken), output)
-        }
-    }
+    (outcome, output)
 }
 
 /// Runs what can be taken of a part that is not the last.
@@ -250,21 +389,56 @@ fn run_some<O: Output, A: Allocator + Copy>(
     kept: &mut Vec<u8, A>,
     bytes: &[u8],
     output: O,
-) -> (Result<Taken, Fault>, O) {
+) -> (Result<Taken, Fault>, O)
+    requires checked { AreChecked reads.limits }
+    requires held { meter.old.held ≤ 2 ^ 48 }
+    requires countable { meter.old.refused < 2 ^ 64 - 1 }
+    requires writes { O.failure_count output < 2 ^ 64 - 1 }
+    requires form { reads.form ≡ form_of (kept.old.items ++ bytes.now) }
+    ensures taken { IsKept reads.profile catalog.now reads.limits kept.old.items
+        → (t : code.Taken) → result.0 ≡ Ok t → 0 < t.bytes
+        → Takes reads.profile catalog.now reads.limits to kept.old.items bytes.now t.bytes t.values
+        kept.new.items (O.observable output) (O.written output) (O.written result.1) }
+    ensures nothing { (t : code.Taken) → result.0 ≡ Ok t → t.bytes ≡ 0
+        → (t.values ≡ 0) × (kept.new.items ≡ kept.old.items) × (result.1 ≡ output) }
+    ensures refused { (r : Reason) (p : ℕ) → result.0 ≡ Err (Refused r p)
+        → IsRefused reads.profile catalog.now reads.limits to kept.old.items bytes.now
+        false r p (O.observable output) (O.written output) (O.written result.1) }
+    ensures stays { OnErr result.0 (kept.new.items ≡ kept.old.items) }
+    ensures runs { Runs (bound reads.limits form.Text to) result.0 meter.old meter.new
+        O.Output output result.1 }
+    ensures limit { result.0 ≡ Err InputLimit
+        → reads.limits.input < length (kept.old.items ++ bytes.now) }
+{
     let chosen = match choose(meter, catalog, reads, kept.as_slice(), bytes) {
         Ok(chosen) => chosen,
         Err(fault) => return (Err(fault), output),
     };
     if chosen.stretch == Stretch::Other {
-        let nothing = Taken { bytes: 0, values: 0 };
+        let nothing = Taken {
+            bytes: 0,
+            values: 0,
+        };
         return (Ok(nothing), output);
     }
-    let part = &bytes[..chosen.cut.min(bytes.len())];
+    let part = &bytes[..chosen.cut];
     take(meter, catalog, reads, to, kept, part, chosen.stretch, output)
 }
 
-/// Runs a part of a stream behind what is kept of the parts before it, and takes as many whole values
-/// as it can.
+/// Runs a part of a stream behind what is kept of the parts before it.
+///
+/// Of a part that is not the last it takes the first bytes, so many as have user values alone, or none,
+/// and writes what they have: `Taken` says how many they are, and the next call is given the bytes behind
+/// them, and more. Where it takes none, nothing is written, and more bytes are needed. The last part is
+/// run to its end.
+///
+/// A stream begins with nothing kept. Between two calls the caller keeps `kept` alone, which is the
+/// bytes of declarations and version markers, and never reads it. It is memory of the caller's, and
+/// counted by no meter.
+///
+/// All parts together have the verdict and the output of the whole stream (the law `parts_are_the_whole`),
+/// and where a text is written as binary, their outputs together show what the text shows
+/// (`parts_of_binary_show_the_whole`).
 pub fn run_part<O: Output, A: Allocator + Copy>(
     meter: &mut Meter<A>,
     catalog: &Catalog<A>,
@@ -274,16 +448,64 @@ pub fn run_part<O: Output, A: Allocator + Copy>(
     kept: &mut Vec<u8, A>,
     part: Part<'_>,
     output: O,
-) -> (Result<Taken, Fault>, O) {
-    let bytes = part.bytes;
-    if part.last {
-        return run_last(meter, catalog, limits, profile, to, kept.as_slice(), bytes, output);
-    }
-    let form = Pieces::new(kept.as_slice(), bytes).form();
+) -> (Result<Taken, Fault>, O)
+    // Limits within their maxima, and room for the counts.
+    requires checked { AreChecked limits }
+    requires held { meter.old.held ≤ 2 ^ 48 }
+    requires countable { meter.old.refused < 2 ^ 64 - 1 }
+    requires writes { O.failure_count output < 2 ^ 64 - 1 }
+
+    // What is taken of a part that is not the last, where what is kept is nothing, or what a call kept:
+    // the first bytes, which are accepted, and their output is written after what was there. Then what is
+    // kept stands for all bytes so far. Where no bytes are taken, nothing else is done.
+    ensures taken { part.last ≡ false → IsKept profile catalog.now limits kept.old.items
+        → (t : code.Taken) → result.0 ≡ Ok t → 0 < t.bytes
+        → Takes profile catalog.now limits to kept.old.items part.bytes.now t.bytes t.values
+        kept.new.items (O.observable output) (O.written output) (O.written result.1) }
+    ensures nothing { part.last ≡ false → (t : code.Taken) → result.0 ≡ Ok t → t.bytes ≡ 0
+        → (t.values ≡ 0) × (kept.new.items ≡ kept.old.items) × (result.1 ≡ output) }
+
+    // The verdict on the last part is that on all of it behind what is kept.
+    ensures whole { part.last ≡ true → (t : code.Taken) → result.0 ≡ Ok t
+        → (t.bytes ≡ length part.bytes.now)
+        × IsWrittenWith profile catalog.now limits to (kept.old.items ++ part.bytes.now)
+        (Accepted t.values) (O.observable output) (O.written output) (O.written result.1) }
+
+    // A refusal stands whatever follows, and its place is counted from the first byte of the part.
+    ensures refused { (r : Reason) (p : ℕ) → result.0 ≡ Err (Refused r p)
+        → IsRefused profile catalog.now limits to kept.old.items part.bytes.now part.last r p
+        (O.observable output) (O.written output) (O.written result.1) }
+
+    // What is kept stays but where a part that is not the last is taken.
+    ensures stays { OnErr result.0 (kept.new.items ≡ kept.old.items) }
+    ensures stays_last { part.last ≡ true → kept.new.items ≡ kept.old.items }
+
+    // Faults, only where they occurred.
+    ensures memory { result.0 ≡ Err Memory → meter.old.refused < meter.new.refused }
+    ensures counted { result.0 ≢ Err Memory → meter.new.refused ≡ meter.old.refused }
+    ensures no_reads { result.0 ≢ Err ReadFault }
+    ensures write { result.0 ≡ Err WriteFault
+        → O.failure_count result.1 ≡ O.failure_count output + 1 }
+    ensures steady { result.0 ≢ Err WriteFault
+        → O.failure_count result.1 ≡ O.failure_count output }
+    ensures still_observable { O.observable result.1 ↔ O.observable output }
+    ensures grown { O.observable output → HasPrefix (O.written result.1) (O.written output) }
+    ensures limit { result.0 ≡ Err InputLimit
+        → limits.input < length (kept.old.items ++ part.bytes.now) }
+
+    // Memory: all of it is given back, and no more was held than the bound of a run.
+    ensures held { meter.new.held ≡ meter.old.held }
+    ensures peak { meter.new.peak
+        ≤ max meter.old.peak (meter.old.held + bound limits form.Text to) }
+{
+    let form = Pieces::new(kept.as_slice(), part.bytes).form();
     let reads = Reads {
         limits,
         profile,
         form,
     };
-    run_some(meter, catalog, reads, to, kept, bytes, output)
+    if part.last {
+        return run_behind(meter, catalog, reads, to, kept.as_slice(), part.bytes, output);
+    }
+    run_some(meter, catalog, reads, to, kept, part.bytes, output)
 }

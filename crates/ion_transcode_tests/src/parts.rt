@@ -1,16 +1,19 @@
 //! Runs over streams in parts, wherever they are cut, against runs over the whole.
 
-use super::runs::Case;
+use super::rows::next_bytes;
+use super::runs::{Case, LIMITS, text};
 use super::same::same_at;
 use ion_meter::fault::Fault;
 use ion_meter::meter::Meter;
 use ion_meter::profile::Profile;
 use ion_meter::stream::ToWrite;
 use ion_symbols::catalog::Catalog;
+use ion_test_support::fields::{Fields, is_row};
 use ion_transcode::in_parts::{Part, Taken, run_part};
 use ion_transcode::to::To;
 use std::alloc::Global;
 use std::process::Abort;
+use std::test::Fail;
 
 /// What is known of a stream between two calls.
 #[derive(Drop)]
@@ -115,4 +118,88 @@ pub fn expect_parts(rt: &impl Abort, alloc: Global, case: Case, to: To, shown: &
         assert!(rt; ends.push(at).is_ok());
     }
     expect_pieces(rt, alloc, case, to, 0, ends.as_slice(), shown);
+}
+
+/// Asserts that all of a binary stream is taken before its last part.
+pub fn expect_all_taken(rt: &impl Abort, alloc: Global, case: Case) {
+    let meter = Meter::new(alloc);
+    let catalog = Catalog::new(&meter);
+    let mut now = Progress {
+        meter,
+        catalog: &catalog,
+        kept: Vec::new(alloc),
+        taken: 0,
+        values: 0,
+        written: Vec::new(alloc),
+    };
+    let end = case.input.len();
+    loop {
+        match call(rt, alloc, &case, To::Text, &mut now, end, false) {
+            Ok(0) | Err(_) => break,
+            Ok(_) => {}
+        }
+    }
+    same_at(rt, "all taken", case.row, 0, now.taken, end);
+}
+
+/// Texts, what is taken of them before their last part, and what is kept then.
+const TEXTS: &str = r#"
+1%0A2%0A3|1%0A2%0A|%0A
+1%0A2%0A|1%0A2%0A|%0A
+[%0A1,%0A2]%0A[|[%0A1,%0A2]%0A|%0A
+"a"%0A||
+"a"%0A"b"|"a"%0A|%0A
+"a"%0A 'b'||
+$ion_symbol_table::{symbols:["a"]}%0A$10%0A[$10]%0A|$ion_symbol_table::{symbols:["a"]}%0A$10%0A[$10]%0A|$ion_symbol_table::{symbols:["a"]}%0A
+$ion_1_0%0A$ion_symbol_table::{symbols:["a"]}%0A[$10]%0A$ion_1_0%0A[1]%0A|$ion_1_0%0A$ion_symbol_table::{symbols:["a"]}%0A[$10]%0A$ion_1_0%0A[1]%0A|%0A
+$ion_symbol_table::{symbols:["a"]} [$10]%0A[1]%0A||
+  1%0A  2%0A|  1%0A  2%0A|%0A
+'''a%0A''' 1%0A|'''a%0A''' 1%0A|%0A
+1 /*%0A*/ 2%0A|1 /*%0A*/ 2%0A|%0A
+// a%0A1%0A|// a%0A1%0A|%0A
+1%0A// a%0A|1%0A|%0A
+$3::{symbols:["a"]}%0A[$10]%0A|$3::{symbols:["a"]}%0A[$10]%0A|$3::{symbols:["a"]}%0A
+$ion_symbol_table::{symbols:["$ion_symbol_table"]}%0A$10::{symbols:["b"]}%0A[$10]%0A|$ion_symbol_table::{symbols:["$ion_symbol_table"]}%0A$10::{symbols:["b"]}%0A[$10]%0A|$ion_symbol_table::{symbols:["$ion_symbol_table"]}%0A$10::{symbols:["b"]}%0A
+"#;
+
+/// Asserts what is taken of a text before its last part, and what is kept.
+fn expect_taken(rt: &impl Abort, alloc: Global, row: &str) {
+    let mut fields = Fields::of(row);
+    let input = next_bytes(rt, alloc, &mut fields);
+    let taken = next_bytes(rt, alloc, &mut fields);
+    let kept = next_bytes(rt, alloc, &mut fields);
+    let meter = Meter::new(alloc);
+    let catalog = Catalog::new(&meter);
+    let mut now = Progress {
+        meter,
+        catalog: &catalog,
+        kept: Vec::new(alloc),
+        taken: 0,
+        values: 0,
+        written: Vec::new(alloc),
+    };
+    let case = Case {
+        row,
+        limits: LIMITS,
+        input: input.as_slice(),
+        want: text(0),
+    };
+    let end = case.input.len();
+    loop {
+        match call(rt, alloc, &case, To::Text, &mut now, end, false) {
+            Ok(0) | Err(_) => break,
+            Ok(_) => {}
+        }
+    }
+    same_at(rt, "taken", row, 0, now.taken, taken.len());
+    same_at(rt, "kept", row, 0, now.kept.as_slice(), kept.as_slice());
+}
+
+#[test]
+fn texts_are_taken_by_lines(rt: HostRuntime) {
+    for row in TEXTS.split('\n') {
+        if is_row(row) {
+            expect_taken(&rt, rt.alloc(), row);
+        }
+    }
 }

@@ -1,7 +1,7 @@
 //! What runs write of worked streams, in whatever pieces they come, and how they end.
 
 use super::devices::{Giving, Taking, Telling, Waiting, answer};
-use super::parts::expect_parts;
+use super::parts::{expect_all_taken, expect_parts};
 use super::heaps::{LITTLE, fives, ignored};
 use super::round_trip::expect_round_trip;
 use super::same::{same, same_at};
@@ -78,6 +78,9 @@ pub fn expect_octets(rt: &impl Abort, alloc: Global, case: Case, shown: &[u8]) {
     expect(rt, alloc, case, To::Other, shown);
     expect(rt, alloc, case, To::Nothing, b"");
     expect_parts(rt, alloc, case, To::Text, shown);
+    if case.want.is_ok() {
+        expect_all_taken(rt, alloc, case);
+    }
     let want = refused(Reason::SameForm, 0);
     expect(rt, alloc, Case { want, ..case }, To::Binary, b"");
     expect_round_trip(rt, alloc, case);

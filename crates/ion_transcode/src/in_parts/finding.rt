@@ -1,4 +1,11 @@
-//! Where a part may be cut: a guess, which is then proved by counting.
+//! Where a part may be cut: a guess, of which nothing is proved. What is counted of the part decides.
+ghost use Rattle.std.specs.Prelude.{◌≡◌, ◌+◌, ◌*◌, ◌^◌, ◌<◌, ◌≤◌, ◌≢◌, Err, None};
+ghost use Rattle.ion_meter.specs.declared.fault.Fault.TheVariants.{Memory};
+ghost use Rattle.ion_meter.specs.Limits.{AreChecked};
+ghost use Rattle.ion_value.specs.Shares.{Charges};
+ghost use Rattle.ion_transcode.specs.Bound.{share_as};
+ghost use Rattle.ion_transcode.specs.Calls.{HasRoom};
+ghost use Rattle.ion_transcode.specs.PartCalls.{GivesAllBack};
 
 use super::counting::Reads;
 use super::pieces::Pieces;
@@ -111,11 +118,19 @@ fn search<R: RawReader<A>, A: Allocator + Copy>(
     form: Form,
     kept: usize,
     bytes: &[u8],
-) -> Result<Found, Fault> {
+) -> Result<Found, Fault>
+    requires room { HasRoom (2 ^ 59) (R.own raw.old) meter.old }
+    requires sound { R.sound raw.old }
+    requires fresh { R.failed raw.old ≡ None }
+    ensures memory { result ≡ Err Memory → meter.old.refused < meter.new.refused }
+    ensures counted { result ≢ Err Memory → meter.new.refused ≡ meter.old.refused }
+    ensures charges { Charges meter.old meter.new (R.own raw.old) (R.own raw.new)
+        (R.most raw.old) }
+{
     let mut found = Found { cut: 0, first: 0 };
     let mut stretch: Option<Sort> = None;
     let mut level: u32 = 0;
-    loop {
+    'items: loop {
         match raw.next(meter) {
             Err(Fault::Memory) => return Err(Fault::Memory),
             Err(Fault::Refused(Reason::Truncated, place)) if level == 0 && form == Form::Binary => {
@@ -146,7 +161,12 @@ pub(crate) fn find<A: Allocator + Copy>(
     reads: Reads,
     kept: &[u8],
     bytes: &[u8],
-) -> Result<Found, Fault> {
+) -> Result<Found, Fault>
+    requires checked { AreChecked reads.limits }
+    requires room { HasRoom (2 ^ 48) 0 meter.old }
+    ensures gives_back { GivesAllBack (4096 + share_as reads.limits None) result
+        meter.old meter.new }
+{
     let source = match Source::new(meter, reads.limits, Pieces::new(kept, bytes)) {
         Ok(source) => source,
         Err(_) => return Err(Fault::Memory),

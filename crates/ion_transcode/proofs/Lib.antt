@@ -53,3 +53,5 @@ mod PartItems
 mod StretchesTaken
 mod Judging
 mod RefusedBehind
+mod PartVerdicts
+mod PartMemory

@@ -1,5 +1,5 @@
 //! A stream that is run in parts, by calls that keep nothing in the library.
-ghost use Rattle.std.specs.Prelude.{◌≡◌, ◌≢◌, ℕ, ◌+◌, ◌-◌, ◌*◌, ◌^◌, ◌<◌, ◌≤◌, ◌↔◌, ◌++◌, true, false, [], List, length, max, None, Ok, Err, OnErr, vec_len, vec_capacity};
+ghost use Rattle.std.specs.Prelude.{◌≡◌, ◌≢◌, ℕ, ◌+◌, ◌-◌, ◌*◌, ◌^◌, ◌<◌, ◌≤◌, ◌↔◌, ◌++◌, true, false, [], List, length, max, None, Ok, Err, OnErr, IfErr, vec_len, vec_capacity};
 ghost use Rattle.ion_meter.specs.declared.fault.Reason.{Reason};
 ghost use Rattle.ion_meter.specs.declared.fault.Fault.{Fault};
 ghost use Rattle.ion_meter.specs.declared.fault.Fault.TheVariants.{Refused, Memory, ReadFault, WriteFault, InputLimit};
@@ -9,7 +9,7 @@ ghost use Rattle.ion_value.specs.Items.{is_none_left};
 ghost use Rattle.ion_value.specs.Outcome.{Accepted, Rejected};
 ghost use Rattle.ion_value.specs.Value.{PlacedItem};
 ghost use Rattle.ion_text_in.specs.Firm.{ends_line, ends_firmly, begins_value};
-ghost use Rattle.ion_transcode.specs.declared.in_parts.Stretch.TheVariants as stretch;
+ghost use Rattle.ion_transcode.specs.declared.in_parts.Stretch.TheVariants as stretches;
 ghost use Rattle.ion_transcode.specs.declared.in_parts.Stretch.{Stretch};
 ghost use Rattle.ion_transcode.specs.declared.in_parts.Chosen as chosen;
 ghost use Rattle.ion_transcode.specs.declared.in_parts.Taken as code;
@@ -165,6 +165,7 @@ fn judge_behind<A: Allocator + Copy>(
         what }
     ensures gives_back { GivesAllBack (4096 + share_as reads.limits None) result
         meter.old meter.new }
+    ensures only_memory { IfErr result (λ f. f ≡ Memory) }
 {
     let all = match count(meter, reads, before, Pieces::new(kept, part)) {
         Ok(counted) => counted,
@@ -198,6 +199,7 @@ fn judge<A: Allocator + Copy>(
         c.cut c.stretch }
     ensures gives_back { GivesAllBack (4096 + share_as reads.limits None) result
         meter.old meter.new }
+    ensures only_memory { IfErr result (λ f. f ≡ Memory) }
 {
     let nothing = Chosen {
         cut: 0,
@@ -236,6 +238,7 @@ fn choose<A: Allocator + Copy>(
         c.cut c.stretch }
     ensures gives_back { GivesAllBack (4096 + share_as reads.limits None) result
         meter.old meter.new }
+    ensures only_memory { IfErr result (λ f. f ≡ Memory) }
 {
     let found = match find(meter, reads, kept, bytes) {
         Ok(found) => found,
@@ -347,7 +350,7 @@ fn take<O: Output, A: Allocator + Copy>(
     requires writes { O.failure_count output < 2 ^ 64 - 1 }
     requires form { reads.form ≡ form_of (kept.old.items ++ part.now) }
     requires some { is_none_left part.now ≡ false }
-    requires stretch { stretch ≢ stretch.Other }
+    requires stretch { stretch ≢ stretches.Other }
     ensures taken { (next : List ℕ)
         → IsStretch reads.profile catalog.now reads.limits reads.form kept.old.items part.now next
         stretch

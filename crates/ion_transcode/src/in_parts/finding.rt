@@ -1,5 +1,5 @@
 //! Where a part may be cut: a guess, of which nothing is proved. What is counted of the part decides.
-ghost use Rattle.std.specs.Prelude.{◌≡◌, ◌+◌, ◌*◌, ◌^◌, ◌<◌, ◌≤◌, ◌≢◌, Err, None};
+ghost use Rattle.std.specs.Prelude.{◌≡◌, ◌+◌, ◌*◌, ◌^◌, ◌<◌, ◌≤◌, ◌≢◌, Err, IfErr, None};
 ghost use Rattle.ion_meter.specs.declared.fault.Fault.TheVariants.{Memory};
 ghost use Rattle.ion_meter.specs.Limits.{AreChecked};
 ghost use Rattle.ion_value.specs.Shares.{Charges};
@@ -124,6 +124,7 @@ fn search<R: RawReader<A>, A: Allocator + Copy>(
     requires fresh { R.failed raw.old ≡ None }
     ensures memory { result ≡ Err Memory → meter.old.refused < meter.new.refused }
     ensures counted { result ≢ Err Memory → meter.new.refused ≡ meter.old.refused }
+    ensures only_memory { IfErr result (λ f. f ≡ Memory) }
     ensures charges { Charges meter.old meter.new (R.own raw.old) (R.own raw.new)
         (R.most raw.old) }
 {
@@ -166,6 +167,7 @@ pub(crate) fn find<A: Allocator + Copy>(
     requires room { HasRoom (2 ^ 48) 0 meter.old }
     ensures gives_back { GivesAllBack (4096 + share_as reads.limits None) result
         meter.old meter.new }
+    ensures only_memory { IfErr result (λ f. f ≡ Memory) }
 {
     let source = match Source::new(meter, reads.limits, Pieces::new(kept, bytes)) {
         Ok(source) => source,

@@ -1,11 +1,12 @@
 -- What calls that give all memory back do one after the other.
-use Rattle.std.proofs.Common.{◌≡◌, ◌≢◌, ◌↔◌, ℕ, ◌+◌, ◌<◌, ◌≤◌, List, [], ◌++◌, Result, Ok, Err, refl, sym, ap, subst, ◌∙◌, arith, append-nil}
+use Rattle.std.proofs.Common.{◌≡◌, ◌≢◌, ◌↔◌, ℕ, ◌+◌, ◌<◌, ◌≤◌, List, [], ◌++◌, Option, Some, None, Result, Ok, Err, refl, sym, ap, subst, ◌∙◌, arith, append-nil}
 use Rattle.std.specs.Prelude.{max}
-use Rattle.ion_meter.specs.Counts.{Counts, IsRefused}
+use Rattle.ion_meter.specs.Counts.{Counts, Grows, Shrinks}
 use Rattle.ion_meter.specs.Windows.{HasPrefix}
 use Rattle.ion_meter.specs.declared.device.Output.{Ghosts as OutputOf}
 use Rattle.ion_meter.specs.declared.fault.Fault.{Fault}
 use Rattle.ion_meter.specs.declared.fault.Fault.TheVariants.{Memory, ReadFault, WriteFault}
+use Rattle.ion_value.specs.Shares.{Charges, ReadCauses, fault_of}
 use Rattle.ion_transcode.specs.PartCalls.{GivesAllBack, Runs}
 
 pub ok-not : {T : Type 0} {x : T} {fault : Fault} → ◌≡◌ {A = Result T Fault} (Ok x) (Err fault) → ⊥
@@ -56,4 +57,20 @@ runs-then first no runs = record {
   steady = runs.steady;
   still_observable = runs.still_observable;
   grown = runs.grown;
+}
+
+-- ---- a reader over a window of its own
+
+fault-is : {T : Type 0} (answer : Result T Fault) (fault : Fault) → fault_of answer ≡ Some fault → answer ≡ Err fault
+fault-is (Ok x) fault e = absurd (cc e)
+fault-is (Err other) fault e = let same : other ≡ fault = cc e in ap Err same
+
+-- a window is made, its bytes are read, and all that was held is given back
+pub reads-back : {T : Type 0} {bound most own failures_old failures_new : ℕ} {exceeds : Type 0} {answer : Result T Fault} {a b c d : Counts} → Grows a b 4096
+    → ReadCauses (fault_of answer) b c failures_old failures_new exceeds → Charges b c 4096 own most → Shrinks c d own → most ≤ bound → 4096 ≤ bound → GivesAllBack bound answer a d
+reads-back {answer = answer} grows causes charges shrinks few some = record {
+  memory = λ e. omega (arith, causes.memory (ap fault_of e), grows.refused, shrinks.refused);
+  counted = λ no. shrinks.refused ∙ causes.counted (λ e. no (fault-is answer Memory e)) ∙ grows.refused;
+  held = omega (arith, grows.held, charges.held, shrinks.held);
+  peak = omega (arith, grows.held, grows.peak, charges.held, charges.peak, shrinks.held, shrinks.peak, few, some);
 }

@@ -192,8 +192,10 @@ module _ (accepted_leaves : WhatIsAcceptedLeavesATable) (values_law : ValuesChan
       let all : Leaves profile catalog limits f part next lead.0 lead.1 = record { items = whole.items; read = whole.read; cut = whole.cut; leads = lead.2 } in
       let leaves : Leaves profile catalog limits form.Text part next lead.0 lead.1 = subst (λ (g : Form). Leaves profile catalog limits g part next lead.0 lead.1) is_text all in
       let items_are : length whole.items ≡ length leaves.items = as-many f form.Text part next next lead.0 lead.1 is_text all leaves in
+      let no_items : length start.leaves.items ≡ 0 = refl in
+      let no_mine : length start.mine ≡ 0 = refl in
       let counted : length lead.0 + length start.leaves.items ≡ length leaves.items + length start.mine =
-      omega (arith, count, items_are, has.own_items.count, has.kept_items.count, ap length mine_is, ap length none_is) in
+      omega (arith, count, items_are, no_items, no_mine, has.own_items.count, has.kept_items.count, ap length mine_is, ap length none_is) in
       subst (λ (g : Form). StandsFor profile catalog limits (beginning g) part next) (sym is_text)
       (values_law profile catalog limits (beginning form.Text) [] part next lead.0 lead.1 start is_text leaves counted)
   values-stand (b ∷ kept) part next out n before own whole has count text (inl none) accepted = absurd (cc none)
@@ -214,8 +216,11 @@ module _ (accepted_leaves : WhatIsAcceptedLeavesATable) (values_law : ValuesChan
         keeps = keeps;
       } in
       let leaves : Leaves profile catalog limits f (b ∷ (kept ++ part)) next lead.0 lead.1 = record { items = whole.items; read = whole.read; cut = whole.cut; leads = lead.2 } in
+      let as_kept : length stands.leaves.items ≡ length keeps.items = refl in
+      let as_whole : length leaves.items ≡ length whole.items = refl in
+      let no_mine : length stands.mine ≡ 0 = refl in
       let counted : length lead.0 + length stands.leaves.items ≡ length leaves.items + length stands.mine =
-      omega (arith, count, has.own_items.count, has.kept_items.count, ap length mine_is, ap length kept_is) in
+      omega (arith, count, as_kept, as_whole, no_mine, has.own_items.count, has.kept_items.count, ap length mine_is, ap length kept_is) in
       values_law profile catalog limits (b ∷ kept) (b ∷ kept) part next lead.0 lead.1 stands refl leaves counted
 
   -- ---- a marker, and user values behind it

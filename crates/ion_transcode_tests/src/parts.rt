@@ -158,6 +158,7 @@ $ion_symbol_table::{symbols:["a"]} [$10]%0A[1]%0A||
 1 /*%0A*/ 2%0A|1 /*%0A*/ 2%0A|%0A
 // a%0A1%0A|// a%0A1%0A|%0A
 1%0A// a%0A|1%0A|%0A
+// a%0A$ion_symbol_table::{symbols:["a"]}%0A[$10]%0A|// a%0A$ion_symbol_table::{symbols:["a"]}%0A[$10]%0A|%0A$ion_symbol_table::{symbols:["a"]}%0A
 $3::{symbols:["a"]}%0A[$10]%0A|$3::{symbols:["a"]}%0A[$10]%0A|$3::{symbols:["a"]}%0A
 $ion_symbol_table::{symbols:["$ion_symbol_table"]}%0A$10::{symbols:["b"]}%0A[$10]%0A|$ion_symbol_table::{symbols:["$ion_symbol_table"]}%0A$10::{symbols:["b"]}%0A[$10]%0A|$ion_symbol_table::{symbols:["$ion_symbol_table"]}%0A$10::{symbols:["b"]}%0A
 "#;

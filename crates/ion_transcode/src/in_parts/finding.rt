@@ -58,10 +58,11 @@ fn sort_of(item: &Item<'_, NoNames>) -> Sort {
     }
 }
 
-/// Whether a stretch whose first value is of one sort may have one of another behind it.
-fn goes_on(stretch: Option<Sort>, sort: Sort) -> bool {
+/// Whether a stretch whose first value is of one sort may have one of another behind it. Before a
+/// declaration, which is kept, what has no value is taken alone, as comments and pads.
+fn goes_on(stretch: Option<Sort>, sort: Sort, begins: bool) -> bool {
     match stretch {
-        None => true,
+        None => begins || sort != Sort::Declaration,
         Some(Sort::Declaration) => sort == Sort::Declaration,
         Some(_) => sort == Sort::Value,
     }
@@ -145,7 +146,7 @@ fn search<R: RawReader<A>, A: Allocator + Copy>(
         if level == 0 && item.top() >= kept as u64 {
             found = with_cut(found, cut_at(form, bytes, in_part(item.top(), kept)));
             let sort = sort_of(&item);
-            if !goes_on(stretch, sort) {
+            if !goes_on(stretch, sort, found.cut == 0) {
                 return Ok(found);
             }
             if stretch.is_none() {

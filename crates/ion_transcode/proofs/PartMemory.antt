@@ -5,7 +5,8 @@ use Rattle.ion_meter.specs.Counts.{Counts, Grows, Shrinks}
 use Rattle.ion_meter.specs.Windows.{HasPrefix}
 use Rattle.ion_meter.specs.declared.device.Output.{Ghosts as OutputOf}
 use Rattle.ion_meter.specs.declared.fault.Fault.{Fault}
-use Rattle.ion_meter.specs.declared.fault.Fault.TheVariants.{Memory, ReadFault, WriteFault}
+use Rattle.ion_meter.specs.declared.fault.Fault.TheVariants.{Refused, Memory, ReadFault, WriteFault, InputLimit}
+use Rattle.ion_meter.specs.declared.fault.Reason.{Reason}
 use Rattle.ion_value.specs.Shares.{Charges, ReadCauses, fault_of}
 use Rattle.ion_transcode.specs.PartCalls.{GivesAllBack, Runs}
 
@@ -74,3 +75,54 @@ reads-back {answer = answer} grows causes charges shrinks few some = record {
   held = omega (arith, grows.held, charges.held, shrinks.held);
   peak = omega (arith, grows.held, grows.peak, charges.held, charges.peak, shrinks.held, shrinks.peak, few, some);
 }
+
+-- ---- a fault that is passed on
+
+abbrev pub IsPlain : Fault → Type 0
+IsPlain fault = (r : Reason) (p : ℕ) → fault ≢ Refused r p
+
+memory-plain : IsPlain Memory
+memory-plain r p e = cc e
+
+reads-plain : IsPlain ReadFault
+reads-plain r p e = cc e
+
+writes-plain : IsPlain WriteFault
+writes-plain r p e = cc e
+
+limit-plain : IsPlain InputLimit
+limit-plain r p e = cc e
+
+module _ {S T : Type 0} (outcome : Result S Fault) (fault back : Fault) (is : outcome ≡ Err fault) (from : IsPlain back → fault ≡ back) (same : IsPlain fault → back ≡ fault) where
+  -- the fault of one answer is that of the other
+  there : (f : Fault) → IsPlain f → ◌≡◌ {A = Result T Fault} (Err back) (Err f) → outcome ≡ Err f
+  there f plain e =
+      let back_is : back ≡ f = cc e in
+      is ∙ ap Err (from (subst (λ k. IsPlain k) (sym back_is) plain) ∙ back_is)
+
+  here : (f : Fault) → IsPlain f → outcome ≡ Err f → ◌≡◌ {A = Result T Fault} (Err back) (Err f)
+  here f plain e =
+      let both : ◌≡◌ {A = Result S Fault} (Err fault) (Err f) = sym is ∙ e in
+      let fault_is : fault ≡ f = cc both in
+      ap Err (same (subst (λ k. IsPlain k) (sym fault_is) plain) ∙ fault_is)
+
+  pub passed-limit : ◌≡◌ {A = Result T Fault} (Err back) (Err InputLimit) → outcome ≡ Err InputLimit
+  passed-limit e = there InputLimit limit-plain e
+
+  pub passed-runs : {O : Type 0} {most : ℕ} {a b : Counts} {output : OutputOf O} {before after : O} → (outcome ≡ Err Memory → a.refused < b.refused) → (outcome ≢ Err Memory → b.refused ≡ a.refused)
+      → b.held ≡ a.held → b.peak ≤ max a.peak (a.held + most) → outcome ≢ Err ReadFault → (outcome ≡ Err WriteFault → output.failure_count after ≡ output.failure_count before + 1)
+      → (outcome ≢ Err WriteFault → output.failure_count after ≡ output.failure_count before) → (output.observable after ↔ output.observable before)
+      → (output.observable before → HasPrefix (output.written after) (output.written before)) → Runs {T = T} most (Err back) a b output before after
+  passed-runs memory counted held peak no_reads write steady observable grown = record {
+    gives_back = record {
+      memory = λ e. memory (there Memory memory-plain e);
+      counted = λ no. counted (λ e. no (here Memory memory-plain e));
+      held = held;
+      peak = peak;
+    };
+    no_reads = λ e. no_reads (there ReadFault reads-plain e);
+    write = λ e. write (there WriteFault writes-plain e);
+    steady = λ no. steady (λ e. no (here WriteFault writes-plain e));
+    still_observable = observable;
+    grown = grown;
+  }

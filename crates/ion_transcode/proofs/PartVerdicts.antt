@@ -15,6 +15,11 @@ use Rattle.ion_transcode.specs.Forms.{form_of}
 use Rattle.ion_transcode.specs.PartCalls.{IsKept, IsRefused, IsStretch, TakesAll, Takes, then_kept, StretchesAreTaken, RefusedStretchesStand, RefusalsComeBehind}
 use Rattle.ion_transcode.specs.Verdict.{HasVerdictWith, IsWrittenWith}
 
+-- what is kept behind a stretch, in the place of what was kept or behind it
+pub kept-now : (goes : Bool) (now all kept more : List ℕ) → (goes ≡ true → now ≡ more) → (goes ≡ false → now ≡ kept ++ more) → (goes ≡ true → all ≡ more) → (goes ≡ false → all ≡ kept ++ more) → now ≡ all
+kept-now true now all kept more there behind all_there all_behind = there refl ∙ sym (all_there refl)
+kept-now false now all kept more there behind all_there all_behind = behind refl ∙ sym (all_behind refl)
+
 module _ (profile : Profile) (catalog : List Shared) (limits : Limits) (to : To) (kept part : List ℕ) (observable : Type 0) (before after : List ℕ) where
   -- the last part is refused
   pub refused-last : RefusalsComeBehind → (reason : Reason) (place at : ℕ) → place ≡ at - length kept

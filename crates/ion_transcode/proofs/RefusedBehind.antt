@@ -9,12 +9,15 @@ use Rattle.ion_value.specs.Items.{is_none_left}
 use Rattle.ion_value.specs.Outcome.{Verdict, Accepted, Rejected, values_in, verdict_with, verdict_after}
 use Rattle.ion_value.specs.Reading.{Reading, Finished, Stopped, More, items_then}
 use Rattle.ion_value.specs.Value as value
+use Rattle.ion_value.specs.Writable.{field_symbols, scalar_symbols}
+use Rattle.ion_symbols.specs.Output.{texts_cost}
+use Rattle.ion_binary.specs.Canonical.{with_symbol}
 use Rattle.ion_value.specs.Value.{SymbolAt, UserSymbol, Scalar, Head, PlacedItem, map_scalar, map_head, user_item, user_symbol_at}
 use Rattle.ion_symbols.specs.Onward.{UsersReadOn, UsersHangOnNoPlace}
 use Rattle.ion_symbols.specs.Table.{Shared}
 use Rattle.ion_symbols.specs.Users.{at_start, users}
 use Rattle.ion_binary.specs.Cuts.{WholeValuesAreCut, PartsAreRead}
-use Rattle.ion_binary.specs.Writing.{field_symbols, scalar_symbols, head_symbols, item_symbols, first_over, too_long, refused_by, refused_at, binary_refusal}
+use Rattle.ion_binary.specs.Writing.{head_symbols, item_symbols, first_over, too_long, refused_by, refused_at, binary_refusal}
 use Rattle.ion_text_in.specs.Firm.{CutWhereOneBegins, CutAfterFirm, PartsAreTexts}
 use Rattle.ion_text_out.specs.Layout.{pretty}
 use Rattle.ion_transcode.specs.declared.to.Form.{Form}
@@ -79,10 +82,14 @@ if-far false far here p later is more e = more e
 
 over-far : (limit far : ℕ) (texts : List (List ℕ)) (ss : List SymbolAt) (p : ℕ) → AllFar far ss → first_over limit texts ss ≡ Some p → far ≤ p
 over-far limit far texts [] p all e = absurd (cc e)
-over-far limit far texts (s ∷ ss) p all e = if-far _ far s.place p _ all.0 (λ e. over-far limit far _ ss p all.1 e) e
+over-far limit far texts (s ∷ ss) p all e = 
+    let more : List (List ℕ) = with_symbol texts (user_symbol_at s) in
+    if-far (nat_lt limit (texts_cost more)) far s.place p (first_over limit more ss) all.0 (λ e. over-far limit far more ss p all.1 e) e
 
 place-of : (r s : Reason) (p q : ℕ) → ◌≡◌ {A = Option (Reason × ℕ)} (Some (r, p)) (Some (s, q)) → p ≡ q
-place-of r s p q e = cc e
+place-of r s p q e =
+    let pairs : ◌≡◌ {A = Reason × ℕ} (r, p) (s, q) = cc e in
+    ap (λ (w : Reason × ℕ). w.1) pairs
 
 long-far : (b : Bool) (far top p : ℕ) (reason : Reason) → far ≤ top → ◌≡◌ {A = Option (Reason × ℕ)} (if b then Some (ValueLimit, top) else None) (Some (reason, p)) → far ≤ p
 long-far true far top p reason is e = subst (λ n. far ≤ n) (place-of ValueLimit reason top p e) is
@@ -105,7 +112,7 @@ binary-far limits far path i reason p e =
 target-far : (t : Target) (limits : Limits) (far : ℕ) → IsFar (by_item t limits).refusal far
 target-far target.Text limits far path i reason p e = absurd (cc e)
 target-far target.Pretty limits far path i reason p e = absurd (cc e)
-target-far target.Binary limits far = binary-far limits far
+target-far target.Binary limits far path i reason p e = binary-far limits far path i reason p e
 target-far target.Nothing limits far path i reason p e = absurd (cc e)
 
 -- ---- the verdict

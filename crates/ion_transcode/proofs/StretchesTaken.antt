@@ -89,7 +89,7 @@ begins-leaves : (profile : Profile) (catalog : List Shared) (limits : Limits) (f
 begins-leaves profile catalog limits form.Binary = record { items = bare_item value.marker 0 0 ∷ []; read = marker-in-binary profile limits; cut = refl; leads = refl }
 begins-leaves profile catalog limits form.Text = record { items = []; read = line-in-text profile limits; cut = refl; leads = refl }
 
-none-leaves : (profile : Profile) (catalog : List Shared) (limits : Limits) (part : List ℕ) → Leaves profile catalog limits form.Text [] part [] system
+abbrev none-leaves : (profile : Profile) (catalog : List Shared) (limits : Limits) (part : List ℕ) → Leaves profile catalog limits form.Text [] part [] system
 none-leaves profile catalog limits part = record { items = []; read = none-in-text profile limits; cut = refl; leads = refl }
 
 -- ---- where items lead

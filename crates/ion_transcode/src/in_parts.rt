@@ -285,6 +285,7 @@ fn behind(fault: Fault, kept: usize) -> Fault
     ensures refused { (r : Reason) (p : ℕ) → result ≡ Refused r p
         → (q : ℕ) × (fault ≡ Refused r q) × (p ≡ q - kept) }
     ensures same { ((r : Reason) (p : ℕ) → fault ≢ Refused r p) → result ≡ fault }
+    ensures from { ((r : Reason) (p : ℕ) → result ≢ Refused r p) → fault ≡ result }
 {
     match fault {
         Fault::Refused(reason, place) => Fault::Refused(reason, place.saturating_sub(kept as u64)),
@@ -377,10 +378,13 @@ fn take<O: Output, A: Allocator + Copy>(
         return (Err(Fault::Memory), output);
     }
     let (outcome, output) = run_behind(meter, catalog, reads, to, kept.as_slice(), part, output);
-    if outcome.is_ok() {
-        keep(kept, goes, more);
+    match outcome {
+        Err(fault) => (Err(fault), output),
+        Ok(taken) => {
+            keep(kept, goes, more);
+            (Ok(taken), output)
+        }
     }
-    (outcome, output)
 }
 
 /// Runs what can be taken of a part that is not the last.
@@ -461,27 +465,27 @@ pub fn run_part<O: Output, A: Allocator + Copy>(
     // What is taken of a part that is not the last, where what is kept is nothing, or what a call kept:
     // the first bytes, which are accepted, and their output is written after what was there. Then what is
     // kept stands for all bytes so far. Where no bytes are taken, nothing else is done.
-    ensures taken { part.last ≡ false → IsKept profile catalog.now limits kept.old.items
+    ensures taken { part.entry.last ≡ false → IsKept profile catalog.now limits kept.old.items
         → (t : code.Taken) → result.0 ≡ Ok t → 0 < t.bytes
-        → Takes profile catalog.now limits to kept.old.items part.bytes.now t.bytes t.values
+        → Takes profile catalog.now limits to kept.old.items part.entry.bytes.now t.bytes t.values
         kept.new.items (O.observable output) (O.written output) (O.written result.1) }
-    ensures nothing { part.last ≡ false → (t : code.Taken) → result.0 ≡ Ok t → t.bytes ≡ 0
+    ensures nothing { part.entry.last ≡ false → (t : code.Taken) → result.0 ≡ Ok t → t.bytes ≡ 0
         → (t.values ≡ 0) × (kept.new.items ≡ kept.old.items) × (result.1 ≡ output) }
 
     // The verdict on the last part is that on all of it behind what is kept.
-    ensures whole { part.last ≡ true → (t : code.Taken) → result.0 ≡ Ok t
-        → (t.bytes ≡ length part.bytes.now)
-        × IsWrittenWith profile catalog.now limits to (kept.old.items ++ part.bytes.now)
+    ensures whole { part.entry.last ≡ true → (t : code.Taken) → result.0 ≡ Ok t
+        → (t.bytes ≡ length part.entry.bytes.now)
+        × IsWrittenWith profile catalog.now limits to (kept.old.items ++ part.entry.bytes.now)
         (Accepted t.values) (O.observable output) (O.written output) (O.written result.1) }
 
     // A refusal stands whatever follows, and its place is counted from the first byte of the part.
     ensures refused { (r : Reason) (p : ℕ) → result.0 ≡ Err (Refused r p)
-        → IsRefused profile catalog.now limits to kept.old.items part.bytes.now part.last r p
+        → IsRefused profile catalog.now limits to kept.old.items part.entry.bytes.now part.entry.last r p
         (O.observable output) (O.written output) (O.written result.1) }
 
     // What is kept stays but where a part that is not the last is taken.
     ensures stays { OnErr result.0 (kept.new.items ≡ kept.old.items) }
-    ensures stays_last { part.last ≡ true → kept.new.items ≡ kept.old.items }
+    ensures stays_last { part.entry.last ≡ true → kept.new.items ≡ kept.old.items }
 
     // Faults, only where they occurred.
     ensures memory { result.0 ≡ Err Memory → meter.old.refused < meter.new.refused }
@@ -494,7 +498,7 @@ pub fn run_part<O: Output, A: Allocator + Copy>(
     ensures still_observable { O.observable result.1 ↔ O.observable output }
     ensures grown { O.observable output → HasPrefix (O.written result.1) (O.written output) }
     ensures limit { result.0 ≡ Err InputLimit
-        → limits.input < length (kept.old.items ++ part.bytes.now) }
+        → limits.input < length (kept.old.items ++ part.entry.bytes.now) }
 
     // Memory: all of it is given back, and no more was held than the bound of a run.
     ensures held { meter.new.held ≡ meter.old.held }

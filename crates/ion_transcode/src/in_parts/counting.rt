@@ -157,7 +157,7 @@ pub(crate) fn count<A: Allocator + Copy>(
     requires checked { AreChecked reads.limits }
     requires room { HasRoom (2 ^ 48) 0 meter.old }
     ensures counts { (c : code.Counted) → result ≡ Ok c
-        → IsCounted at (reading_of reads.profile reads.form reads.limits input) c }
+        → IsCounted at (reading_of reads.profile reads.form reads.limits input.entry) c }
     ensures gives_back { GivesAllBack (4096 + share_as reads.limits None) result
         meter.old meter.new }
 {
@@ -191,9 +191,9 @@ pub(crate) fn count_own_items<A: Allocator + Copy>(
     requires checked { AreChecked reads.limits }
     requires room { HasRoom (2 ^ 48) 0 meter.old }
     ensures counts { (n : ℕ) → result ≡ Ok n
-        → HasCount (own_reading reads.profile catalog.now reads.limits reads.form input) n }
+        → HasCount (own_reading reads.profile catalog.now reads.limits reads.form input.entry) n }
     ensures refuses { (r : Reason) (p : ℕ) → result ≡ Err (Refused r p)
-        → ending_of (own_reading reads.profile catalog.now reads.limits reads.form input)
+        → ending_of (own_reading reads.profile catalog.now reads.limits reads.form input.entry)
         ≡ Stopped r p }
     ensures gives_back { GivesAllBack (4096 + share_as reads.limits None) result
         meter.old meter.new }

@@ -13,7 +13,7 @@ use Rattle.ion_value.specs.Value as value
 use Rattle.ion_value.specs.Value.{Symbol, SymbolAt, Scalar, Head, PlacedItem}
 use Rattle.ion_value.proofs.Readings.{reading_by-step}
 use Rattle.ion_text_in.specs.Blanks.{is_white, blanks}
-use Rattle.ion_text_in.specs.Firm.{ends_line, is_firm, begins_value, head_goes_on, last_goes_on, LinesAreReadApart, NoneGoesOn, FirmEnds, CutWhereOneBegins, CutAfterFirm}
+use Rattle.ion_text_in.specs.Firm.{ends_line, is_firm, cannot_go_on, head_goes_on, last_goes_on, LinesAreReadApart, NoneGoesOn, FirmEnds, CutWhereOneBegins, CutAfterFirm}
 use Rattle.ion_text_in.specs.Meaning as cursors
 use Rattle.ion_text_in.specs.Positions.{at, Wants, a_value, a_field, a_separator, State}
 use Rattle.ion_text_in.specs.Quoted.{long_quote, next_segment}
@@ -368,7 +368,7 @@ cut-by limits y z items e line quiet =
 
 pub cut-where-one-begins : CutWhereOneBegins
 cut-where-one-begins limits y z items e line begins =
-    cut-by limits y z items e line (λ c is. none-goes-on c.place c.rest items (ap begins_value is ∙ begins))
+    cut-by limits y z items e line (λ c is. none-goes-on c.place c.rest items (ap cannot_go_on is ∙ begins))
 
 pub cut-after-firm : CutAfterFirm
 cut-after-firm limits y z items e line firm = cut-by limits y z items e line (λ c is. firm-ends c items firm)

@@ -31,7 +31,7 @@ charges-then a b c k l n most there x y =
       rises = omega (arith, rx, ry);
     }
 
-exceeds-then : {I : Type 0} (device : InputOf I) (s t : Incoming I) → Moves device s t → Exceeds device t → Exceeds device s
+pub exceeds-then : {I : Type 0} (device : InputOf I) (s t : Incoming I) → Moves device s t → Exceeds device t → Exceeds device s
 exceeds-then device s t moves exceeds = λ h.
     let over = exceeds (moves.still_observable.1 h) in
     let total = moves.total h in

@@ -35,6 +35,7 @@ pub mod Looking
 pub mod Holding
 pub mod Taking
 pub mod Gathering
+mod GatherCalls
 pub mod Segments
 pub mod Utf8
 pub mod SegmentTexts

@@ -6,7 +6,7 @@ use Rattle.ion_meter.specs.Windows.{Incoming, left, lent, Extends, IsGiven, IsPa
 use Rattle.ion_meter.specs.Sources.{Cursor, cursor, Stands, Moves}
 use Rattle.ion_meter.proofs.Lent.{lent-CanPass, lent-take, lent-IsGiven, IsPassed-left}
 use Rattle.ion_value.specs.Calls.{Reads}
-use Rattle.ion_value.proofs.Cursors.{moves-then}
+use Rattle.ion_value.proofs.Cursors.{moves-then, extends-moves}
 use Rattle.ion_value.proofs.Passing.{Passed-lent}
 use Rattle.ion_text_in.specs.Meaning.{at}
 use Rattle.ion_text_in.proofs.Shown.{after_lent, lent-left}
@@ -23,6 +23,22 @@ gone-then device s t u a b = record { stands = b.stands; moves = moves-then devi
 -- a call that gave something
 pub reads-gone : {I T : Type 0} (device : InputOf I) (s t : Incoming I) (x : T) → Reads device s t (Ok x) → Gone device s t
 reads-gone device s t x reads = record { stands = reads.stands; moves = reads.moves; steady = reads.causes.steady (λ e. cc e) }
+
+pub gone-reads : {I T : Type 0} (device : InputOf I) (s t : Incoming I) {x : T} → Gone device s t → Reads device s t (Ok x)
+gone-reads device s t gone = record {
+  stands = gone.stands;
+  moves = gone.moves;
+  causes = record { device = λ e. absurd (cc e); steady = λ _. gone.steady; limit = λ e. absurd (cc e); no_memory = λ e. cc e; no_writes = λ e. cc e };
+}
+
+-- a call that passed over nothing
+pub gone-more : {I : Type 0} (device : InputOf I) (s p : Incoming I) → Stands s → Extends device s p → p.fault ≡ None → device.failure_count p.device ≡ device.failure_count s.device + 0
+    → Gone device s p
+gone-more device s p stands kept well steady = record {
+  stands = record { well = well; within = omega (arith, kept.place, kept.limit, stands.within); small = omega (arith, kept.limit, stands.small) };
+  moves = extends-moves device s p kept;
+  steady = omega (arith, steady);
+}
 
 -- bytes were passed over
 pub record Turn {I : Type 0} (device : InputOf I) (old new : Incoming I) (run : List ℕ) : Type 0 where

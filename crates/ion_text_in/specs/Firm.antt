@@ -41,10 +41,11 @@ ends_firmly (item ∷ next ∷ items) = ends_firmly (next ∷ items)
 
 -- ---- after a cut
 
--- a byte is there, and it is no white space, no slash that may begin a comment, no colon and no quote
-abbrev pub begins_value : List ℕ → Bool
-begins_value [] = false
-begins_value (b ∷ bytes) = not (is_white b || is_one_of (codes "'/:") b)
+-- no value before these bytes can go on with them: a byte is there, and it is no white space, no slash that may begin a comment, no colon
+-- and no quote
+abbrev pub cannot_go_on : List ℕ → Bool
+cannot_go_on [] = false
+cannot_go_on (b ∷ bytes) = not (is_white b || is_one_of (codes "'/:") b)
 
 -- what a scalar may go on with stands after blanks: two colons, or the quotes of a further segment
 abbrev pub scalar_goes_on : Scalar SymbolAt → Cursor → Bool
@@ -79,18 +80,18 @@ LinesAreReadApart =
     (limits : Rules) (place : ℕ) (y z : List ℕ) (items : List PlacedItem) → ends_line y ≡ true → last_goes_on items (at (place + length y) z) ≡ false
     → AreReadApart limits place y z items
 
--- no value goes on with what begins another
+-- where that test holds, none goes on
 abbrev pub NoneGoesOn : Type 0
-NoneGoesOn = (place : ℕ) (z : List ℕ) (items : List PlacedItem) → begins_value z ≡ true → last_goes_on items (at place z) ≡ false
+NoneGoesOn = (place : ℕ) (z : List ℕ) (items : List PlacedItem) → cannot_go_on z ≡ true → last_goes_on items (at place z) ≡ false
 
 -- nor does a firm value go on with anything
 abbrev pub FirmEnds : Type 0
 FirmEnds = (c : Cursor) (items : List PlacedItem) → ends_firmly items ≡ true → last_goes_on items c ≡ false
 
--- so a text may be cut where a line ends and a value begins after it
+-- so a text may be cut where a line ends and no value can go on after it
 abbrev pub CutWhereOneBegins : Type 0
 CutWhereOneBegins =
-    (limits : Rules) (y z : List ℕ) (items : List PlacedItem) → reading limits y ≡ items_then items Finished → ends_line y ≡ true → begins_value z ≡ true
+    (limits : Rules) (y z : List ℕ) (items : List PlacedItem) → reading limits y ≡ items_then items Finished → ends_line y ≡ true → cannot_go_on z ≡ true
     → reading limits (y ++ z) ≡ items_then items (reading_from limits (at (length y) z))
 
 -- and, whatever stands after it, where a line ends and the last value before it is firm

@@ -225,16 +225,18 @@ pub fn values_read_are_within_limits()
     what_is_read_is_within_limits();
 }
 
-/// Where a line ends, a text may be cut, and each part is read by itself, unless its last value before
-/// the cut goes on after it: a symbol by two colons, a string by a further segment.
+/// Where the first bytes of a text are read to their end, which is the end of a line, the text may be
+/// cut behind them, and each part is read by itself, unless the last value before the cut goes on after
+/// it: a symbol by two colons, a string by a further segment.
 pub fn lines_are_read_apart()
     ensures apart { LinesAreReadApart }
     ensures begun { NoneGoesOn }
     ensures firm { FirmEnds }
 {}
 
-/// So it may be cut where a line ends and a value begins, and whatever follows where a line ends and
-/// the last value before is no symbol, no string and no version marker.
+/// So, where the first bytes are read to their end and a line ends there, the text may be cut if what
+/// follows begins with a byte with which no value goes on. Whatever follows, it may be cut if the last
+/// value before is no symbol, no string and no version marker.
 pub fn lines_are_cut()
     ensures begun { CutWhereOneBegins }
     ensures firm { CutAfterFirm }

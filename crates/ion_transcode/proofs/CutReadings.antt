@@ -12,7 +12,7 @@ use Rattle.ion_symbols.specs.Onward.{at_top, UsersReadOn, UsersHangOnNoPlace}
 use Rattle.ion_symbols.specs.Table.{Shared, Table}
 use Rattle.ion_symbols.specs.Users.{at_start, users}
 use Rattle.ion_binary.specs.Cuts.{WholeValuesAreCut, PartsAreRead}
-use Rattle.ion_text_in.specs.Firm.{ends_line, ends_firmly, begins_value, CutWhereOneBegins, CutAfterFirm, PartsAreTexts}
+use Rattle.ion_text_in.specs.Firm.{ends_line, ends_firmly, cannot_go_on, CutWhereOneBegins, CutAfterFirm, PartsAreTexts}
 use Rattle.ion_transcode.specs.declared.to.Form.{Form}
 use Rattle.ion_transcode.specs.declared.to.Form.TheVariants as form
 use Rattle.ion_transcode.specs.Forms.{form_of, reading_of}
@@ -32,14 +32,14 @@ with_one true true c d more e = refl
 with_one true false c d more e = more e
 with_one false b c d more e = absurd (cc e)
 
-begins-more : (next bytes : List ℕ) → HasPrefix bytes next → begins_value next ≡ true → begins_value bytes ≡ true
+begins-more : (next bytes : List ℕ) → HasPrefix bytes next → cannot_go_on next ≡ true → cannot_go_on bytes ≡ true
 begins-more [] bytes is e = absurd (cc e)
-begins-more (b ∷ next) bytes is e = ap begins_value is.1 ∙ e
+begins-more (b ∷ next) bytes is e = ap cannot_go_on is.1 ∙ e
 
 -- with more bytes behind it a cut stays one
 pub cut-more : (f : Form) (items : List PlacedItem) (bytes next all : List ℕ) → HasPrefix all next → is_cut f items bytes next ≡ true → is_cut f items bytes all ≡ true
 cut-more form.Binary items bytes next all is e = refl
-cut-more form.Text items bytes next all is e = with_one (ends_line bytes) (ends_firmly items) (begins_value next) (begins_value all) (begins-more next all is) e
+cut-more form.Text items bytes next all is e = with_one (ends_line bytes) (ends_firmly items) (cannot_go_on next) (cannot_go_on all) (begins-more next all is) e
 
 -- where none follow a cut is one whatever follows
 none-first : (bytes : List ℕ) → HasPrefix bytes []
@@ -66,10 +66,10 @@ module _ (whole_cut : WholeValuesAreCut) (parts_read : PartsAreRead) (begun : Cu
   reading-cut profile form.Binary limits y z items e is =
       whole_cut (rules limits profile) y z items e ∙ ap (items_then items) (parts_read (rules limits profile) (length y) z)
   reading-cut profile form.Text limits y z items e is =
-      let tests = three (ends_line y) (ends_firmly items) (begins_value z) is in
+      let tests = three (ends_line y) (ends_firmly items) (cannot_go_on z) is in
       by tests.0 tests.1
     where
-      by : ends_line y ≡ true → (ends_firmly items ≡ true) ⊎ (begins_value z ≡ true)
+      by : ends_line y ≡ true → (ends_firmly items ≡ true) ⊎ (cannot_go_on z ≡ true)
           → reading_of profile form.Text limits (y ++ z) ≡ items_then items (further (length y) (reading_of profile form.Text limits z))
       by line (inl last) = firm (rules limits profile) y z items e line last ∙ ap (items_then items) (parts_texts (rules limits profile) (length y) z)
       by line (inr next) = begun (rules limits profile) y z items e line next ∙ ap (items_then items) (parts_texts (rules limits profile) (length y) z)

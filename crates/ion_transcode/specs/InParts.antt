@@ -18,7 +18,7 @@ use Rattle.ion_symbols.specs.Onward.{LeadTo, AreAlike, declarations}
 use Rattle.ion_symbols.specs.Table.{Shared, Table}
 use Rattle.ion_symbols.specs.UserValues.{CatalogIsText}
 use Rattle.ion_binary.specs.WrittenLimits.{AllowDeclarations}
-use Rattle.ion_text_in.specs.Firm.{ends_line, ends_firmly, begins_value}
+use Rattle.ion_text_in.specs.Firm.{ends_line, ends_firmly, cannot_go_on}
 use Rattle.ion_transcode.specs.declared.to.Form.{Form}
 use Rattle.ion_transcode.specs.declared.to.Form.TheVariants as forms
 use Rattle.ion_transcode.specs.declared.to.To.{To}
@@ -32,10 +32,10 @@ use Rattle.ion_transcode.specs.Verdict.{HasVerdictWith}
 -- ---- where a stream may be cut
 
 -- what follows bytes that are read to their end, as these items, changes nothing in them: in binary whatever it is; in text where a line
--- ends, if their last value is firm, or if a value begins behind them, where these bytes follow
+-- ends, if their last value is firm, or if none can go on behind them, where these bytes follow
 abbrev pub is_cut : Form → List PlacedItem → List ℕ → List ℕ → Bool
 is_cut forms.Binary items bytes next = true
-is_cut forms.Text items bytes next = ends_line bytes && (ends_firmly items || begins_value next)
+is_cut forms.Text items bytes next = ends_line bytes && (ends_firmly items || cannot_go_on next)
 
 -- bytes of a form are read to their end, may be cut behind it where these follow, and leave a symbol table at top level, with which
 -- these items of user values stand before it

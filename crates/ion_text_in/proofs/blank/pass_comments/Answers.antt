@@ -1,4 +1,5 @@
 use Rattle.std.proofs.Common.{◌≡◌, ℕ, ◌+◌, ◌≤◌, List, [], length, drop, refl, Option, None, Some, IfSome, Ok, slice_get, false, sym, ap, ◌∙◌, arith}
+use Rattle.std.proofs.lemmas.Grind.{common_steps}
 use Rattle.ion_meter.specs.Windows.{Incoming, left, lent, IsGiven}
 use Rattle.ion_meter.specs.Sources.{Cursor, cursor}
 use Rattle.ion_meter.proofs.Extending.{extends-then}
@@ -12,7 +13,7 @@ use Rattle.ion_text_in.specs.Overrun.{begun, overrun, stays_in, within}
 use Rattle.ion_text_in.specs.Places.{after_run}
 use Rattle.ion_text_in.proofs.BlankTurns.{after-ends, ends-before, turned-off, turned-on, within-after, within-end}
 use Rattle.ion_text_in.proofs.Runs.{first-off, no-byte}
-use Rattle.ion_text_in.proofs.Turns.{given-kept, gone-then, reads-gone}
+use Rattle.ion_text_in.proofs.Turns.{given-kept, gone-then, reads-gone, gone-more, gone-reads}
 use Rattle.ion_text_in.proofs.blank.pass_comments.Goals as goal
 
 pub returns-in_default-clause-gives : goal.returns-in_default-clause-gives
@@ -122,3 +123,44 @@ blanks-preserved g c =
           ∙ ap (λ (n : ℕ). within next c.begun-start.result (at n (drop count (left device.rest w)))) (sym over.place)
           ∙ ap (λ (l : List ℕ). within next c.begun-start.result (at u.place l)) (sym (over.after at_run));
     }
+
+pub consume-requires : goal.consume-requires
+consume-requires g c = grind (arith, common_steps)
+
+pub returns-then-ends_blanks-clause-reads : goal.returns-then-ends_blanks-clause-reads
+returns-then-ends_blanks-clause-reads g c =
+    let device = g.I.Input in
+    let s = c.args.source.now in
+    let b = c.blanks.source in
+    let r = c.pass_run.new.source in
+    let p = c.peek.new.self in
+    let first = c.in_ok-first.ensures in
+    let run = gone-then device s b r c.blanks.invariant.gone (reads-gone device b r c.in_ok-pass_run.field-0 c.in_ok-pass_run.ensures.reads) in
+    let seen = gone-then device s r p run (gone-more device r p run.stands first.kept first.well.1 (rw run.stands.well at first.count)) in
+    gone-reads device s p seen
+
+pub returns-in_default-clause-reads : goal.returns-in_default-clause-reads
+returns-in_default-clause-reads g c =
+    let device = g.I.Input in
+    let s = c.args.source.now in
+    let b = c.blanks.source in
+    let r = c.pass_run.new.source in
+    let p = c.peek.new.self in
+    let first = c.in_ok-first.ensures in
+    let run = gone-then device s b r c.blanks.invariant.gone (reads-gone device b r c.in_ok-pass_run.field-0 c.in_ok-pass_run.ensures.reads) in
+    let seen = gone-then device s r p run (gone-more device r p run.stands first.kept first.well.1 (rw run.stands.well at first.count)) in
+    gone-reads device s p seen
+
+pub returns-in_default-turn-clause-reads : goal.returns-in_default-turn-clause-reads
+returns-in_default-turn-clause-reads g c =
+    let device = g.I.Input in
+    let s = c.args.source.now in
+    let b = c.blanks.source in
+    let r = c.pass_run.new.source in
+    let p = c.peek.new.self in
+    let first = c.in_ok-first.ensures in
+    let run = gone-then device s b r c.blanks.invariant.gone (reads-gone device b r c.in_ok-pass_run.field-0 c.in_ok-pass_run.ensures.reads) in
+    let seen = gone-then device s r p run (gone-more device r p run.stands first.kept first.well.1 (rw run.stands.well at first.count)) in
+    let q = c.peek-in-blanks.new.self in
+    let next = c.in_ok-peek.ensures in
+    gone-reads device s q (gone-then device s p q seen (gone-more device p q seen.stands next.kept next.well.1 (rw seen.stands.well at next.count)))

@@ -1,4 +1,5 @@
-use Rattle.std.proofs.Common.{◌≡◌, ◌∙◌, List, ℕ, [], MatchOption, sym, ap, subst}
+use Rattle.std.proofs.Common.{◌≡◌, ◌∙◌, List, ℕ, [], MatchOption, sym, ap, subst, arith}
+use Rattle.std.proofs.lemmas.Grind.{common_steps}
 use Rattle.ion_meter.specs.Windows.{left, lent}
 use Rattle.ion_value.proofs.Cursors.{cursor-extends}
 use Rattle.ion_text_in.specs.Firsts.{first_of}
@@ -8,6 +9,7 @@ use Rattle.ion_meter.specs.Sources.{Cursor}
 use Rattle.ion_text_in.proofs.FirstTokens.{first-left}
 use Rattle.ion_text_in.proofs.Looking.{lent-all}
 use Rattle.ion_text_in.proofs.Shown.{lent-left}
+use Rattle.ion_text_in.proofs.Turns.{gone-then, gone-more, gone-reads}
 use Rattle.ion_text_in.proofs.first.next_ahead.Goals as goal
 
 pub returns-in-Some-clause-ahead : goal.returns-in-Some-clause-ahead
@@ -34,3 +36,22 @@ returns-in_default-2-clause-ahead g c = λ h.
       used_up = rw (peek.kept.same_left seen) (inv.used_up h);
       first = subst (λ (l : List ℕ). MatchOption c.ended_first-first.result (l ≡ []) (λ f. first_at c.args.in_sexp l ≡ first_of f)) (c.buffer.ensures ∙ all) c.ended_first-first.ensures.first;
     }
+
+pub more-smaller : goal.more-smaller
+more-smaller g c = grind (arith, common_steps)
+
+pub more-init : goal.more-init
+more-init g c = grind (arith, common_steps)
+
+pub returns-in-Some-clause-reads : goal.returns-in-Some-clause-reads
+returns-in-Some-clause-reads g c = gone-reads g.I.Input c.args.source.now c.more.source c.more.invariant.gone
+
+pub returns-in_default-2-clause-reads : goal.returns-in_default-2-clause-reads
+returns-in_default-2-clause-reads g c =
+    let device = g.I.Input in
+    let s = c.args.source.now in
+    let t = c.more.source in
+    let p = c.peek.new.self in
+    let gone = c.more.invariant.gone in
+    let peek = c.in_ok-peek.ensures in
+    gone-reads device s p (gone-then device s t p gone (gone-more device t p gone.stands peek.kept peek.well.1 (rw gone.stands.well at peek.count)))

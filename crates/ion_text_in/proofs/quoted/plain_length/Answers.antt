@@ -1,4 +1,5 @@
 use Rattle.std.proofs.Common.{◌+◌, ◌∙◌, slice_index, sym, arith}
+use Rattle.std.proofs.lemmas.Grind.{common_steps}
 use lib.Count.{count_trailing_zeros}
 use Rattle.ion_text_in.specs.Scanning.{is_plain_byte}
 use Rattle.ion_text_in.specs.Quotes.{quote_of}
@@ -39,3 +40,6 @@ returns-then-byte-ge32-clause-ends c =
       | then-byte-ge32-via-then-byte-ge32 w ↦ suspect-other c.args.quote (slice_index c.args.bytes.now (c.skip.at + count_trailing_zeros 64 c.suspects-suspects.result)) run.2 w.if-byte-ge32.true
       | then-byte-ge32-via-else-byte-ge32+then-not-is_plain_alone w ↦ sym w.is_plain_alone.ensures ∙ w.if-not-is_plain_alone.true
     ])
+
+pub few-preserved : goal.few-preserved
+few-preserved c = grind (arith, common_steps)

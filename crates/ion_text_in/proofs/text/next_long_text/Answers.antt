@@ -1,10 +1,10 @@
-use Rattle.std.proofs.Common.{◌≡◌, ◌∙◌, Bool, true, false, Some, None, Ok, sym, ap, arith}
-use Rattle.std.proofs.lemmas.Grind.{common_steps}
+use Rattle.std.proofs.Common.{◌≡◌, ◌∙◌, Bool, true, false, Some, None, Ok, Err, sym, ap}
 use Rattle.ion_meter.specs.Sources.{Cursor, cursor, skip}
 use Rattle.ion_text_in.specs.Overrun.{overrun}
 use Rattle.ion_text_in.specs.Quotes.{quote_of}
 use Rattle.ion_text_in.specs.Gathered.{passed}
 use Rattle.ion_text_in.proofs.Quotes.{quote_of-is}
+use Rattle.ion_text_in.proofs.GatherCalls.{gathers-then, gathers-read, gathers-over, gathers-as, gathers-fault}
 use Rattle.ion_text_in.proofs.Holding.{handed-on}
 use Rattle.ion_text_in.proofs.SegmentTexts.{after_text, long-err, long-ends, long-goes, next-cut, next-by}
 use Rattle.ion_text_in.proofs.TextTokens.{overruns-refused}
@@ -55,8 +55,17 @@ segments-preserved g c =
     let limit = c.args.limits.scalar in
     let t = cursor g.I.Input c.next_segment.new.source in
     let u = cursor g.I.Input c.pass_between.new.source in
+    let s = c.args.source.now in
+    let m = c.args.meter.now in
+    let n = c.next_segment.new.meter in
+    let k = c.args.text.now in
+    let l = c.next_segment.new.text in
+    let v = c.pass_between.new.source in
+    let x = c.in_ok-start.field-0 in
+    let over = gathers-over g.I.Input c.args.limits s c.segments.source m c.segments.meter k c.segments.text c.next_segment.new.source v n l tt c.in_ok-next_segment.field-0 (Ok x) c.requires.can_read.holds
+    c.segments.invariant.gathers c.in_ok-next_segment.ensures.gathers c.in_ok-start.ensures.reads in
     record {
-      gathers = grind (arith, common_steps);
+      gathers = gathers-as g.I.Input c.args.limits s c.pass_quotes.new.source m n k l c.in_ok-pass_quotes.field-0 tt (gathers-read g.I.Input c.args.limits s v m n k l c.pass_quotes.new.source x (Ok c.in_ok-pass_quotes.field-0) over c.in_ok-pass_quotes.ensures.reads);
       same = λ h.
           let hs = inv.gathers.reads.moves.still_observable.1 h in
           let ht = c.in_ok-next_segment.ensures.gathers.reads.moves.still_observable.1 hs in
@@ -67,3 +76,65 @@ segments-preserved g c =
           (next-by c.args.quote t u true c.requires.long after some.0)
           ∙ ap (λ (d : Cursor). after_text q limit c.next_segment.new.text d) (sym some.1);
     }
+
+pub returns-in_err-next_segment-clause-gathers : goal.returns-in_err-next_segment-clause-gathers
+returns-in_err-next_segment-clause-gathers g c =
+    let f = c.in_err-next_segment.field-0.0 in
+    rw (handed-on c.from_residual.result f c.from_residual.ensures)
+    (gathers-fault g.I.Input c.args.limits c.args.source.now c.next_segment.new.source c.args.meter.now c.next_segment.new.meter c.args.text.now c.next_segment.new.text f
+    (gathers-then g.I.Input c.args.limits c.args.source.now c.segments.source c.args.meter.now c.segments.meter c.args.text.now c.segments.text c.next_segment.new.source c.next_segment.new.meter c.next_segment.new.text
+    tt (Err f) c.requires.can_read.holds c.segments.invariant.gathers c.in_err-next_segment.ensures.gathers))
+
+pub returns-in_err-start-clause-gathers : goal.returns-in_err-start-clause-gathers
+returns-in_err-start-clause-gathers g c =
+    let s = c.args.source.now in
+    let m = c.args.meter.now in
+    let n = c.next_segment.new.meter in
+    let k = c.args.text.now in
+    let l = c.next_segment.new.text in
+    let v = c.pass_between.new.source in
+    let f = c.in_err-start.field-0.0 in
+    rw (handed-on c.from_residual-in_err-start.result f c.from_residual-in_err-start.ensures)
+    (gathers-over g.I.Input c.args.limits s c.segments.source m c.segments.meter k c.segments.text c.next_segment.new.source v n l tt c.in_ok-next_segment.field-0 (Err f) c.requires.can_read.holds
+    c.segments.invariant.gathers c.in_ok-next_segment.ensures.gathers c.in_err-start.ensures.reads)
+
+pub returns-in-Some-clause-gathers : goal.returns-in-Some-clause-gathers
+returns-in-Some-clause-gathers g c =
+    let s = c.args.source.now in
+    let m = c.args.meter.now in
+    let n = c.next_segment.new.meter in
+    let k = c.args.text.now in
+    let l = c.next_segment.new.text in
+    let v = c.pass_between.new.source in
+    let x = c.in_ok-start.field-0 in
+    let over = gathers-over g.I.Input c.args.limits s c.segments.source m c.segments.meter k c.segments.text c.next_segment.new.source v n l tt c.in_ok-next_segment.field-0 (Ok x) c.requires.can_read.holds
+    c.segments.invariant.gathers c.in_ok-next_segment.ensures.gathers c.in_ok-start.ensures.reads in
+    gathers-as g.I.Input c.args.limits s v m n k l x (Some c.in-Some.start) over
+
+pub returns-in_err-pass_quotes-clause-gathers : goal.returns-in_err-pass_quotes-clause-gathers
+returns-in_err-pass_quotes-clause-gathers g c =
+    let s = c.args.source.now in
+    let m = c.args.meter.now in
+    let n = c.next_segment.new.meter in
+    let k = c.args.text.now in
+    let l = c.next_segment.new.text in
+    let v = c.pass_between.new.source in
+    let x = c.in_ok-start.field-0 in
+    let over = gathers-over g.I.Input c.args.limits s c.segments.source m c.segments.meter k c.segments.text c.next_segment.new.source v n l tt c.in_ok-next_segment.field-0 (Ok x) c.requires.can_read.holds
+    c.segments.invariant.gathers c.in_ok-next_segment.ensures.gathers c.in_ok-start.ensures.reads in
+    let f = c.in_err-pass_quotes.field-0.0 in
+    rw (handed-on c.from_residual-in_err-pass_quotes.result f c.from_residual-in_err-pass_quotes.ensures)
+    (gathers-fault g.I.Input c.args.limits s c.pass_quotes.new.source m n k l f (gathers-read g.I.Input c.args.limits s v m n k l c.pass_quotes.new.source x (Err f) over c.in_err-pass_quotes.ensures.reads))
+
+pub returns-then-not-branch-clause-gathers : goal.returns-then-not-branch-clause-gathers
+returns-then-not-branch-clause-gathers g c =
+    let s = c.args.source.now in
+    let m = c.args.meter.now in
+    let n = c.next_segment.new.meter in
+    let k = c.args.text.now in
+    let l = c.next_segment.new.text in
+    let v = c.pass_between.new.source in
+    let x = c.in_ok-start.field-0 in
+    let over = gathers-over g.I.Input c.args.limits s c.segments.source m c.segments.meter k c.segments.text c.next_segment.new.source v n l tt c.in_ok-next_segment.field-0 (Ok x) c.requires.can_read.holds
+    c.segments.invariant.gathers c.in_ok-next_segment.ensures.gathers c.in_ok-start.ensures.reads in
+    gathers-as g.I.Input c.args.limits s c.pass_quotes.new.source m n k l c.in_ok-pass_quotes.field-0 None (gathers-read g.I.Input c.args.limits s v m n k l c.pass_quotes.new.source x (Ok c.in_ok-pass_quotes.field-0) over c.in_ok-pass_quotes.ensures.reads)

@@ -1,10 +1,12 @@
 use Rattle.std.proofs.Common.{◌≡◌, ◌∙◌, ◌||◌, Bool, true, false, length, drop, refl, sym}
 use Rattle.std.specs.Str.{is_utf8}
+use Rattle.ion_meter.specs.declared.fault.Reason.TheVariants.{BadText}
 use Rattle.ion_meter.specs.Sources.{cursor}
 use Rattle.ion_text_in.specs.Quotes.{quote_of}
 use Rattle.ion_text_in.proofs.Segments.{segment-err, segment-bad, segment-good}
 use Rattle.ion_text_in.proofs.Utf8.{is_utf8-after}
 use Rattle.ion_text_in.proofs.Gathering.{continues-err}
+use Rattle.ion_text_in.proofs.GatherCalls.{gathers-refused}
 use Rattle.ion_text_in.proofs.text.next_segment.Goals.{else-not-in_clob-via-then-not-in_clob+else-not-is_text, else-not-in_clob-via-else-not-in_clob}
 use Rattle.ion_text_in.proofs.Holding.{handed-on}
 use Rattle.ion_text_in.proofs.text.next_segment.Goals as goal
@@ -48,3 +50,8 @@ returns-clause-gives g c = λ h.
           let clob : q.in_clob ≡ true = sym c.in_clob.ensures ∙ w.if-not-in_clob.false in
           rw clob refl
     ])
+
+pub returns-then-not-is_text-clause-gathers : goal.returns-then-not-is_text-clause-gathers
+returns-then-not-is_text-clause-gathers g c =
+    gathers-refused g.I.Input c.args.limits c.args.source.now c.gather_pieces.new.source c.args.meter.now c.gather_pieces.new.meter c.args.text.now c.gather_pieces.new.text c.in_ok-gather_pieces.field-0 BadText
+    c.args.place c.in_ok-gather_pieces.ensures.gathers

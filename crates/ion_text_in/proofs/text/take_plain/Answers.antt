@@ -1,4 +1,5 @@
-use Rattle.std.proofs.Common.{ℕ, ◌≤◌, List, length, take, Ok, Err, sym, ap, subst, ◌∙◌}
+use Rattle.std.proofs.Common.{ℕ, ◌≤◌, List, length, take, Ok, Err, sym, ap, subst, ◌∙◌, arith}
+use Rattle.std.proofs.lemmas.Grind.{common_steps}
 use Rattle.ion_meter.specs.Windows.{lent}
 use Rattle.ion_meter.specs.Sources.{Cursor, cursor, skip}
 use Rattle.ion_value.proofs.Passing.{IsPassed-cursor}
@@ -31,3 +32,9 @@ returns-clause-gives g c = λ h.
     plain-lent g.I.Input.rest c.args.quote limit c.args.text.now s bytes n c.requires.can_gather.grows.share c.buffer-bytes.ensures c.plain_length-plain.ensures.within c.plain_length-plain.ensures.plain
     ∙ continues-puts (Ok c.in_ok-put.field-0) c.args.text.now c.put.new.text (take n bytes) limit c.args.place on c.in_ok-put.ensures.puts
     ∙ ap (λ (d : Cursor). onward q limit c.put.new.text d) (sym (IsPassed-cursor g.I.Input s c.consume.new.self n there c.consume.ensures))
+
+pub consume-requires : goal.consume-requires
+consume-requires g c = grind (arith, common_steps)
+
+pub returns-clause-longer : goal.returns-clause-longer
+returns-clause-longer g c = grind (arith, common_steps)

@@ -12,7 +12,8 @@ use Rattle.ion_value.specs.Calls.{Reads}
 use Rattle.ion_value.specs.Shares.{fault_of}
 use Rattle.ion_value.proofs.Cursors.{moves-then}
 use Rattle.ion_text_in.specs.Gathered.{Gathers, Puts}
-use Rattle.ion_text_in.proofs.Holding.{causes-then, causes-held, causes-refused, charges-then, exceeds-then}
+use Rattle.ion_text_in.proofs.Turns.{Gone}
+use Rattle.ion_text_in.proofs.Holding.{causes-then, causes-held, causes-refused, charges-none, charges-then, exceeds-then}
 
 module _ {I : Type 0} (device : InputOf I) where
   -- calls that take no memory
@@ -47,6 +48,47 @@ module _ {I : Type 0} (device : InputOf I) where
         goes = record {
           own = omega (arith, limit_x, limit_y, further_x, further_y, own_x);
           peak = omega (arith, limit_x, limit_y, further_x, further_y, peak_x);
+        };
+      }
+
+  -- a call that takes no memory and puts nothing after the text
+  pub gathers-held : {T : Type 0} (limits : Rules) (s t : Incoming I) (m : Counts) (k : List ℕ) (o : Result T Fault) → length k ≤ m.held → length k ≤ limits.scalar → Reads device s t o
+      → Gathers device limits s t m m k k o
+  gathers-held limits s t m k o there within one = record {
+    reads = record {
+      stands = one.stands;
+      moves = one.moves;
+      causes = causes-held (fault_of o) m _ _ (Exceeds device s) one.causes;
+      charges = charges-none m (length k) limits.scalar within there;
+    };
+    goes = record { own = omega arith; peak = omega arith };
+  }
+
+  -- after a source that went on
+  pub gathers-gone : {T : Type 0} (limits : Rules) (s t u : Incoming I) (a b : Counts) (k l : List ℕ) (o : Result T Fault) → Gone device s t → Gathers device limits t u a b k l o
+      → Gathers device limits s u a b k l o
+  gathers-gone limits s t u a b k l o gone two =
+      let mx = gone.moves in let my = two.reads.moves in
+      let limit_x = mx.limit in let limit_y = my.limit in let further_x = mx.further in let further_y = my.further in
+      let own_y = two.goes.own in let peak_y = two.goes.peak in
+      let causes = two.reads.causes in
+      record {
+        reads = record {
+          stands = two.reads.stands;
+          moves = moves-then device s t u mx my;
+          causes = record {
+            memory = causes.memory;
+            counted = causes.counted;
+            device = λ e. causes.device e ∙ ap (λ (n : ℕ). n + 1) gone.steady;
+            steady = λ e. causes.steady e ∙ gone.steady;
+            limit = λ e. exceeds-then device s t mx (causes.limit e);
+            no_writes = causes.no_writes;
+          };
+          charges = two.reads.charges;
+        };
+        goes = record {
+          own = omega (arith, limit_x, limit_y, further_x, further_y, own_y);
+          peak = omega (arith, limit_x, limit_y, further_x, further_y, peak_y);
         };
       }
 

@@ -1,9 +1,11 @@
 use Rattle.std.proofs.Common.{ℕ, true, false, List, Ok, Err, nat_lt, length, take, refl, ap, ◌∙◌}
 use Rattle.std.proofs.lemmas.List.{length-take-le}
+use Rattle.ion_meter.specs.declared.fault.Reason.TheVariants.{BadLob}
 use Rattle.ion_meter.specs.Sources.{cursor}
 use Rattle.ion_text_in.specs.Lobs.{with_groups_after}
 use Rattle.ion_value.specs.Parts.{◌>>=◌}
 use Rattle.ion_text_in.proofs.Gathering.{continues-puts, continues-err}
+use Rattle.ion_text_in.proofs.GatherCalls.{gathers-read, gathers-held, gathers-refused, gathers-as, gathers-fault}
 use Rattle.ion_text_in.proofs.Holding.{handed-on}
 use Rattle.ion_text_in.proofs.LobTurns.{cut-last, cut-read, group-bad, group-late, group-given}
 use Rattle.ion_text_in.proofs.lob.take_group.Goals as goal
@@ -57,3 +59,55 @@ returns-clause-gives g c = λ h.
     rw c.if-padded.false (read
     ∙ continues-puts (Ok c.in_ok-put.field-0) c.args.text.now c.put.new.text bytes c.args.limits.scalar c.args.place (λ (l : List ℕ). with_groups_after c.args.limits.scalar l (nat_lt (length bytes) 3) d) c.in_ok-put.ensures.puts
     ∙ ap (λ (k : ℕ). with_groups_after c.args.limits.scalar c.put.new.text (nat_lt k 3) d) (length-take-le c.in-Some.n c.decode.new.room c.in-Some.ensures.within))
+
+pub returns-then-padded-clause-gathers : goal.returns-then-padded-clause-gathers
+returns-then-padded-clause-gathers g c =
+    let device = g.I.Input in
+    let limits = c.args.limits in
+    let s = c.args.source.now in
+    let m = c.args.meter.now in
+    let k = c.args.text.now in
+    let t = c.next_characters.new.source in
+    let grows = c.requires.can_gather.grows in
+    let first = gathers-held device limits s t m k _ grows.holds grows.share c.in_ok-count.ensures.reads in
+    gathers-refused device limits s t m m k k _ BadLob c.args.place first
+
+pub returns-in_default-clause-gathers : goal.returns-in_default-clause-gathers
+returns-in_default-clause-gathers g c =
+    let device = g.I.Input in
+    let limits = c.args.limits in
+    let s = c.args.source.now in
+    let m = c.args.meter.now in
+    let k = c.args.text.now in
+    let t = c.next_characters.new.source in
+    let grows = c.requires.can_gather.grows in
+    let first = gathers-held device limits s t m k _ grows.holds grows.share c.in_ok-count.ensures.reads in
+    gathers-refused device limits s t m m k k _ BadLob c.args.place first
+
+pub returns-in_err-end_groups-clause-gathers : goal.returns-in_err-end_groups-clause-gathers
+returns-in_err-end_groups-clause-gathers g c =
+    let device = g.I.Input in
+    let limits = c.args.limits in
+    let s = c.args.source.now in
+    let m = c.args.meter.now in
+    let k = c.args.text.now in
+    let t = c.next_characters.new.source in
+    let grows = c.requires.can_gather.grows in
+    let first = gathers-held device limits s t m k _ grows.holds grows.share c.in_ok-count.ensures.reads in
+    let u = c.end_groups.new.source in
+    let f = c.in_err-end_groups.field-0.0 in
+    rw (handed-on c.from_residual-in_err-end_groups.result f c.from_residual-in_err-end_groups.ensures)
+    (gathers-fault device limits s u m m k k f (gathers-read device limits s t m m k k u _ (Err f) first c.in_err-end_groups.ensures.reads))
+
+pub returns-then-count-lt4-clause-gathers : goal.returns-then-count-lt4-clause-gathers
+returns-then-count-lt4-clause-gathers g c =
+    let device = g.I.Input in
+    let limits = c.args.limits in
+    let s = c.args.source.now in
+    let m = c.args.meter.now in
+    let k = c.args.text.now in
+    let t = c.next_characters.new.source in
+    let grows = c.requires.can_gather.grows in
+    let first = gathers-held device limits s t m k _ grows.holds grows.share c.in_ok-count.ensures.reads in
+    let u = c.end_groups.new.source in
+    gathers-as device limits s u m m k k _ _ (gathers-read device limits s t m m k k u _ _ first c.in_ok-end_groups.ensures.reads)

@@ -249,7 +249,7 @@ def laws():
 def calls():
     """The functions of the C library."""
     found = []
-    for module in ("", "loaded"):
+    for module in ("", "loaded", "parts"):
         with open(f"crates/cozgelt_c/src/{module or 'lib'}.rt", encoding="utf-8") as file:
             found += [("cozgelt_c", module, name) for name in re.findall(r'^pub extern "C" fn (\w+)', file.read(), re.M)]
     return found

@@ -5,9 +5,11 @@
  * What a call answers (but for want of memory), and every byte that it writes, is proved (crates/cozgelt_c), of callers that keep what no
  * proof sees of C:
  *  - each pointer is not null, also where its length is 0, and points at as many bytes as its length says;
- *  - limits and answer point at whole structs, which were set as COZGELT_LIMITS and COZGELT_ANSWER set them;
- *  - room and answer overlap neither one another nor limits, catalog or stream (these may overlap one another), and nobody else
- *    uses them during the call, nor changes limits, catalog or stream;
+ *  - limits, answer and part point at whole structs, which were set as COZGELT_LIMITS, COZGELT_ANSWER and COZGELT_PART set them;
+ *  - room, answer, part and kept overlap neither one another nor limits, catalog, stream or bytes (these may overlap one another), and
+ *    nobody else uses them during the call, nor changes limits, catalog, stream or bytes;
+ *  - part->kept and the bytes in kept are as the last call on the stream left them (these may stand elsewhere then), or part->kept is 0
+ *    where it begins;
  *  - a CozgeltCatalog was set as COZGELT_CATALOG sets it, and since then by the calls of this header alone; it overlaps nothing else,
  *    and nobody else uses it during a call; a copy of one is given to no call;
  *  - malloc, realloc and free belong together, and malloc aligns as C asks of it;
@@ -22,9 +24,8 @@
  *
  * libcozgelt.a is linked with libgcc too (-lgcc), which a compiler adds by itself.
  *
- * What does not lie in memory is for the program: a stream of any length goes through `ion show`, `ion convert` or `ion check` by a
- * pipe. An example, stream.c, does that. It and LIBRARY.md, which has the whole, are installed in share/doc/cozgelt; in the
- * repository they are bindings/c/stream.c and docs/LIBRARY.md. */
+ * A stream of any length goes through cozgelt_part, part by part. An example, stream.c, does that. It and LIBRARY.md, which has the
+ * whole, are installed in share/doc/cozgelt; in the repository they are bindings/c/stream.c and docs/LIBRARY.md. */
 #ifndef COZGELT_H
 #define COZGELT_H
 
@@ -67,8 +68,9 @@ enum {
     COZGELT_NO_MEMORY = 2,        /* malloc gave nothing. Here, and with all statuses below, room is as it was */
     COZGELT_INPUT_LIMIT = 3,      /* stream or catalogue are longer than limits->input */
     COZGELT_NO_OUTPUT_MEMORY = 4, /* malloc gave nothing for the output, or room_len is above 2^47 */
-    COZGELT_INVALID = 5,          /* structs of another size, limits above their maxima, or a number of no profile */
-    COZGELT_CATALOG_REFUSED = 6   /* the catalogue is refused: reason and place are of it */
+    COZGELT_INVALID = 5,          /* structs of another size, limits above their maxima, or wrong numbers of a profile or in a part */
+    COZGELT_CATALOG_REFUSED = 6,  /* the catalogue is refused: reason and place are of it */
+    COZGELT_NO_ROOM = 7           /* cozgelt_part alone: room or kept is too short for what would be taken */
 };
 
 /* Which values a stream may have: the profile of the calls with _with in their names. The others are these at COZGELT_STRICT. */
@@ -158,6 +160,47 @@ uint32_t cozgelt_rewrite_loaded(uint32_t profile, const CozgeltLimits *limits, C
 
 uint32_t cozgelt_check_loaded(uint32_t profile, const CozgeltLimits *limits, CozgeltCatalog *loaded, const uint8_t *stream,
                               size_t stream_len, uint8_t *room, size_t room_len, CozgeltAnswer *answer);
+
+/* As what a stream in parts is written. */
+enum {
+    COZGELT_AS_TEXT = 0,      /* canonical text */
+    COZGELT_AS_PRETTY = 1,    /* pretty text */
+    COZGELT_AS_BINARY = 2,    /* canonical binary, of a text; one that is binary is refused (SameForm, 22, at 0) */
+    COZGELT_AS_REWRITTEN = 3, /* canonical binary, of either */
+    COZGELT_AS_NOTHING = 4    /* nothing: it is checked */
+};
+
+/* A part of a stream. What is kept of the parts before it stands at the front of a buffer of the caller's, who only passes it on: bytes
+ * of symbol tables and version markers. With these 40 bytes, it is all that the next call needs: nothing stays in the library. */
+typedef struct {
+    uint32_t size;    /* sizeof(CozgeltPart) */
+    uint32_t profile; /* COZGELT_STRICT, COZGELT_FLOATS: the same for all parts, as limits, catalogue and `to` */
+    uint32_t to;      /* COZGELT_AS_TEXT, .. */
+    uint32_t last;    /* 1 where no bytes follow these, else 0 */
+    uint64_t kept;    /* how many bytes are kept, at most kept_len, else COZGELT_INVALID: 0 where a stream begins; a call changes it */
+    uint64_t taken;   /* COZGELT_ACCEPTED: how many of the bytes were taken */
+    uint64_t keeps;   /* COZGELT_ACCEPTED, COZGELT_NO_ROOM: how many bytes are kept then */
+} CozgeltPart;
+
+#define COZGELT_PART {sizeof(CozgeltPart), COZGELT_STRICT, COZGELT_AS_TEXT, 0, 0, 0, 0}
+
+/* Takes a stretch of a stream, from the first of these bytes on, and writes what it has to the front of room: values up to the next symbol
+ * table or version marker, or such tables; a text is cut at ends of lines alone. The next call is given the bytes behind those that were
+ * taken, and more of them once none are taken. loaded: a handle, also one without tables.
+ *  - COZGELT_ACCEPTED: answer has `values` and `needed` of what was taken, and kept what is kept then. Where `last` is 0 and none are
+ *    taken nothing was done, and more bytes are needed; where it is 1 all are taken, and the stream is accepted.
+ *  - COZGELT_REFUSED: the stream is refused, whatever follows. place is counted from the first of these bytes. What stands before the
+ *    fault is written if it fits, as by the other calls. Of some faults this is told only where `last` is 1.
+ *  - COZGELT_NO_ROOM: answer->needed and part->keeps say how long room and kept have to be. None are taken, and kept is as it was: call
+ *    again with longer ones, with the same bytes in kept, wherever it stands; or, where room cannot grow, with fewer bytes, and `last` 0.
+ *    A kept of part->kept + bytes_len + 4 always does: never more are kept than were and are given, or 4 (the clause `short` of
+ *    `run_part`).
+ *  - COZGELT_INPUT_LIMIT: only where what is kept and these bytes are longer than limits->input. It never counts the whole stream.
+ * The outputs joined are those of the calls on the whole stream. As binary they are a stream that shows what the text shows that was
+ * written so, where it is accepted, limits->depth is at least 2, and limits->scalar at least 16 and limits->symbols. Of binary written as
+ * binary that is only tested. */
+uint32_t cozgelt_part(const CozgeltLimits *limits, CozgeltCatalog *loaded, CozgeltPart *part, const uint8_t *bytes, size_t bytes_len,
+                      uint8_t *kept, size_t kept_len, uint8_t *room, size_t room_len, CozgeltAnswer *answer);
 
 /* The name of a reason, as REFUSALS.md has it; "" of any other number. */
 static inline const char *cozgelt_reason(uint32_t number) {

@@ -283,6 +283,127 @@ static void numbers_of_no_profile(void) {
     }
 }
 
+static CozgeltPart part;
+static uint8_t kept[100];
+
+/* Gives these bytes to the call in parts, with as much room and as much for what is kept. */
+static uint32_t take(const uint8_t *bytes, size_t length, size_t kept_len, size_t room_len) {
+    CozgeltCatalog none = COZGELT_CATALOG;
+    uint64_t had = part.kept;
+    begin();
+    part.taken = part.keeps = 77;
+    uint32_t status = cozgelt_part(&limits, &none, &part, bytes, length, kept, kept_len, room, room_len, &answer);
+    judge(part.size == 40 && (status == COZGELT_ACCEPTED || part.kept == had), "what a part says of itself");
+    return status;
+}
+
+static void begin_parts(uint32_t to) {
+    CozgeltPart p = COZGELT_PART;
+    part = p, part.to = to;
+    memset(kept, '#', sizeof kept);
+}
+
+/* Whether just these bytes are kept. */
+static int keeps(const char *bytes) {
+    size_t n = strlen(bytes);
+    return part.kept == n && part.keeps == n && !memcmp(kept, bytes, n) && kept[n] == '#';
+}
+
+static void calls_in_parts(void) {
+    begin_parts(COZGELT_AS_TEXT);
+    judge(take(STREAM("1\n[2,\n3"), 100, 100) == COZGELT_ACCEPTED && part.taken == 2 && answer.values == 1 && HOLDS("1\n") && keeps("\n"),
+          "the first line");
+    judge(take(STREAM("[2,\n3"), 100, 100) == COZGELT_ACCEPTED && !part.taken && !answer.values && HOLDS("") && keeps("\n"),
+          "half of a value");
+    judge(take(STREAM(""), 1, 0) == COZGELT_ACCEPTED && !part.taken && keeps("\n"), "no bytes");
+    judge(take(STREAM("[2,\n3]\n"), 1, 6) == COZGELT_ACCEPTED && part.taken == 7 && answer.values == 1 && HOLDS("[2,3]\n"),
+          "the other half, with just enough room");
+    judge(take(STREAM("5\n\n[4e0"), 1, 100) == COZGELT_ACCEPTED && part.taken == 3 && HOLDS("5\n"), "what stands before a fault");
+    part.last = 1;
+    judge(take(STREAM("[4e0"), 1, 100) == COZGELT_REFUSED && answer.reason == 11 && answer.place == 1 && HOLDS("[") && part.taken == 77,
+          "a fault in the last part");
+    judge(take(STREAM("[4e0"), 1, 0) == COZGELT_REFUSED && answer.needed == 1 && kept_from(0), "the same with no room");
+    judge(take(STREAM("6"), 1, 100) == COZGELT_ACCEPTED && part.taken == 1 && answer.values == 1 && HOLDS("6\n") && keeps("\n"),
+          "another last part");
+}
+
+static void parts_of_other_forms(void) {
+    begin_parts(COZGELT_AS_PRETTY);
+    part.profile = COZGELT_FLOATS;
+    judge(take(STREAM("$ion_symbol_table::{symbols:[\"p\"]}\n"), 100, 0) == COZGELT_ACCEPTED && part.taken == 35 && !answer.values &&
+              keeps("$ion_symbol_table::{symbols:[\"p\"]}\n"),
+          "a table");
+    judge(take(STREAM("[$10, 4e0]\n"), 36, 100) == COZGELT_ACCEPTED && HOLDS("[\n  p,\n  4e0\n]\n") &&
+              keeps("$ion_symbol_table::{symbols:[\"p\"]}\n"),
+          "a value that needs it");
+    judge(take(STREAM("[$11]\n"), 36, 100) == COZGELT_REFUSED && answer.reason == 17 && answer.place == 1 && HOLDS("["),
+          "a symbol that it has not");
+
+    begin_parts(COZGELT_AS_BINARY);
+    judge(take(STREAM("5\n"), 1, 6) == COZGELT_ACCEPTED && HOLDS("\xE0\x01\x00\xEA\x21\x05"), "text to binary");
+    begin_parts(COZGELT_AS_BINARY);
+    judge(take(STREAM("\xE0\x01\x00\xEA\x21\x05"), 4, 6) == COZGELT_REFUSED && answer.reason == 22 && !answer.place && HOLDS(""),
+          "binary to binary");
+    begin_parts(COZGELT_AS_REWRITTEN);
+    judge(take(STREAM("\xE0\x01\x00\xEA\x22\x00\x05\x21"), 4, 6) == COZGELT_ACCEPTED && part.taken == 7 && part.kept == 4 &&
+              HOLDS("\xE0\x01\x00\xEA\x21\x05"),
+          "binary to binary again");
+    begin_parts(COZGELT_AS_NOTHING);
+    judge(take(STREAM("1\n2\n"), 1, 0) == COZGELT_ACCEPTED && answer.values == 2 && HOLDS("") && keeps("\n"), "a part that is checked");
+}
+
+static void wrong_calls_in_parts(void) {
+    begin_parts(COZGELT_AS_TEXT);
+    judge(take(STREAM("1\n"), 1, 1) == COZGELT_NO_ROOM && answer.needed == 2 && part.keeps == 1 && part.taken == 77 && kept_from(0) &&
+              kept[0] == '#' && !answer.values,
+          "a room that is a byte too small");
+    judge(take(STREAM("1\n"), 0, 2) == COZGELT_NO_ROOM && answer.needed == 2 && part.keeps == 1 && kept_from(0), "no room for what is kept");
+    part.last = 1;
+    judge(take(STREAM("1"), 0, 1) == COZGELT_NO_ROOM && answer.needed == 2 && part.keeps == 0 && kept_from(0), "the same of the last part");
+    uint32_t *numbers[] = {&part.profile, &part.to, &part.last};
+    for (int i = 0; i < 3; i++)
+        for (int far = 0; far < 2; far++) {
+            begin_parts(COZGELT_AS_TEXT);
+            *numbers[i] = far ? UINT32_MAX : i == 1 ? 5 : 2;
+            judge(take(STREAM("1\n"), 1, 100) == COZGELT_INVALID && no_answer() && kept_from(0) && part.taken == 77 && part.keeps == 77 &&
+                      kept[0] == '#',
+                  "a number that names nothing");
+        }
+    begin_parts(COZGELT_AS_TEXT);
+    part.kept = 2;
+    judge(take(STREAM("1\n"), 1, 100) == COZGELT_INVALID && no_answer() && kept_from(0), "more is kept than there is");
+    begin_parts(COZGELT_AS_TEXT);
+    CozgeltCatalog none = COZGELT_CATALOG;
+    begin();
+    part.size = 32;
+    judge(cozgelt_part(&limits, &none, &part, STREAM("1\n"), kept, 1, room, 2, &answer) == COZGELT_INVALID && no_answer() && kept_from(0) &&
+              part.size == 32,
+          "a part of another size");
+    part.size = 40, limits.input = 2;
+    judge(cozgelt_part(&limits, &none, &part, STREAM("1\n2\n"), kept, 1, room, 4, &answer) == COZGELT_ACCEPTED && !part.taken,
+          "a part past the limit on the input, which may wait");
+    part.last = 1;
+    judge(cozgelt_part(&limits, &none, &part, STREAM("1\n2\n"), kept, 1, room, 4, &answer) == COZGELT_INPUT_LIMIT && kept_from(0),
+          "the last part past the limit on the input");
+}
+
+/* The tables of a handle serve a stream in parts too. */
+static void parts_with_handles(void) {
+    CozgeltCatalog one = COZGELT_CATALOG;
+    CozgeltLimits l = COZGELT_LIMITS;
+    CozgeltAnswer a = COZGELT_ANSWER;
+    begin();
+    judge(cozgelt_catalog_load(&l, STREAM(TABLE), &one, &a) == COZGELT_ACCEPTED, "a catalogue for parts");
+    begin_parts(COZGELT_AS_TEXT);
+    part.last = 1;
+    for (int i = 0; i < 2; i++) {
+        begin();
+        judge(cozgelt_part(&l, &one, &part, STREAM(IMPORT), kept, 0, room, sizeof room, &answer) == COZGELT_ACCEPTED && HOLDS("p\nq\n"),
+              "imports in a part");
+    }
+    cozgelt_catalog_free(&one);
+}
+
 #define OTHER_TABLE "$ion_shared_symbol_table::{name:\"x\",version:1,symbols:[\"r\",\"s\"]}"
 
 static uint32_t text_by(CozgeltCatalog *loaded) {
@@ -470,6 +591,10 @@ int main(void) {
     calls_of_floats();
     strict_calls();
     numbers_of_no_profile();
+    calls_in_parts();
+    parts_of_other_forms();
+    wrong_calls_in_parts();
+    parts_with_handles();
     handles();
     handles_that_are_not_loaded();
     calls_with_handles();

@@ -2,15 +2,11 @@
  * catalogue. Each call is made on a stack that has 24 KB, as cozgelt.h asks, with a page below that nobody may touch. */
 #define _DEFAULT_SOURCE
 #include "cozgelt.h"
+#include "small_stack.h"
 #include <inttypes.h>
 #include <stdio.h>
 #include <stdlib.h>
 #include <string.h>
-#include <sys/mman.h>
-#include <ucontext.h>
-
-#define PAGE 4096
-#define STACK (24 << 10)
 
 static CozgeltLimits limits = COZGELT_LIMITS;
 static CozgeltAnswer answer;
@@ -19,7 +15,6 @@ static unsigned long long catalog_len, stream_len;
 static uint8_t *catalog, *stream, *room;
 static size_t size;
 static uint32_t profile, status;
-static ucontext_t here, there;
 static CozgeltCatalog loaded = COZGELT_CATALOG;
 
 static uint8_t *read_bytes(size_t length) {
@@ -53,23 +48,16 @@ static void with_handle_on_small_stack(void) {
                                         : cozgelt_to_binary_loaded(LOADED);
 }
 
-static void make_call(uint8_t *stack, void (*call)(void)) {
+static void make_call(void (*call)(void)) {
     CozgeltAnswer none = COZGELT_ANSWER;
     answer = none;
-    if (getcontext(&there)) exit(3);
-    there.uc_stack.ss_sp = stack;
-    there.uc_stack.ss_size = STACK;
-    there.uc_link = &here;
-    makecontext(&there, call, 0);
-    if (swapcontext(&here, &there)) exit(3);
+    call_on_small_stack(call);
 }
 
 int main(int words, char **word) {
     int by_handle = words == 2 && !strcmp(word[1], "loaded");
     unsigned depth;
     unsigned long long n[4];
-    uint8_t *low = mmap(0, PAGE + STACK, PROT_READ | PROT_WRITE, MAP_PRIVATE | MAP_ANONYMOUS, -1, 0);
-    if (low == MAP_FAILED || mprotect(low, PAGE, PROT_NONE)) return 3;
     while (scanf("%15s %" SCNu32 " %u %llu %llu %llu %llu %llu %llu", name, &profile, &depth, n, n + 1, n + 2, n + 3, &catalog_len,
                  &stream_len) == 9 &&
            getchar() == '\n') {
@@ -78,14 +66,14 @@ int main(int words, char **word) {
         uint8_t none = 0;
         room = &none;
         status = COZGELT_ACCEPTED;
-        if (by_handle) make_call(low + PAGE, load_on_small_stack);
+        if (by_handle) make_call(load_on_small_stack);
         for (size = 0; status <= COZGELT_REFUSED; size = answer.needed) {
             if (size && !(room = malloc(size))) return 3;
-            make_call(low + PAGE, by_handle ? with_handle_on_small_stack : on_small_stack);
+            make_call(by_handle ? with_handle_on_small_stack : on_small_stack);
             if (answer.needed == size) break;
         }
         CozgeltAnswer got = answer;
-        if (by_handle) make_call(low + PAGE, free_on_small_stack);
+        if (by_handle) make_call(free_on_small_stack);
         answer = got;
         const char *reason = cozgelt_reason(answer.reason);
         size_t length = status > COZGELT_REFUSED ? 0 : answer.needed;

@@ -1,6 +1,39 @@
-//! Answers calls that it reads from standard input, as common.py says; with the word `loaded`, by a `Catalog`.
+//! Answers calls that it reads from standard input, as common.py says; with the word `loaded`, by a `Catalog`, and with
+//! `parts`, but for binary, in parts.
 use cozgelt::{check, check_with, to_binary, to_binary_with, to_text, to_text_with, Catalog, Error, Limits, Profile};
+use cozgelt::{Parts, PartsError, To};
 use std::io::{self, BufRead, Read, Write};
+
+/// Gives a few bytes, and then more at a time.
+struct Few<'a>(&'a [u8], usize);
+
+impl Read for Few<'_> {
+    fn read(&mut self, into: &mut [u8]) -> io::Result<usize> {
+        self.1 = self.1 * 3 / 2 + 1;
+        let most = self.1.min(into.len());
+        self.0.read(&mut into[..most])
+    }
+}
+
+fn in_parts(to: To, by: Profile, stream: &[u8], tables: &[u8], limits: &Limits) -> Result<(Vec<u8>, u64), Error> {
+    let catalog = Catalog::load(tables, limits)?;
+    let mut parts = Parts::new(Few(stream, 0), to, limits)?.profile(by).catalog(&catalog)?;
+    let mut joined = Vec::new();
+    for output in parts.by_ref() {
+        match output {
+            Ok(output) => joined.extend(output),
+            Err(PartsError::Call(Error::Refused(mut refusal))) => {
+                joined.append(&mut refusal.output);
+                refusal.output = joined;
+                return Err(Error::Refused(refusal));
+            }
+            Err(PartsError::Call(error)) => return Err(error),
+            Err(other) => panic!("{other}"),
+        }
+    }
+    let values = if to == To::Nothing { parts.values() } else { 0 };
+    Ok((joined, values))
+}
 
 fn by_handle(name: &str, by: Profile, stream: &[u8], tables: &[u8], limits: &Limits) -> Result<(Vec<u8>, u64), Error> {
     let catalog = Catalog::load(tables, limits)?;
@@ -12,7 +45,8 @@ fn by_handle(name: &str, by: Profile, stream: &[u8], tables: &[u8], limits: &Lim
 }
 
 fn main() -> io::Result<()> {
-    let is_loaded = std::env::args().nth(1).as_deref() == Some("loaded");
+    let word = std::env::args().nth(1);
+    let (is_loaded, is_cut) = (word.as_deref() == Some("loaded"), word.as_deref() == Some("parts"));
     let (mut input, mut output) = (io::stdin().lock(), io::stdout().lock());
     let mut line = String::new();
     while input.read_line(&mut line)? > 0 {
@@ -25,8 +59,11 @@ fn main() -> io::Result<()> {
         input.read_exact(&mut catalog)?;
         input.read_exact(&mut stream)?;
         let by = Profile::Floats;
+        let profile = if floats { by } else { Profile::Strict };
         let answer = match (name, floats) {
-            _ if is_loaded => by_handle(name, if floats { by } else { Profile::Strict }, &stream, &catalog, &limits),
+            ("check", _) if is_cut => in_parts(To::Nothing, profile, &stream, &catalog, &limits),
+            ("to_text", _) if is_cut => in_parts(To::Text, profile, &stream, &catalog, &limits),
+            _ if is_loaded => by_handle(name, profile, &stream, &catalog, &limits),
             ("check", false) => check(&stream, &catalog, &limits).map(|values| (Vec::new(), values)),
             ("check", true) => check_with(by, &stream, &catalog, &limits).map(|values| (Vec::new(), values)),
             ("to_text", false) => to_text(&stream, &catalog, &limits).map(|text| (text, 0)),

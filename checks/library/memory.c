@@ -1,6 +1,6 @@
 /* Answers calls that it reads from standard input, as common.py says, each with no room, with room for half of the output and with
  * room for all of it, and judges the bytes that are asked of malloc: with no room at most what README counts, with a room at most
- * so much more, and none after a call; and each with a handle, which holds its tables alone between calls. To be linked with
+ * so much more, and none after a call; each with a handle, which holds its tables alone between calls; and in parts. To be linked with
  * --wrap=malloc,--wrap=realloc,--wrap=free. The last line is `N passed, M failed`. */
 #include "cozgelt.h"
 #include "wrapped.h"
@@ -84,6 +84,39 @@ static void by_handle(void) {
     judge(!held, "given back by a handle that is freed again", held, 0);
 }
 
+/* Takes the stream in parts, each with no more room than the ones before it needed, and then with as much as it needs: a call takes what
+ * README counts for a run and its room, and nothing is left. */
+static void by_parts(void) {
+    CozgeltAnswer none = COZGELT_ANSWER;
+    CozgeltCatalog loaded = COZGELT_CATALOG;
+    CozgeltPart part = COZGELT_PART;
+    answer = none, held = 0;
+    if (cozgelt_catalog_load(&limits, catalog, catalog_len, &loaded, &answer)) return;
+    size_t tables = held, done = 0, kept_len = 0, room_len = 0;
+    uint8_t *kept = __real_malloc(1), *room = __real_malloc(1);
+    part.profile = profile;
+    part.to = !strcmp(name, "check") ? COZGELT_AS_NOTHING : !strcmp(name, "to_text") ? COZGELT_AS_TEXT : COZGELT_AS_BINARY;
+    while (kept && room) {
+        answer = none, peak = held;
+        uint32_t status = cozgelt_part(&limits, &loaded, &part, stream + done, stream_len - done, kept, kept_len, room, room_len, &answer);
+        size_t most = counted_for(2) + room_len;
+        judge(peak - tables <= most, "the peak of a part", peak - tables, most);
+        judge(held == tables, "left by a part", held, tables);
+        if (status == COZGELT_NO_ROOM || (status == COZGELT_REFUSED && answer.needed > room_len)) {
+            if (answer.needed > room_len) room = __real_realloc(room, room_len = answer.needed);
+            if (status == COZGELT_NO_ROOM && part.keeps > kept_len) kept = __real_realloc(kept, kept_len = part.keeps);
+        } else if (status != COZGELT_ACCEPTED || part.last) {
+            break;
+        } else {
+            done += part.taken, part.last = !part.taken;
+        }
+    }
+    if (!kept || !room) exit(3);
+    __real_free(kept), __real_free(room);
+    cozgelt_catalog_free(&loaded);
+    judge(!held, "left by parts", held, 0);
+}
+
 int main(void) {
     unsigned depth;
     unsigned long long n[4];
@@ -101,6 +134,7 @@ int main(void) {
             }
         }
         by_handle();
+        by_parts();
         __real_free(catalog), __real_free(stream);
     }
     printf("%ld passed, %ld failed\n", passed, failed);

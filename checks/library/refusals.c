@@ -1,5 +1,5 @@
-/* Each allocation of a call refused in turn, alone and with all after it: the status is 2 or 4, room, answer and handles stay, and all
- * memory is given back. To be linked with --wrap=malloc,--wrap=realloc,--wrap=free. The last line is `N passed, M failed`. */
+/* Each allocation of a call refused in turn, alone and with all after it: the status is 2 or 4; room, answer, handles and what is kept
+ * stay; and all memory is given back. To be linked with --wrap=malloc,--wrap=realloc,--wrap=free. The last line is `N passed, M failed`. */
 #include "cozgelt.h"
 #include <stdio.h>
 #include <string.h>
@@ -101,11 +101,43 @@ static int handle_answers(int call, int whole) {
     return right && !held;
 }
 
-static int answers_of(int call, int whole) { return call < 8 ? answers(call, whole) : handle_answers(call - 8, whole); }
+static const char lines[] = "{b:[1,2.50,\"text\",{{aGVs}}]}\n[4e0]\n";
+
+/* Judges so a call that takes a part of a stream, with a handle that has the tables. Where it fails, part and what is kept stay too. */
+static int part_answers(int last, int whole) {
+    CozgeltLimits limits = COZGELT_LIMITS;
+    CozgeltAnswer answer = COZGELT_ANSWER;
+    CozgeltCatalog one = COZGELT_CATALOG;
+    CozgeltPart part = COZGELT_PART, had;
+    uint8_t room[200], kept[200], before[sizeof room];
+    long from = refused_from, to = refused_to;
+    memset(room, '#', sizeof room), memset(kept, '#', sizeof kept), memset(before, '#', sizeof before);
+    refused_from = refused_to = 0, held = 0;
+    if (cozgelt_catalog_load(&limits, (const uint8_t *)table, sizeof table - 1, &one, &answer)) return 0;
+    asked = 0, refused_from = from, refused_to = to;
+    part.profile = COZGELT_FLOATS, part.last = (uint32_t)last, had = part;
+    const char *given = last ? stream : lines;
+    uint32_t status = cozgelt_part(&limits, &one, &part, (const uint8_t *)given, strlen(given), kept, sizeof kept, room, sizeof room,
+                                   &answer);
+    long all = asked;
+    int goes_well = whole || asked < refused_from;
+    refused_from = refused_to = 0;
+    int right = has_tables(&one);
+    right &= goes_well ? status == COZGELT_ACCEPTED && part.taken == strlen(given) && answer.values == (last ? 4 : 2)
+                       : (status == COZGELT_NO_MEMORY || status == COZGELT_NO_OUTPUT_MEMORY) && !answer.reason && !answer.needed &&
+                             !memcmp(&part, &had, sizeof part) && !memcmp(room, before, sizeof room) && !memcmp(kept, before, sizeof kept);
+    cozgelt_catalog_free(&one);
+    asked = all;
+    return right && !held;
+}
+
+static int answers_of(int call, int whole) {
+    return call < 8 ? answers(call, whole) : call < 12 ? handle_answers(call - 8, whole) : part_answers(call - 12, whole);
+}
 
 int main(void) {
     int passed = 0, failed = 0;
-    for (int i = 0; i < 12; i++) {
+    for (int i = 0; i < 14; i++) {
         refused_from = refused_to = 0;
         int right = answers_of(i, 1);
         right ? passed++ : failed++;

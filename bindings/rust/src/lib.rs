@@ -20,7 +20,7 @@
 //!
 //! Each call takes a stream and a catalogue, which is a stream of shared symbol tables for the imports of the other, and
 //! empty where there are none; a [`Catalog`] has loaded one, for any number of calls. Calls have no state, and any number of threads
-//! may make them at once.
+//! may make them at once. A stream of any length goes through [`convert`], or part by part through [`Parts`].
 #![warn(missing_docs)]
 
 use std::ffi::c_void;
@@ -29,8 +29,10 @@ use std::mem::size_of;
 use std::ptr::null_mut;
 use std::sync::{Mutex, PoisonError};
 
+mod parts;
 mod reason;
 
+pub use parts::{convert, Parts, PartsError, To};
 pub use reason::Reason;
 
 /// How much a call may take: as the program has it by `Limits::default()`, and else by calls on that. A later version may have more
@@ -105,7 +107,7 @@ pub struct Refusal {
     pub reason: Reason,
     /// The first byte of the faulty part, counted from 0.
     pub place: u64,
-    /// The output of what stands before it.
+    /// The output of what stands before it: of [`Parts`] since its last output, and none where [`convert`] has written it.
     pub output: Vec<u8>,
 }
 
@@ -119,7 +121,7 @@ pub enum Error {
     CatalogRefused(Reason, u64),
     /// There is no memory.
     NoMemory,
-    /// The stream or the catalogue is longer than the limit on the input.
+    /// The stream or the catalogue is longer than the limit on the input, or more bytes of a stream in parts wait than may.
     InputLimit,
     /// A limit is above its maximum.
     Invalid,
@@ -174,6 +176,17 @@ struct CCatalog {
 
 // SAFETY: the library proves that a handle may go to another thread.
 unsafe impl Send for CCatalog {}
+
+#[repr(C)]
+struct CPart {
+    size: u32,
+    profile: u32,
+    to: u32,
+    last: u32,
+    kept: u64,
+    taken: u64,
+    keeps: u64,
+}
 
 type CallWith = unsafe extern "C" fn(
     u32,
@@ -301,6 +314,18 @@ extern "C" {
         loaded: *mut CCatalog,
         stream: *const u8,
         stream_len: usize,
+        room: *mut u8,
+        room_len: usize,
+        answer: *mut CAnswer,
+    ) -> u32;
+    fn cozgelt_part(
+        limits: *const CLimits,
+        loaded: *mut CCatalog,
+        part: *mut CPart,
+        bytes: *const u8,
+        bytes_len: usize,
+        kept: *mut u8,
+        kept_len: usize,
         room: *mut u8,
         room_len: usize,
         answer: *mut CAnswer,
@@ -442,7 +467,7 @@ fn first_room(stream: &[u8]) -> usize {
 
 /// The output, and how many values there are. size: the room of the first try; where that is too little, the second has as much as is
 /// needed. A call may hold as much again as its room.
-fn convert(
+fn run_whole(
     mut call: Call,
     profile: Profile,
     stream: &[u8],
@@ -501,7 +526,7 @@ pub fn to_text_with(
     limits: &Limits,
 ) -> Result<Vec<u8>, Error> {
     let call = Call::With(cozgelt_to_text_with, catalog);
-    Ok(convert(call, profile, stream, limits, first_room(stream))?.0)
+    Ok(run_whole(call, profile, stream, limits, first_room(stream))?.0)
 }
 
 /// As [`to_pretty`], with a profile.
@@ -512,7 +537,7 @@ pub fn to_pretty_with(
     limits: &Limits,
 ) -> Result<Vec<u8>, Error> {
     let call = Call::With(cozgelt_to_pretty_with, catalog);
-    Ok(convert(call, profile, stream, limits, first_room(stream))?.0)
+    Ok(run_whole(call, profile, stream, limits, first_room(stream))?.0)
 }
 
 /// As [`to_binary`], with a profile.
@@ -523,7 +548,7 @@ pub fn to_binary_with(
     limits: &Limits,
 ) -> Result<Vec<u8>, Error> {
     let call = Call::With(cozgelt_to_binary_with, catalog);
-    Ok(convert(call, profile, stream, limits, first_room(stream))?.0)
+    Ok(run_whole(call, profile, stream, limits, first_room(stream))?.0)
 }
 
 /// As [`rewrite`], with a profile.
@@ -534,7 +559,7 @@ pub fn rewrite_with(
     limits: &Limits,
 ) -> Result<Vec<u8>, Error> {
     let call = Call::With(cozgelt_rewrite_with, catalog);
-    Ok(convert(call, profile, stream, limits, first_room(stream))?.0)
+    Ok(run_whole(call, profile, stream, limits, first_room(stream))?.0)
 }
 
 /// As [`check`], with a profile.
@@ -545,7 +570,7 @@ pub fn check_with(
     limits: &Limits,
 ) -> Result<u64, Error> {
     let call = Call::With(cozgelt_check_with, catalog);
-    Ok(convert(call, profile, stream, limits, 0)?.1)
+    Ok(run_whole(call, profile, stream, limits, 0)?.1)
 }
 
 /// A catalogue that is loaded once, for any number of calls, also of several threads at once.
@@ -616,7 +641,7 @@ impl Catalog {
         size: usize,
     ) -> Result<(Vec<u8>, u64), Error> {
         let call = Call::Loaded(call, self.shared()?);
-        convert(call, profile, stream, limits, size)
+        run_whole(call, profile, stream, limits, size)
     }
 
     /// As [`to_text_with`], with these tables.

@@ -36,6 +36,7 @@ mod buffer;
 mod handle;
 mod loaded;
 mod loose;
+mod parts;
 mod written;
 
 /// The limits of a call.

@@ -50,3 +50,9 @@ mod RefusalsStand
 mod KeptBytes
 mod JoinedStreams
 mod BinaryParts
+mod PartItems
+mod StretchesTaken
+mod Judging
+mod RefusedBehind
+mod PartVerdicts
+mod PartMemory

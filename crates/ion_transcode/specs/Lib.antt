@@ -17,4 +17,5 @@ pub mod Depth
 pub mod WrittenAgain
 pub mod ShownAgain
 pub mod InParts
+pub mod PartCalls
 pub mod Calls

@@ -8,6 +8,7 @@ ghost use Rattle.ion_transcode.specs.Depth.{WhatIsReadIsNoDeeper};
 ghost use Rattle.ion_transcode.specs.Forms.{binary_encoding, text_encoding};
 ghost use Rattle.ion_transcode.specs.InParts.{BinaryStreamsJoin, DeclarationsMayBeKept, PartsAreTheWhole, PartsOfBinaryShowTheWhole, RefusalsOfBinaryStand, ValuesChangeNothingKept, WhatGivesNoneMayBeKept, WhatIsAcceptedLeavesATable};
 ghost use Rattle.ion_transcode.specs.Laws.{BinaryIsComplete, BinaryIsSound, OneSpelling, OneVerdict, SpellsOnce, StreamsAreRead, TextIsComplete, TextIsSound, WhatStrictAcceptsIsAccepted};
+ghost use Rattle.ion_transcode.specs.PartCalls.{RefusalsComeBehind, RefusedStretchesStand, StretchesAreTaken};
 ghost use Rattle.ion_transcode.specs.RoundTrip.{EachTextIsRead, LayoutsAreAlike, LayoutsAreShownAlike, RoundTrip, ShowOnce, TextIsRead, ThereAndBack, ValuesOfStreams};
 ghost use Rattle.ion_transcode.specs.ShownAgain.{EachShownTextIsAccepted, EachTextIsReadWithin, TextIsReadWithin, WhatIsShownIsAccepted};
 ghost use Rattle.ion_transcode.specs.UserPaths.{FaultlessPathsAreRead, RefusedOutputIsThatOfAPath};
@@ -519,4 +520,26 @@ pub fn what_may_be_kept()
     text::lines_are_cut();
     text::nothing_hangs_on_places();
     users_read_on();
+}
+
+/// A stretch of a part that is accepted is taken, with what is then kept: what was kept stays behind user
+/// values, a version marker is kept behind one, and all bytes that give no user value; and each other
+/// part is run behind that. One that is refused is refused whatever follows,
+/// at a place behind what was kept.
+pub fn stretches_of_parts()
+    ensures taken { StretchesAreTaken }
+    ensures refused { RefusedStretchesStand }
+    ensures behind { RefusalsComeBehind }
+{
+    streams_are_read();
+    one_verdict();
+    what_is_accepted_leaves_a_table();
+    what_may_be_kept();
+    values_keep_the_table();
+    binary::whole_values_are_cut();
+    binary::nothing_hangs_on_places();
+    text::lines_are_cut();
+    text::nothing_hangs_on_places();
+    users_read_on();
+    users_hang_on_no_place();
 }

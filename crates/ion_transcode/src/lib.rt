@@ -7,6 +7,7 @@
 
 mod copy_items;
 mod copy_stream;
+pub mod in_parts;
 pub mod laws;
 pub mod load;
 mod nothing;

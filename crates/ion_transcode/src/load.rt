@@ -1,5 +1,5 @@
 //! A catalogue, loaded from a stream of shared tables.
-ghost use Rattle.std.specs.Prelude.{◌≡◌, ◌≢◌, ◌↔◌, ◌+◌, ◌-◌, ◌*◌, ◌^◌, ◌<◌, ◌≤◌, [], ℕ, max, length, None, Err, IfOk, OnOk};
+ghost use Rattle.std.specs.Prelude.{◌≡◌, ◌≢◌, ◌↔◌, ◌+◌, ◌-◌, ◌*◌, ◌^◌, ◌<◌, ◌≤◌, ℕ, max, length, None, Err, IfOk, OnOk};
 ghost use Rattle.ion_meter.specs.declared.fault.Reason.{Reason};
 ghost use Rattle.ion_meter.specs.declared.fault.Fault.TheVariants.{Refused, Memory, ReadFault, WriteFault, InputLimit};
 ghost use Rattle.ion_meter.specs.Devices.{IsReadOn};
@@ -18,9 +18,10 @@ ghost use Rattle.ion_transcode.specs.Catalogues.{HasCatalogVerdict, IsCatalog, L
 
 use crate::copy_stream::copy_stream;
 use crate::laws::{catalog_verdicts_are_read, catalogs_are_loaded, catalogs_are_text};
+use crate::nothing::NoOutput;
 use crate::to::{Form, form_by_first};
 use ion_binary::reader::BinReader;
-use ion_meter::device::{Broken, Input, Output};
+use ion_meter::device::Input;
 use ion_meter::fault::Fault;
 use ion_meter::limits::Limits;
 use ion_meter::meter::Meter;
@@ -31,26 +32,6 @@ use ion_symbols::catalog_builder::CatalogBuilder;
 use ion_text_in::reader::TextReader;
 use ion_value::reader::RawReader;
 use std::alloc::Allocator;
-
-/// A device that takes all bytes and keeps none: nothing is written of a catalogue.
-#[derive(Drop)]
-struct NoOutput;
-
-impl Output for NoOutput {
-    ghost written = { λ _. [] };
-
-    ghost failure_count = { λ _. 0 };
-
-    ghost observable = { λ _. ⊥ };
-
-    fn write(&mut self, bytes: &[u8]) -> Result<usize, Broken> {
-        Ok(bytes.len())
-    }
-
-    fn failures(&self) -> u64 {
-        0
-    }
-}
 
 /// Reads a raw reader to its end or its fault and builds a catalogue from its user values. It hands
 /// the raw reader back.

@@ -1,9 +1,9 @@
-//! The writer of nothing.
+//! The writer of nothing, and a device for what writes nothing.
 ghost use Rattle.std.specs.Prelude.{◌≡◌, [], None, ⊤};
 ghost use Rattle.ion_meter.specs.Limits.{AreChecked};
 ghost use Rattle.std.proofs.Common.{arith, refl};
 
-use ion_meter::device::Output;
+use ion_meter::device::{Broken, Output};
 use ion_meter::fault::Fault;
 use ion_meter::limits::Limits;
 use ion_meter::meter::Meter;
@@ -94,4 +94,24 @@ impl<O: Output, A: Allocator + Copy> ValueWriter<O, A> for NoWriter {
     ghost silent = { λ limits path item why e. absurd (Prim.cc e) };
 
     ghost within = { λ s sound. record { share = Prim.omega arith; small = Prim.omega arith } };
+}
+
+/// A device that takes all bytes and keeps none.
+#[derive(Drop)]
+pub(crate) struct NoOutput;
+
+impl Output for NoOutput {
+    ghost written = { λ _. [] };
+
+    ghost failure_count = { λ _. 0 };
+
+    ghost observable = { λ _. ⊥ };
+
+    fn write(&mut self, bytes: &[u8]) -> Result<usize, Broken> {
+        Ok(bytes.len())
+    }
+
+    fn failures(&self) -> u64 {
+        0
+    }
 }

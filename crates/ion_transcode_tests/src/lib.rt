@@ -22,6 +22,8 @@ mod heaps;
 #[cfg(test)]
 mod laws;
 #[cfg(test)]
+mod parts;
+#[cfg(test)]
 mod pretty;
 #[cfg(test)]
 mod round_trip;

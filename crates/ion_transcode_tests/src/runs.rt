@@ -2,6 +2,7 @@
 
 use super::devices::{Giving, Taking, Telling, Waiting, answer};
 use super::heaps::{LITTLE, fives, ignored};
+use super::parts::{expect_all_taken, expect_parts};
 use super::round_trip::expect_round_trip;
 use super::same::{same, same_at};
 use super::tables::{Kind, expect_rows};
@@ -76,6 +77,10 @@ pub fn expect_octets(rt: &impl Abort, alloc: Global, case: Case, shown: &[u8]) {
     expect(rt, alloc, case, To::Text, shown);
     expect(rt, alloc, case, To::Other, shown);
     expect(rt, alloc, case, To::Nothing, b"");
+    expect_parts(rt, alloc, case, To::Text, shown);
+    if case.want.is_ok() {
+        expect_all_taken(rt, alloc, case);
+    }
     let want = refused(Reason::SameForm, 0);
     expect(rt, alloc, Case { want, ..case }, To::Binary, b"");
     expect_round_trip(rt, alloc, case);
@@ -159,6 +164,7 @@ pub fn expect_text(rt: &impl Abort, alloc: Global, case: Case, shown: &[u8]) {
     expect(rt, alloc, case, To::Text, shown);
     expect(rt, alloc, case, To::Nothing, b"");
     expect_cut(rt, alloc, case, shown);
+    expect_parts(rt, alloc, case, To::Text, shown);
     expect_round_trip(rt, alloc, case);
 }
 

@@ -1,10 +1,8 @@
 -- The bodies that are read are those of the grammar, each with its value.
-use Rattle.ion_binary.proofs.Below.{◌≡◌, ℕ, Option, Some, None, ◌^◌, ◌<◌, ◌⊎◌, inl, inr, Bool, true, false, if◌then◌else◌, nat_le, ◌==◌, nat_eq, List, refl, ap, arith, Result, Ok, Err, is_utf8, eqb-true, eqb-false, ne_eqb, leb-false, lt-leb, IsUtf8-from_is_utf8, is_utf8-from_IsUtf8, Reason, BadNumber, BadText, Range, Int, uint, IsInt, int_of_bytes, decimal_of_bytes, timestamp_of_bytes, float_of_octets, with_value, string_of, float_of_body, raw_id, Symbol, Id, Scalar, decimal_of_bytes-Ok, Read-decimal_of_bytes}
+use Rattle.ion_binary.proofs.Below.{◌≡◌, ℕ, Option, Some, None, ◌^◌, ◌<◌, ◌⊎◌, inl, inr, Bool, true, false, if◌then◌else◌, nat_le, ◌==◌, nat_eq, List, refl, ap, arith, Result, Ok, Err, is_utf8, eqb-true, eqb-false, ne_eqb, leb-false, lt-leb, IsUtf8-from_is_utf8, is_utf8-from_IsUtf8, Reason, BadNumber, BadText, Range, Int, uint, IsInt, int_of_bytes, decimal_of_bytes, timestamp_of_bytes, float_of_octets, with_value, string_of, float_of_body, raw_id, Symbol, Id, Scalar, decimal_of_bytes-Ok, Read-decimal_of_bytes, scalar_of_body, Body, positive, negative, decimal, timestamp, symbol, clob, blob, Bodies}
 use lib.Ieee.{Float}
-use Rattle.ion_value.specs.Scalar.{scalar_of_body}
 use Rattle.ion_value.specs.Value as value
-use Rattle.ion_binary.specs.Grammar.{Body, positive, negative, float, decimal, timestamp, symbol, string, clob, blob}
-use Rattle.ion_binary.specs.Laws.{Bodies}
+use Rattle.ion_binary.specs.Grammar.{float, string}
 use Rattle.ion_binary.proofs.TimestampsSpelled.{TimestampBody-read}
 use Rattle.ion_binary.proofs.TimestampsRead.{kept, let_through, timestamp_of_bytes-body}
 

@@ -1,7 +1,5 @@
 -- Bodies that the code reads, by their type codes.
-use Rattle.ion_binary.proofs.Below.{refl, ◌≡◌, ℕ, ◌≤◌, ◌↔◌, Bool, true, false, IsTrue, List, length, take, Ok, Err, IsUtf8, is_utf8, false_from_ne_true, le-ltb, IsUtf8-from_is_utf8, is_utf8-from_IsUtf8, BadText, Reason, Rules, Symbol, Scalar, string, Cursor, skip}
-use Rattle.ion_value.specs.Scalar.{scalar_of_body}
-use Rattle.ion_binary.specs.Parts.{body_here}
+use Rattle.ion_binary.proofs.Below.{refl, ◌≡◌, ℕ, ◌≤◌, ◌↔◌, Bool, true, false, IsTrue, List, length, take, Ok, Err, IsUtf8, is_utf8, false_from_ne_true, le-ltb, IsUtf8-from_is_utf8, is_utf8-from_IsUtf8, BadText, Reason, Rules, Symbol, Scalar, string, Cursor, skip, scalar_of_body, body_here}
 
 -- a test that is true of UTF-8 alone is the one of the grammar
 pub is_utf8-test : (b : List ℕ) (test : Bool) → (IsTrue test ↔ IsUtf8 b) → is_utf8 b ≡ test

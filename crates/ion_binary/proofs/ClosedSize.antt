@@ -1,12 +1,7 @@
 -- The closed size of a path with an item is that of its closing.
-use Rattle.ion_binary.proofs.Below.{◌≡◌, ℕ, Bool, false, List, [], ◌∷◌, ◌++◌, length, Option, Some, None, refl, ap, sym, subst, ◌∙◌, append_assoc, append-nil, arith, not, ◌&&◌, Kind, UserSymbol, Value, scalar, container, Members, nothing, member, Top, tree, Head, Item, member_items, top_items, Nest, outermost, inner, Path, closed, opened, begin_item, close_all, closing, nest_items, path_items, with_item, Fits, is_marker, field_symbols, members_symbols}
+use Rattle.ion_binary.proofs.Below.{◌≡◌, ℕ, Bool, false, List, [], ◌∷◌, ◌++◌, length, Option, Some, None, refl, ap, sym, subst, ◌∙◌, append_assoc, append-nil, arith, not, ◌&&◌, Kind, UserSymbol, Value, scalar, container, Members, nothing, member, Top, tree, Head, Item, member_items, top_items, Nest, outermost, inner, Path, closed, opened, begin_item, close_all, closing, nest_items, path_items, with_item, Fits, is_marker, field_symbols, members_symbols, type_code, binary, headed, id_in, is_over, marker_octets, member_octets, members_octets, texts_kept, value_octets, with_symbols, Unclosed, Written, after_all, all_closed, at_begin, closed_size, item_symbols, with_ids_given, opened_with, own_octets, ClosedSizeIsThatOfTheClosing, OpenItemsPutWhatIsWhole, last_size, size_after, top_size, texts_after}
 use Rattle.ion_value.specs.Value as value
 use Rattle.ion_value.specs.Path as path
-use Rattle.ion_binary.specs.Grammar.{type_code}
-use Rattle.ion_binary.specs.Canonical.{binary, headed, id_in, is_over, marker_octets, member_octets, members_octets, texts_kept, value_octets, with_symbols}
-use Rattle.ion_binary.specs.Writing.{Unclosed, Written, after_all, all_closed, at_begin, closed_size, item_symbols, with_ids_given, opened_with, own_octets}
-use Rattle.ion_binary.specs.WritingLaws.{ClosedSizeIsThatOfTheClosing, OpenItemsPutWhatIsWhole, last_size, size_after, top_size}
-use Rattle.ion_binary.specs.Refusals.{texts_after}
 use Rattle.ion_binary.proofs.KnownIds.{Extends, extends_same, extends_trans, extends_all}
 use Rattle.ion_binary.proofs.WholeValues.{written, after_members, after_all_tops, after_tops, forgotten, nothing_open, opens_top, same_opened}
 

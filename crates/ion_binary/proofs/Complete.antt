@@ -1,13 +1,8 @@
 -- Whatever the grammar spells is read, where the limits allow it.
-use Rattle.ion_binary.proofs.Below.{◌≡◌, ℕ, suc, ◌+◌, ◌*◌, ◌<◌, ◌≤◌, true, List, [], ◌∷◌, ◌++◌, length, Option, None, Ok, refl, sym, ap, subst, ◌∙◌, append_assoc, append-nil, arith, Rules, Kind, SymbolAt, Value, Members, Top, PlacedItem, value_items, member_items, one_top, top_items, Path, closed, opened, nest_items, path_items, open_in, Finished, items_of, items_then, Ends, Gives, GoesOn, reading_by, Allows, ArePermitted, prefixes, reading_by-ends, reading_by-gives, reading_by-goes_on, items_of-items_then, same_path, all-permitted}
-use Rattle.std.proofs.lemmas.List.{length-append}
+use Rattle.ion_binary.proofs.Below.{◌≡◌, ℕ, suc, ◌+◌, ◌*◌, ◌<◌, ◌≤◌, true, List, [], ◌∷◌, ◌++◌, length, Option, None, Ok, refl, sym, ap, subst, ◌∙◌, append_assoc, append-nil, arith, Rules, Kind, SymbolAt, Value, Members, Top, PlacedItem, value_items, member_items, one_top, top_items, Path, closed, opened, nest_items, path_items, open_in, Finished, items_of, items_then, Ends, Gives, GoesOn, reading_by, Allows, ArePermitted, prefixes, reading_by-ends, reading_by-gives, reading_by-goes_on, items_of-items_then, same_path, all-permitted, length-append, Reading, IsNopPad, Annotated, Bin, Inside, Tops, Bodies, Complete, StreamsAreRead, OnePath, OneStream, FieldIn, Within, frame_of, Spells, placed_scalar, Frame, State, Around, TypedValue, a_nop_pad, a_marker, a_scalar, a_container, step_for, region_of, top_of, step, size, start, reading}
 use Rattle.ion_value.specs.Value as value
-use Rattle.ion_value.specs.Reading.{Reading, Shrinks}
-use Rattle.ion_binary.specs.Grammar.{IsNopPad, Annotated, Bin, Inside, Tops}
-use Rattle.ion_binary.specs.Laws.{Bodies, Complete, StreamsAreRead, OnePath, OneStream}
-use Rattle.ion_binary.specs.Paths.{FieldIn, Within, frame_of, Spells}
-use Rattle.ion_binary.specs.Positions.{placed_scalar, Frame, State}
-use Rattle.ion_binary.specs.Reading.{Around, TypedValue, a_nop_pad, a_marker, a_scalar, a_container, placed_item, step_for, region_of, top_of, step, size, start, reading}
+use Rattle.ion_value.specs.Reading.{Shrinks}
+use Rattle.ion_binary.specs.Reading.{placed_item}
 use Rattle.ion_binary.proofs.Fitting.{BinFits, InsideFits, TopsFit, SpellsFit, Tops-allowed, Spells-allowed}
 use Rattle.ion_binary.proofs.Spelled.{cursor_at, Holds, Holds-before, Holds-within}
 use Rattle.ion_binary.proofs.SpelledParts.{Suits, Finds, Plain-found, IsNopPad-found, marker-found, Header-found}

@@ -1,8 +1,5 @@
 -- What more octets change of what is held.
-use Rattle.ion_binary.proofs.Below.{◌≡◌, ◌==◌, ℕ, suc, ◌+◌, ◌*◌, ◌≤◌, Bool, true, false, List, [], ◌∷◌, ◌++◌, length, Option, Some, None, Result, Ok, Err, OnOk, OnErr, refl, ap, subst, sym, ◌∙◌, arith, append-nil, length-append, eqb-true, Counts, Grows, IsRefused, Shrinks, Fault, Memory}
-use Rattle.ion_binary.specs.declared.held_octets.LateHeader.{LateHeader}
-use Rattle.ion_binary.specs.Canonical.{length_octets}
-use Rattle.ion_binary.specs.Late.{Adds, AreLate, Content, IsCosted, Moved, appended, late_octets, missing_of, spread}
+use Rattle.ion_binary.proofs.Below.{◌≡◌, ◌==◌, ℕ, suc, ◌+◌, ◌*◌, ◌≤◌, Bool, true, false, List, [], ◌∷◌, ◌++◌, length, Option, Some, None, Result, Ok, Err, OnOk, OnErr, refl, ap, subst, sym, ◌∙◌, arith, append-nil, length-append, eqb-true, Counts, Grows, IsRefused, Shrinks, Fault, Memory, LateHeader, length_octets, Adds, AreLate, Content, IsCosted, Moved, appended, late_octets, missing_of, spread}
 use Rattle.ion_binary.proofs.LateHeaders.{late-more, six-each, spread-append, spread-length}
 use Rattle.ion_binary.proofs.PlacedHeaders.{header-few}
 

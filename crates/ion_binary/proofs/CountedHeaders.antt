@@ -1,9 +1,5 @@
 -- Counts of headers tell the closed size, and stay right as octets come and headers go in.
-use Rattle.ion_binary.proofs.Below.{◌≡◌, ◌≢◌, ◌++◌, reverse, length-append, ℕ, zero, suc, ◌+◌, ◌-◌, ◌^◌, ◌<◌, ◌≤◌, ◌⊎◌, inl, inr, min, nat_lt, nat_eq, Bool, true, false, if◌then◌else◌, List, [], ◌∷◌, length, map, sum, get_or, set, refl, ap, sym, ◌∙◌, arith, eq-eqb, AllByRecursion, cases_lt, cases_eq, get_or-set_same, get_or-set_other, length-set, length-map, reverse-append, sum_by-cons}
-use Rattle.std.proofs.Common.{ltb-true, ltb-false, ne_eqb}
-use Rattle.ion_binary.specs.declared.headers.HeaderPlace.{HeaderPlace}
-use Rattle.ion_binary.specs.Counting.{ArePlaced, AreReached, AreSettledTo, IsCounted, beyond, content_around, counted_length, cut, most_at, place_around, place_of_header, sizes_from}
-use Rattle.ion_binary.specs.Places.{AreSettled, IsSettledAt, closed_length, contents, counted_size, header_size, thresholds}
+use Rattle.ion_binary.proofs.Below.{◌≡◌, ◌≢◌, ◌++◌, reverse, length-append, ℕ, zero, suc, ◌+◌, ◌-◌, ◌^◌, ◌<◌, ◌≤◌, ◌⊎◌, inl, inr, min, nat_lt, nat_eq, Bool, true, false, if◌then◌else◌, List, [], ◌∷◌, length, map, sum, get_or, set, refl, ap, sym, ◌∙◌, arith, eq-eqb, AllByRecursion, cases_lt, cases_eq, get_or-set_same, get_or-set_other, length-set, length-map, reverse-append, sum_by-cons, ltb-true, ltb-false, ne_eqb, HeaderPlace, ArePlaced, AreReached, AreSettledTo, IsCounted, beyond, content_around, counted_length, cut, most_at, place_around, place_of_header, sizes_from, AreSettled, IsSettledAt, closed_length, contents, counted_size, header_size, thresholds}
 use Rattle.ion_binary.proofs.PlacedHeaders.{counted-reached, size-reached, AreSizesCounted, Descend, all-below, among, among-all, are-counted, contents-ascend, contents-length, counts-of, missing-counted, sizes-among, sizes_of}
 
 -- ---- a count is raised

@@ -1,16 +1,7 @@
 -- Bytes that are read to their end are read so, whatever follows, and then what follows is read from there on.
-use Rattle.std.proofs.Common.{◌≡◌, ℕ, zero, suc, ◌<◌, List, [], ◌∷◌, ◌++◌, length, refl, sym, ap, subst₂, ◌∙◌, append-nil, arith}
-use Rattle.ion_meter.specs.declared.profile.Rules.{Rules}
-use Rattle.ion_value.specs.Value.{SymbolAt, PlacedItem}
-use Rattle.ion_value.specs.Path.{Path, closed}
-use Rattle.ion_value.specs.Reading.{Reading, Finished, More, items_then, Step, Leaves, after_item, after_nothing, next_reading, reading_by}
-use Rattle.ion_value.proofs.Readings.{reading_by-step}
-use Rattle.ion_binary.specs.Positions.{Frame, State}
-use Rattle.ion_binary.specs.Reading.{member_at, top_step, step, size, start, reading, reading_from}
+use Rattle.ion_binary.proofs.Below.{◌≡◌, ℕ, zero, suc, ◌<◌, List, [], ◌∷◌, ◌++◌, length, refl, sym, ap, subst₂, ◌∙◌, append-nil, arith, Rules, SymbolAt, PlacedItem, Path, closed, Reading, Finished, More, items_then, Step, Leaves, after_item, after_nothing, next_reading, reading_by, reading_by-step, Frame, State, member_at, top_step, step, size, start, reading, reading_from, GoesOnAs, at_end, cut_short, refused, WholeValuesAreCut, MoreBytesGoOn, Tops, Spells, At, Follows}
 use Rattle.ion_binary.specs.Cuts as cuts
-use Rattle.ion_binary.specs.Cuts.{GoesOnAs, at_end, cut_short, refused, with_item, WholeValuesAreCut, MoreBytesGoOn}
-use Rattle.ion_binary.specs.Grammar.{Tops}
-use Rattle.ion_binary.specs.Paths.{Spells, At, Follows}
+use Rattle.ion_binary.specs.Cuts.{with_item}
 use Rattle.ion_binary.proofs.Bodies.{bodies}
 use Rattle.ion_binary.proofs.Stable.{extend_state, StepGrows, ends, stops, ended_step, gives, goes_on, one_step-Grows}
 use Rattle.ion_binary.proofs.StepPreservesPath.{step-follows}

@@ -1,21 +1,6 @@
 -- Where a reading comes to the top level, what stands before it is read to its end.
-use Rattle.std.proofs.Common.{◌≡◌, ◌⊎◌, ℕ, ◌+◌, inl, inr, List, [], ◌∷◌, ◌++◌, refl, sym, ap, subst, ◌∙◌, append_assoc, append-nil, arith}
-use Rattle.std.proofs.lemmas.List.{append_cancel_right}
-use Rattle.ion_meter.specs.declared.fault.Reason.{Reason}
-use Rattle.ion_meter.specs.declared.fault.Reason.TheVariants.{Truncated}
-use Rattle.ion_meter.specs.declared.profile.Rules.{Rules}
-use Rattle.ion_value.specs.Path.{Path, closed, path_items}
-use Rattle.ion_value.specs.Reading.{Reading, Finished, Stopped, More, Step, Ends, Stops, Gives, GoesOn, Leaves, after_item, after_nothing, items_of, items_then, next_reading}
-use Rattle.ion_value.specs.ReadingLaws.{ending_of, IsLimit, ArePermitted}
-use Rattle.ion_value.specs.Value.{SymbolAt, Top, PlacedItem, top_items}
-use Rattle.ion_value.proofs.Permitted.{permitted-alike}
-use Rattle.ion_value.proofs.ReadingLaws.{ending_of-items_then}
-use Rattle.ion_value.proofs.Readings.{items_of-items_then}
-use Rattle.ion_binary.specs.Cuts.{ComesTo, now, later, EachEndIsACut}
-use Rattle.ion_binary.specs.Grammar.{Tops}
-use Rattle.ion_binary.specs.Paths.{Spells, At, Follows}
-use Rattle.ion_binary.specs.Positions.{Frame, State}
-use Rattle.ion_binary.specs.Reading.{top_step, step_in, step, start, reading}
+use Rattle.ion_binary.proofs.Below.{◌≡◌, ◌⊎◌, ℕ, ◌+◌, inl, inr, List, [], ◌∷◌, ◌++◌, refl, sym, ap, subst, ◌∙◌, append_assoc, append-nil, arith, append_cancel_right, Reason, Truncated, Rules, Path, closed, path_items, Reading, Finished, Stopped, More, Step, Ends, Stops, Gives, GoesOn, Leaves, after_item, after_nothing, items_of, items_then, next_reading, ending_of, IsLimit, ArePermitted, SymbolAt, Top, PlacedItem, top_items, permitted-alike, ending_of-items_then, items_of-items_then, ComesTo, now, EachEndIsACut, Tops, Spells, At, Follows, Frame, State, top_step, step_in, step, start, reading}
+use Rattle.ion_binary.specs.Cuts.{later}
 use Rattle.ion_binary.proofs.Bodies.{bodies}
 use Rattle.ion_binary.proofs.Complete.{streams}
 use Rattle.ion_binary.proofs.Cutting.{read, in-turn}

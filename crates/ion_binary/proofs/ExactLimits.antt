@@ -1,15 +1,8 @@
 -- A reading stops at a limit only where the limit is passed.
-use Rattle.ion_binary.proofs.Below.{◌≡◌, ℕ, zero, suc, ◌+◌, ◌-◌, ◌*◌, ◌<◌, ◌≤◌, Bool, true, false, not, ◌&&◌, ◌||◌, if◌then◌else◌, nat_le, nat_lt, nat_eq, eqb, List, [], ◌∷◌, ◌++◌, length, take, drop, Option, Some, None, Result, Ok, Err, refl, sym, ap, subst, ◌∙◌, append_assoc, arith, ltb-true, ltb-false, leb-true, leb-false, eqb-false, Reason, Truncated, BadDescriptor, BadVersion, BadAnnotation, Overrun, Float, DepthLimit, ScalarLimit, AnnotationLimit, Rules, Kind, VarUInt, scalar_of_body, Symbol, SymbolAt, Scalar, PlacedItem, Path, closed, path_items, open_after, open_after_all, Reading, Stopped, items_then, Step, Ends, Stops, Gives, GoesOn, next_reading, reading_for, Cursor, ◌>>=◌, ◌>>◌, refuse, Placed, part, ending_of, IsLimit, items_then-append, Blames, bind_blames, then_blames, refuse_blames, blames_more, part_blames, if_blames, Free, free, refuse_free}
-use Rattle.std.proofs.lemmas.List.{length-append}
+use Rattle.ion_binary.proofs.Below.{◌≡◌, ℕ, zero, suc, ◌+◌, ◌-◌, ◌*◌, ◌<◌, ◌≤◌, Bool, true, false, not, ◌&&◌, ◌||◌, if◌then◌else◌, nat_le, nat_lt, nat_eq, eqb, List, [], ◌∷◌, ◌++◌, length, take, drop, Option, Some, None, Result, Ok, Err, refl, sym, ap, subst, ◌∙◌, append_assoc, arith, ltb-true, ltb-false, leb-true, leb-false, eqb-false, Reason, Truncated, BadDescriptor, BadVersion, BadAnnotation, Overrun, Float, DepthLimit, ScalarLimit, AnnotationLimit, Rules, Kind, VarUInt, scalar_of_body, Symbol, SymbolAt, Scalar, PlacedItem, Path, closed, path_items, open_after, open_after_all, Reading, Stopped, items_then, Step, Ends, Stops, Gives, GoesOn, next_reading, reading_for, Cursor, ◌>>=◌, ◌>>◌, refuse, Placed, part, ending_of, IsLimit, items_then-append, Blames, bind_blames, then_blames, refuse_blames, blames_more, part_blames, if_blames, Free, free, refuse_free, length-append, symbol_id, Frame, State, Region, passes, falls_short, octet_at, var_uint_at, length_at, Shape, shape_of, is_unwrappable, Around, TypedValue, a_nop_pad, a_marker, a_scalar, a_container, is_top, marker_rest, marker_at, fits, bare_at, nop_pad_at, body_at, scalar_at, begin_at, container_at, sorted_at, read_by_descriptor, typed_value_at, Wrapped, wrapper_at, ids_at, region_of, field_in, field_at, step_for, plain_at, inner_at, annotated_at, wrapper_length, by_wrapper, value_at, top_of, member_at, step_of, top_step, step_in, step, size, start, reading, IsBodyTypeCode, Descriptor, Ids, Header, Annotated, type_code, Tops, FieldIn, Spells, At, Follows, Bodies, IsBefore, StandNext, BeginNext, Passes, StopsAtLimit, ExactLimits}
 use Rattle.ion_value.specs.declared.ion_type.Kind.TheVariants as kind
 use Rattle.ion_value.specs.Value as value
-use Rattle.ion_binary.specs.Positions.{symbol_id, Frame, State}
-use Rattle.ion_binary.specs.Descriptor.{Region, passes, falls_short, octet_at, var_uint_at, length_at, Shape, shape_of, is_unwrappable}
-use Rattle.ion_binary.specs.Reading.{Around, TypedValue, a_nop_pad, a_marker, a_scalar, a_container, is_top, marker_rest, marker_at, fits, bare_at, nop_pad_at, body_at, scalar_at, begin_at, container_at, sorted_at, read_by_descriptor, typed_value_at, Wrapped, wrapper_at, ids_at, region_of, field_in, field_at, placed_item, step_for, plain_at, inner_at, annotated_at, wrapper_length, by_wrapper, value_at, top_of, member_at, step_of, top_step, step_in, step, size, start, reading}
-use Rattle.ion_binary.specs.Bodies.{IsBodyTypeCode}
-use Rattle.ion_binary.specs.Grammar.{Descriptor, Ids, Header, Annotated, type_code, Tops}
-use Rattle.ion_binary.specs.Paths.{FieldIn, Spells, At, Follows}
-use Rattle.ion_binary.specs.Laws.{Bodies, IsBefore, StandNext, BeginNext, Passes, StopsAtLimit, ExactLimits}
+use Rattle.ion_binary.specs.Reading.{placed_item}
 use Rattle.ion_binary.proofs.Free.{octet_at-free, var_uint_at-free, length_at-free, scalar_of_body-free}
 use Rattle.ion_binary.proofs.Taken.{part_ok, Took, Took-then, octet_at-taken, var_uint_at-taken, length_at-taken}
 use Rattle.ion_binary.proofs.TypedValueSound.{IsShape, shape_of-is}

@@ -1,12 +1,6 @@
 -- A reader's loop that hands items on: what one turn adds to the counts and the places of those before it.
-use Rattle.ion_binary.proofs.Below.{◌≡◌, ℕ, ◌+◌, ◌*◌, ◌-◌, ◌^◌, ◌<◌, ◌≤◌, ◌↔◌, List, [], ◌∷◌, None, length, refl, ap, sym, subst, ◌∙◌, arith, Counts, Exceeds, Incoming, left, Kind, one_if_closed, Charges, BytesAreLeft, Outgoing, Rules, CanTake, Feeds, Hands, more, WritesWithin, PlacedItem, feeds-then, feeds-under, stays-then, takes-more}
-use Rattle.ion_meter.specs.declared.device.Input.{Ghosts as InputOf}
-use Rattle.ion_value.specs.declared.writer.ValueWriter.{Ghosts as WriterOf}
+use Rattle.ion_binary.proofs.Below.{◌≡◌, ℕ, ◌+◌, ◌*◌, ◌-◌, ◌^◌, ◌<◌, ◌≤◌, ◌↔◌, List, [], ◌∷◌, None, length, refl, ap, sym, subst, ◌∙◌, arith, Counts, Exceeds, Incoming, left, Kind, one_if_closed, Charges, BytesAreLeft, Outgoing, Rules, CanTake, Feeds, Hands, more, WritesWithin, PlacedItem, feeds-then, feeds-under, stays-then, takes-more, InputOf, WriterOf, BinReader, CanHand, CanHandOn, HandsItem, HandsNothing, HandsOn, KeepsOn, joint, most_of, IsSound, held_by, left_to, opened_in, share_of, sound-within}
 use Rattle.ion_value.specs.Feeding.{nothing}
-use Rattle.ion_binary.specs.declared.reader.BinReader.{BinReader}
-use Rattle.ion_binary.specs.Lane.{CanHand, CanHandOn, HandsItem, HandsNothing, HandsOn, KeepsOn, joint}
-use Rattle.ion_binary.specs.Reader.{most_of}
-use Rattle.ion_binary.specs.Steps.{IsSound, held_by, left_to, opened_in, share_of, sound-within}
 use Rattle.ion_binary.proofs.ReaderParts.{charges-then}
 
 -- one value at most ends by an item

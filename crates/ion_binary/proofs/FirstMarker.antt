@@ -1,16 +1,6 @@
 -- Each binary stream begins with a version marker.
-use Rattle.std.proofs.Common.{◌≡◌, ℕ, Bool, true, false, not, ◌&&◌, ◌==◌, List, [], ◌∷◌, None, Result, Ok, refl, sym, ap, subst, ◌∙◌}
-use Rattle.ion_meter.specs.declared.fault.Reason.{Reason}
-use Rattle.ion_meter.specs.declared.fault.Reason.TheVariants.{BadVersion}
-use Rattle.ion_meter.specs.declared.profile.Rules.{Rules}
-use Rattle.ion_meter.specs.Sources.{Cursor, skip}
-use Rattle.ion_value.specs.Parts.{part, refuse, ◌>>=◌, ◌>>◌}
-use Rattle.ion_value.specs.Reading.{Step, next_reading}
+use Rattle.ion_binary.proofs.Below.{◌≡◌, ℕ, Bool, true, false, not, ◌&&◌, ◌==◌, List, [], ◌∷◌, None, Result, Ok, refl, sym, ap, subst, ◌∙◌, Reason, BadVersion, Rules, Cursor, skip, part, refuse, ◌>>=◌, ◌>>◌, Step, next_reading, BeginsWithMarker, stops_at_once, marker_first, StreamsBeginWithMarker, octet_at, shape_of, State, TypedValue, a_marker, marker_rest, marker_at, read_by_descriptor, typed_value_at, plain_at, value_at, member_at, step_of, step, start, reading, step_for}
 use Rattle.ion_binary.specs.Cuts as cuts
-use Rattle.ion_binary.specs.Cuts.{BeginsWithMarker, stops_at_once, marker_first, StreamsBeginWithMarker}
-use Rattle.ion_binary.specs.Descriptor.{octet_at, shape_of}
-use Rattle.ion_binary.specs.Positions.{State}
-use Rattle.ion_binary.specs.Reading.{TypedValue, a_marker, marker_rest, marker_at, read_by_descriptor, typed_value_at, plain_at, value_at, member_at, step_of, step, start, reading, step_for}
 use Rattle.ion_binary.proofs.Cutting.{read, in-turn}
 
 -- the step that finds what stands behind the first octet

@@ -1,9 +1,5 @@
 -- A stream of which each part is within limits, as the grammar spells it.
-use Rattle.ion_binary.proofs.Below.{◌≡◌, ℕ, suc, ◌+◌, ◌*◌, ◌<◌, ◌≤◌, List, [], ◌∷◌, ◌++◌, length, ap, arith, ⊤, Rules, Kind, Symbol, SymbolAt, Scalar, Value, Members, Top, version, top_items, Path, path_items, ArePermitted, IsPermitted, ValueIsPermitted, MembersArePermitted}
-use Rattle.std.proofs.lemmas.List.{length-append}
-use Rattle.ion_binary.specs.Grammar.{type_code, Ids, Wrapper, Annotated, Header, Plain, Bin, Inside, Tops}
-use Rattle.ion_binary.specs.Paths.{Spells}
-use Rattle.ion_binary.specs.Positions.{Frame}
+use Rattle.ion_binary.proofs.Below.{◌≡◌, ℕ, suc, ◌+◌, ◌*◌, ◌<◌, ◌≤◌, List, [], ◌∷◌, ◌++◌, length, ap, arith, ⊤, Rules, Kind, Symbol, SymbolAt, Scalar, Value, Members, Top, version, top_items, Path, path_items, ArePermitted, IsPermitted, ValueIsPermitted, MembersArePermitted, length-append, type_code, Ids, Wrapper, Annotated, Header, Plain, Bin, Inside, Tops, Spells, Frame}
 use Rattle.ion_binary.proofs.Permitted.{open-permitted, tops-last, tree-permitted, unplaced-permitted}
 use Rattle.ion_binary.proofs.Spelled.{VarUInt-pos, Descriptor-headed}
 

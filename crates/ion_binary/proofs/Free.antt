@@ -1,11 +1,7 @@
 -- Octets, lengths and bodies of scalars are never at fault for a limit.
-use Rattle.ion_binary.proofs.Below.{ℕ, zero, suc, ◌^◌, Bool, true, false, ◌&&◌, ◌==◌, nat_le, nat_lt, nat_eq, List, [], ◌∷◌, Option, Some, None, Ok, Err, refl, is_utf8, Timestamp, uint, var_cut, int_negative, int_magnitude, var_int_negative, var_int_magnitude, signed, int_of_bytes, decimal_of_cut, is_fraction, exponent_in, utc_fields, is_date, moved, offset_minutes, in_local_time, timestamp_in_utc, timestamp_of_fields, timestamp_of_cut, fields_cut, float_of_octets, float_of_body, Cursor, Blames, bind_blames, if_blames, Free, fault_free, value-free, in_range-free, years-free}
+use Rattle.ion_binary.proofs.Below.{ℕ, zero, suc, ◌^◌, Bool, true, false, ◌&&◌, ◌==◌, nat_le, nat_lt, nat_eq, List, [], ◌∷◌, Option, Some, None, Ok, Err, refl, is_utf8, Timestamp, uint, var_cut, int_negative, int_magnitude, var_int_negative, var_int_magnitude, signed, int_of_bytes, decimal_of_cut, is_fraction, exponent_in, utc_fields, is_date, moved, offset_minutes, in_local_time, timestamp_in_utc, timestamp_of_fields, timestamp_of_cut, fields_cut, float_of_octets, float_of_body, Cursor, Blames, bind_blames, if_blames, Free, fault_free, value-free, in_range-free, years-free, decimal_of_bytes, local_of, timestamp_of_bytes, scalar_of_body, Region, is_at_end, first_octet, octet_at, var_at, var_uint_at, length_at}
 use Rattle.ion_meter.specs.declared.fault.Reason.TheVariants as reason
-use Rattle.ion_value.specs.Decimal.{decimal_of_bytes}
-use Rattle.ion_value.specs.Timestamp.{local_of, timestamp_of_bytes}
 use lib.Ieee.{Float}
-use Rattle.ion_value.specs.Scalar.{scalar_of_body}
-use Rattle.ion_binary.specs.Descriptor.{Region, is_at_end, first_octet, octet_at, var_at, var_uint_at, length_at}
 
 -- ---- octets and lengths
 

@@ -1,18 +1,7 @@
 -- A scalar of which one text is new is added as the streaming definition says.
-use Rattle.ion_binary.proofs.Below.{◌≡◌, ℕ, ◌+◌, ◌*◌, ◌≤◌, inl, subst, Bool, true, false, List, [], ◌∷◌, ◌++◌, length, map, Option, Some, None, option_map, refl, ap, sym, ◌∙◌, arith, append_assoc, length-append, Counts, Grows, var_uint_octets, Head, Known, PlacedItem, Scalar, SymbolAt, Unknown, UserSymbol, map_head, map_scalar, user_item, user_symbol_at, field_symbols, scalar_symbols, Output, known_id, texts_cost}
+use Rattle.ion_binary.proofs.Below.{◌≡◌, ℕ, ◌+◌, ◌*◌, ◌≤◌, inl, subst, Bool, true, false, List, [], ◌∷◌, ◌++◌, length, map, Option, Some, None, option_map, refl, ap, sym, ◌∙◌, arith, append_assoc, length-append, Counts, Grows, var_uint_octets, Head, Known, PlacedItem, Scalar, SymbolAt, Unknown, UserSymbol, map_head, map_scalar, user_item, user_symbol_at, field_symbols, scalar_symbols, Output, known_id, texts_cost, OpenValue, BinWriter, Fresh, annotation_octets, field_octets, id_in, member_octets, with_symbol, with_symbols, with_text, wrapped, AreFresh, CanPutFresh, IsFresh, Held, counted_ids, headers_with, octets_with, size_of, head_name, head_octets, scalar_name, Content, appended, IsOpen, name_octets, noted, AddsPlain, HaveIds, IsWhole, added, held_in, first_over, head_symbols, item_symbols}
 use Rattle.ion_value.specs.Value as value
-use Rattle.ion_binary.specs.declared.open_value.OpenValue.{OpenValue}
-use Rattle.ion_binary.specs.declared.writer.BinWriter.{BinWriter}
-use Rattle.ion_binary.specs.declared.writer.fresh.Fresh.{Fresh}
-use Rattle.ion_binary.specs.Canonical.{annotation_octets, field_octets, id_in, member_octets, with_symbol, with_symbols, with_text, wrapped}
-use Rattle.ion_binary.specs.Fresh.{AreFresh, CanPutFresh, IsFresh}
-use Rattle.ion_binary.specs.Held.{Held, counted_ids, headers_with, octets_with, size_of}
-use Rattle.ion_binary.specs.ItemOctets.{head_name, head_octets, scalar_name}
-use Rattle.ion_binary.specs.Late.{Content, appended}
-use Rattle.ion_binary.specs.Opening.{IsOpen, name_octets, noted}
-use Rattle.ion_binary.specs.Plain.{AddsPlain, HaveIds, IsWhole}
-use Rattle.ion_binary.specs.Writer.{CanTake, added, held_in}
-use Rattle.ion_binary.specs.Writing.{first_over, head_symbols, item_symbols}
+use Rattle.ion_binary.specs.Writer.{CanTake}
 use Rattle.ion_binary.proofs.GivenIds.{cost-push, known-new}
 use Rattle.ion_binary.proofs.KnownIds.{AreKnown, Extends, IsKnown, all_known, annotation_octets-same, id_ext, known_ext}
 use Rattle.ion_binary.proofs.Numbered.{users-item}

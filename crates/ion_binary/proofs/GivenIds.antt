@@ -1,8 +1,5 @@
 -- The symbol table of an output gives the ids of the definition.
-use Rattle.ion_binary.proofs.Below.{◌≡◌, ℕ, suc, ◌+◌, ◌<◌, ◌≤◌, Bool, true, false, nat_le, if◌then◌else◌, List, [], ◌∷◌, ◌++◌, length, Option, Some, None, option_map, unwrap_or, refl, ap, sym, subst, ◌∙◌, arith, bytes_eq, bytes_eq-Decides, Known, position, system_id, or_given, known_id, texts_cost, id_or_new}
-use Rattle.std.proofs.Common.{leb-true, leb-false}
-use Rattle.ion_binary.specs.Canonical.{id_in, with_symbol, with_text}
-use Rattle.ion_binary.specs.WritingLaws.{IdsAreGiven, IsGiven}
+use Rattle.ion_binary.proofs.Below.{◌≡◌, ℕ, suc, ◌+◌, ◌<◌, ◌≤◌, Bool, true, false, nat_le, if◌then◌else◌, List, [], ◌∷◌, ◌++◌, length, Option, Some, None, option_map, unwrap_or, refl, ap, sym, subst, ◌∙◌, arith, bytes_eq, bytes_eq-Decides, Known, position, system_id, or_given, known_id, texts_cost, id_or_new, leb-true, leb-false, id_in, with_symbol, with_text, IdsAreGiven, IsGiven}
 
 pub cost-push : (texts : List (List ℕ)) (t : List ℕ) → texts_cost (texts ++ t ∷ []) ≡ texts_cost texts + (16 + length t)
 cost-push [] t = omega arith

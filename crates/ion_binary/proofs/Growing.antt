@@ -1,10 +1,6 @@
 -- A spelled path goes on by a NOP pad, a whole value, a version marker, a container's header or a container's end, and so do its items.
-use Rattle.ion_binary.proofs.Below.{◌≡◌, ℕ, ◌+◌, ◌≤◌, List, [], ◌∷◌, ◌++◌, length, Option, sym, ap, subst, ◌∙◌, append_assoc, append-nil, arith, Kind, SymbolAt, Value, container, Members, Top, version, tree, Path, closed, opened, open_in, put_in, mark_in, end_in, put_in-open_in, end_in-open_in}
-use Rattle.std.proofs.lemmas.List.{length-append}
+use Rattle.ion_binary.proofs.Below.{◌≡◌, ℕ, ◌+◌, ◌≤◌, List, [], ◌∷◌, ◌++◌, length, Option, sym, ap, subst, ◌∙◌, append_assoc, append-nil, arith, Kind, SymbolAt, Value, container, Members, Top, version, tree, Path, closed, opened, open_in, put_in, mark_in, end_in, put_in-open_in, end_in-open_in, length-append, Frame, Field, Header, Annotated, IsNopPad, Bin, Inside, Tops, FieldIn, Within, frame_of, Spells}
 use Rattle.ion_value.specs.Value as value
-use Rattle.ion_binary.specs.Positions.{Frame}
-use Rattle.ion_binary.specs.Grammar.{Field, Header, Annotated, IsNopPad, Bin, Inside, Tops}
-use Rattle.ion_binary.specs.Paths.{FieldIn, Within, frame_of, Spells}
 
 abbrev pub tail_of : List Frame → List Frame
 tail_of [] = []

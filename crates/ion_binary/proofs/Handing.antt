@@ -1,28 +1,17 @@
 -- An item that a window shows whole is the next one of the reading.
-use Rattle.ion_binary.proofs.Below.{◌≡◌, ℕ, ◌+◌, ◌-◌, ◌*◌, ◌^◌, ◌<◌, ◌≤◌, Bool, true, false, List, [], ◌∷◌, ◌++◌, length, drop, map, Option, Some, None, Ok, refl, ap, ap₂, sym, subst, ◌∙◌, arith, option_map, is_some, slice_get, IfSome, ◌==◌, ◌&&◌, not, slice_get-get_or, common_steps, Cursor, cursor, skip, Incoming, left, lent, Rules, Kind, first_is, is_plain, is_simple, raw_id, Gives, More, Fits, in_struct, SymbolAt, PlacedItem, reading_by-gives, TextAt, IsPassed, PlainItem, Hands, named_at, named_item, raw_head, one_if_closed, HasKnownName, HaveNoDollar, IsPlainItem, IsRightlyQuoted, StandsAfter, placed_text, with_second, Reading, Continues, HasAnnotations, HasPlace, InRange, has_field, is_marker, open_after, open_after_all, Head, Scalar, Symbol, map_head, map_scalar, IsPassed-cursor, reverse}
-use Rattle.ion_meter.specs.declared.device.Input.{Ghosts as InputOf}
+use Rattle.ion_binary.proofs.Below.{◌≡◌, ℕ, ◌+◌, ◌-◌, ◌*◌, ◌^◌, ◌<◌, ◌≤◌, Bool, true, false, List, [], ◌∷◌, ◌++◌, length, drop, map, Option, Some, None, Ok, refl, ap, ap₂, sym, subst, ◌∙◌, arith, option_map, is_some, slice_get, IfSome, ◌==◌, ◌&&◌, not, slice_get-get_or, common_steps, Cursor, cursor, skip, Incoming, left, lent, Rules, Kind, first_is, is_plain, is_simple, raw_id, Gives, More, Fits, in_struct, SymbolAt, PlacedItem, reading_by-gives, TextAt, IsPassed, PlainItem, Hands, named_at, named_item, raw_head, one_if_closed, HasKnownName, HaveNoDollar, IsPlainItem, IsRightlyQuoted, StandsAfter, placed_text, with_second, Reading, Continues, HasAnnotations, HasPlace, InRange, has_field, is_marker, open_after, open_after_all, Head, Scalar, Symbol, map_head, map_scalar, IsPassed-cursor, reverse, InputOf, ShownNote, Frame, placed_scalar, symbol_id, var_uint_at, TypedValue, field_at, member_at, region_of, step, step_for, step_of, top_of, IsInnermost, at_top, inside, EndsAt, Reaches, window, ShowsItem, ShowsNote, ShowsVar, noted_ids, second_id, WriterOf, kinds_of, state_of, to_come, size, EndsHere, IsAround, IsNote, IsSecondNote, ShowsField, ShowsFront, frame_in, kind_around, as_frame, as_frames, innermost}
 use Rattle.ion_value.specs.declared.ion_type.Kind.TheVariants as kind
 use Rattle.ion_value.specs.Value as value
 use Rattle.ion_binary.specs.declared.wrapper.Frame as frame
-use Rattle.ion_binary.specs.declared.reader.front.ShownNote.{ShownNote}
-use Rattle.ion_binary.specs.Positions.{Frame, placed_scalar, symbol_id}
-use Rattle.ion_binary.specs.Descriptor.{var_uint_at}
-use Rattle.ion_binary.specs.Reading.{TypedValue, field_at, member_at, placed_item, region_of, step, step_for, step_of, top_of}
-use Rattle.ion_binary.specs.Reader.{IsInnermost, at_top, inside}
-use Rattle.ion_binary.specs.Scanned.{EndsAt, Reaches, window}
-use Rattle.ion_binary.specs.Shown.{ShowsItem, ShowsNote, ShowsVar, noted_ids, second_id}
+use Rattle.ion_binary.specs.Reading.{placed_item}
 use Rattle.ion_binary.proofs.ScannedParts.{left-window, reaches-less}
 use Rattle.ion_binary.proofs.ShownParts.{shows_noted, shows_plain}
-use Rattle.ion_value.specs.declared.writer.ValueWriter.{Ghosts as WriterOf}
 use Rattle.ion_value.specs.PlainItems as PlainItems
-use Rattle.ion_binary.specs.Reader.{kinds_of, state_of, to_come}
-use Rattle.ion_binary.specs.Reading.{size}
 use Rattle.ion_binary.proofs.ReaderParts.{as_frames-length, innermost-struct, last-innermost, kinds-frames, kinds_of-length}
 use Rattle.ion_binary.proofs.Termination.{step-shrinks}
-use Rattle.ion_binary.specs.Lane.{EndsHere, GoesOn, IsAround, IsNote, IsSecondNote, ShowsField, ShowsFront, frame_in, frame_of, kind_around}
+use Rattle.ion_binary.specs.Lane.{GoesOn, frame_of}
 use Rattle.ion_binary.specs.declared.reader.front.Level.TheVariants as level
 use Rattle.ion_binary.specs.declared.reader.front.Around.{Around}
-use Rattle.ion_binary.specs.Wrappers.{as_frame, as_frames, innermost}
 use Rattle.ion_binary.proofs.ReaderParts.{innermost-field, innermost-region, inside-member, member_at-field, top-member}
 
 step-top : (limits : Rules) (frames : List Frame) (top here : ℕ) (octets more : List ℕ) → frames ≡ [] → 0 < length octets

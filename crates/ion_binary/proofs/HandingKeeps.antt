@@ -1,14 +1,8 @@
 -- What a reader and a writer keep where an item is handed on, and how memory goes with it.
-use Rattle.ion_binary.proofs.Below.{◌≡◌, ℕ, ◌+◌, ◌*◌, ◌-◌, ◌<◌, ◌≤◌, false, List, [], ◌∷◌, ◌++◌, length, Option, Some, None, MatchOption, refl, ap, ◌∙◌, subst, arith, common_steps, length_push, Counts, Grows, Shrinks, Stands, Incoming, IsPassed, Outgoing, lent, lent-CanPass, StaysWell, Charges, WritesWithin, PlacedItem}
-use Rattle.ion_meter.specs.declared.device.Input.{Ghosts as InputOf}
-use Rattle.ion_value.specs.declared.writer.ValueWriter.{Ghosts as WriterOf}
-use Rattle.ion_binary.specs.declared.reader.BinReader.{BinReader}
-use Rattle.ion_binary.specs.declared.reader.ItemKind.{ItemKind}
+use Rattle.ion_binary.proofs.Below.{◌≡◌, ℕ, ◌+◌, ◌*◌, ◌-◌, ◌<◌, ◌≤◌, false, List, [], ◌∷◌, ◌++◌, length, Option, Some, None, MatchOption, refl, ap, ◌∙◌, subst, arith, common_steps, length_push, Counts, Grows, Shrinks, Stands, Incoming, IsPassed, Outgoing, lent, lent-CanPass, StaysWell, Charges, WritesWithin, PlacedItem, InputOf, WriterOf, BinReader, ItemKind, CanHand, Handed, HandsAt, KeepsOn, IsSized, held_by, left_to, share_of}
 use Rattle.ion_binary.specs.declared.wrapper.Field.{Field}
 use Rattle.ion_binary.specs.declared.wrapper.Frame.{Frame}
 use Rattle.ion_binary.specs.declared.reader.front.Around.{Around}
-use Rattle.ion_binary.specs.Lane.{CanHand, Handed, HandsAt, KeepsOn}
-use Rattle.ion_binary.specs.Steps.{IsSized, held_by, left_to, share_of}
 
 -- a part that holds no more stands beside one that moves
 charges-beside : (a b : Counts) (own k l share most : ℕ) → own ≤ share → own + k ≤ a.held → Charges a b k l most → Charges a b (own + k) (own + l) (share + most)

@@ -1,14 +1,7 @@
 -- What is held moves with the items.
-use Rattle.ion_binary.proofs.Below.{◌≡◌, ℕ, ◌+◌, ◌-◌, ◌<◌, Bool, true, false, not, ◌&&◌, if◌then◌else◌, List, [], ◌∷◌, ◌++◌, length, map, take, drop, Option, Some, None, is_some, refl, ap, sym, subst, ◌∙◌, append_assoc, append-nil, arith, length-append, take-append_seam, drop-append_seam, Kind, var_uint_octets, is_marker, UserSymbol, Head, Item, Scalar}
-use Rattle.std.proofs.Common.{ne_eqb}
+use Rattle.ion_binary.proofs.Below.{◌≡◌, ℕ, ◌+◌, ◌-◌, ◌<◌, Bool, true, false, not, ◌&&◌, if◌then◌else◌, List, [], ◌∷◌, ◌++◌, length, map, take, drop, Option, Some, None, is_some, refl, ap, sym, subst, ◌∙◌, append_assoc, append-nil, arith, length-append, take-append_seam, drop-append_seam, Kind, var_uint_octets, is_marker, UserSymbol, Head, Item, Scalar, ne_eqb, HeaderPlace, type_code, annotation_octets, field_octets, header, headed, id_in, id_octets, is_over, member_octets, scalar_octets, wrapped, Unclosed, Written, all_closed, closed_with, forgetting, head_puts, opened_with, own_octets, value_puts, with_ids_given, place_of_header, closed_length, header_places, unheaded, wrapper_places, HaveCodes, Held, MayCome, WhatIsHeldMoves, begun_at, begun_headers, closed_in, counted_ids, moved_headers, moved_octets, header_at, headed_at, headers_around, headers_of, headers_with, octets_with, with_names, held_of, held_with_ids, put_at, size_of, texts_forgotten, value_held, value_put, whole_at, without_wrapper, wrapped_in, wrapper_headers}
 use Rattle.ion_value.specs.Value as value
-use Rattle.ion_binary.specs.declared.headers.HeaderPlace.{HeaderPlace}
-use Rattle.ion_binary.specs.Grammar.{type_code}
-use Rattle.ion_binary.specs.Canonical.{annotation_octets, field_octets, header, headed, id_in, id_octets, is_over, member_octets, scalar_octets, wrapped}
-use Rattle.ion_binary.specs.Writing.{Unclosed, Written, all_closed, closed_with, forgetting, head_puts, opened_with, own_octets, value_puts, with_head, with_ids_given, with_value}
-use Rattle.ion_binary.specs.Counting.{place_of_header}
-use Rattle.ion_binary.specs.Places.{closed_length, header_places, unheaded, wrapper_places}
-use Rattle.ion_binary.specs.Held.{HaveCodes, Held, MayCome, WhatIsHeldMoves, begun_at, begun_headers, closed_in, counted_ids, moved_headers, moved_octets, header_at, headed_at, headers_around, headers_of, headers_with, octets_with, with_names, held_of, held_with_ids, put_at, size_of, texts_forgotten, value_held, value_put, whole_at, without_wrapper, wrapped_in, wrapper_headers}
+use Rattle.ion_binary.specs.Writing.{with_head, with_value}
 use Rattle.ion_binary.proofs.PlacedHeaders.{closed_size_by_places}
 use Rattle.ion_binary.proofs.WrittenSpelled.{var_uint-some}
 

@@ -1,7 +1,6 @@
 -- Ids stay as texts are added.
-use Rattle.ion_binary.proofs.Below.{◌≡◌, ℕ, ◌+◌, Bool, true, false, List, [], ◌∷◌, ◌++◌, length, Option, Some, None, option_map, unwrap_or, if◌then◌else◌, refl, ap, sym, ◌∙◌, append_assoc, append-nil, ⊤, bytes_eq, bytes_eq-Decides, var_uint_octets, UserSymbol, Known, Unknown, Scalar, field_symbols, scalar_symbols, position, system_id, or_given, known_id}
+use Rattle.ion_binary.proofs.Below.{◌≡◌, ℕ, ◌+◌, Bool, true, false, List, [], ◌∷◌, ◌++◌, length, Option, Some, None, option_map, unwrap_or, if◌then◌else◌, refl, ap, sym, ◌∙◌, append_assoc, append-nil, ⊤, bytes_eq, bytes_eq-Decides, var_uint_octets, UserSymbol, Known, Unknown, Scalar, field_symbols, scalar_symbols, position, system_id, or_given, known_id, id_octets, annotation_octets, field_octets, scalar_octets, id_in, with_text, with_symbol, with_symbols}
 use Rattle.ion_value.specs.Value as value
-use Rattle.ion_binary.specs.Canonical.{id_octets, annotation_octets, field_octets, scalar_octets, id_in, with_text, with_symbol, with_symbols}
 
 -- ---- texts with more after them
 

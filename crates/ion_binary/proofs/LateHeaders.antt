@@ -1,8 +1,5 @@
 -- Late headers: what is held without them, and what one more and more octets change.
-use Rattle.ion_binary.proofs.Below.{◌≡◌, ℕ, zero, suc, ◌+◌, ◌-◌, ◌*◌, ◌<◌, ◌≤◌, ◌^◌, List, [], ◌∷◌, ◌++◌, length, take, drop, get_or, refl, ap, sym, ◌∙◌, arith, append_assoc, length-append, insert, drop-append-le, drop-take, drop_at, length-drop, length-take-le, take-append-le, take-take}
-use Rattle.ion_binary.specs.declared.held_octets.LateHeader.{LateHeader}
-use Rattle.ion_binary.specs.Held.{put_at}
-use Rattle.ion_binary.specs.Late.{AreLate, FitsAt, late_octets, missing_of, spread}
+use Rattle.ion_binary.proofs.Below.{◌≡◌, ℕ, zero, suc, ◌+◌, ◌-◌, ◌*◌, ◌<◌, ◌≤◌, ◌^◌, List, [], ◌∷◌, ◌++◌, length, take, drop, get_or, refl, ap, sym, ◌∙◌, arith, append_assoc, length-append, insert, drop-append-le, drop-take, drop_at, length-drop, length-take-le, take-append-le, take-take, LateHeader, put_at, AreLate, FitsAt, late_octets, missing_of, spread}
 
 -- ---- octets that go in
 

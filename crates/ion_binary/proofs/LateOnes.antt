@@ -1,8 +1,5 @@
 -- Calls that may fail: one header more becomes late, octets go in, and all late headers do.
-use Rattle.ion_binary.proofs.Below.{◌≡◌, ℕ, Bool, true, false, ◌+◌, ◌*◌, ◌^◌, ◌<◌, ◌≤◌, List, [], ◌++◌, length, drop, take, replicate, max, Option, Some, None, Result, Ok, Err, OnOk, OnErr, IfErr, refl, ap, sym, subst, ◌∙◌, arith, take_at, insert, Counts, Grows, IsRefused, Entries, Fault, Memory, fault_of}
-use Rattle.ion_binary.specs.declared.held_octets.LateHeader.{LateHeader}
-use Rattle.ion_binary.specs.Held.{put_at}
-use Rattle.ion_binary.specs.Late.{AreLate, Content, FitsAt, IsCosted, Moved, late_octets, missing_of, spread}
+use Rattle.ion_binary.proofs.Below.{◌≡◌, ℕ, Bool, true, false, ◌+◌, ◌*◌, ◌^◌, ◌<◌, ◌≤◌, List, [], ◌++◌, length, drop, take, replicate, max, Option, Some, None, Result, Ok, Err, OnOk, OnErr, IfErr, refl, ap, sym, subst, ◌∙◌, arith, take_at, insert, Counts, Grows, IsRefused, Entries, Fault, Memory, fault_of, LateHeader, put_at, AreLate, Content, FitsAt, IsCosted, Moved, late_octets, missing_of, spread}
 use Rattle.ion_binary.proofs.Contents.{content, content-costed, costed-is, grown-moved, refused-moved}
 use Rattle.ion_binary.proofs.LateHeaders.{insert-length, late-insert, late-more, missing-insert, put-length, spread-insert, spread-length, spread-put}
 

@@ -1,13 +1,6 @@
 -- What moves what is held is a step of the open value, and so is what follows it.
-use Rattle.ion_binary.proofs.Below.{◌≡◌, ℕ, suc, ◌+◌, ◌-◌, ◌*◌, ◌<◌, ◌≤◌, List, ◌∷◌, length, map, Option, Some, None, Result, Ok, Err, refl, ap, sym, subst, ◌∙◌, arith, Counts, Grows, IsRefused, Shrinks, Fault, Memory, Limits, AllByRecursion, IsErr, IsErrAnd, fault_of}
-use Rattle.ion_binary.specs.declared.headers.HeaderPlace.{HeaderPlace}
-use Rattle.ion_binary.specs.declared.open_value.OpenValue.{OpenValue}
-use Rattle.ion_binary.specs.Late.{Content, IsCosted, Moved, appended}
-use Rattle.ion_binary.specs.Canonical.{header}
-use Rattle.ion_binary.specs.Counting.{ArePlaced, AreReached, place_of_header}
-use Rattle.ion_binary.specs.Held.{size_of}
-use Rattle.ion_binary.specs.Places.{closed_length, header_size, missing}
-use Rattle.ion_binary.specs.Opening.{CanStep, HasRoom, IsOpen, IsOpenTo, Raises, Stepped}
+use Rattle.ion_binary.proofs.Below.{◌≡◌, ℕ, suc, ◌+◌, ◌-◌, ◌*◌, ◌<◌, ◌≤◌, List, ◌∷◌, length, map, Option, Some, None, Result, Ok, Err, refl, ap, sym, subst, ◌∙◌, arith, Counts, Grows, IsRefused, Shrinks, Fault, Memory, Limits, AllByRecursion, IsErr, IsErrAnd, fault_of, HeaderPlace, OpenValue, Content, IsCosted, Moved, appended, header, ArePlaced, AreReached, place_of_header, size_of, closed_length, header_size, missing, CanStep, IsOpen, IsOpenTo, Raises, Stepped}
+use Rattle.ion_binary.specs.Opening.{HasRoom}
 use Rattle.ion_binary.proofs.Contents.{costed-by}
 use Rattle.ion_binary.proofs.OpenSteps.{closed-put}
 

@@ -1,11 +1,7 @@
 -- Narrower rules change nothing in what is read, or cut it short by a fault of theirs.
-use Rattle.ion_binary.proofs.Below.{◌≡◌, ◌≢◌, ℕ, zero, suc, ◌+◌, ◌*◌, ◌⊎◌, inl, inr, Bool, true, false, not, if◌then◌else◌, nat_le, nat_lt, nat_eq, List, [], ◌∷◌, Option, Some, None, Result, Ok, Err, refl, sym, ap, ◌∙◌, arith, cases_Bool, ltb-true, leb-true, lt-ltb, le-leb, Reason, BadDescriptor, Float, DepthLimit, ScalarLimit, AnnotationLimit, Rules, Kind, SymbolAt, PlacedItem, Step, Ends, Stops, Gives, GoesOn, next_reading, reading_for, Cursor, ◌>>=◌, ◌>>◌, refuse, Placed, part, AreWithin}
-use Rattle.ion_value.specs.Reading.{Reading}
+use Rattle.ion_binary.proofs.Below.{◌≡◌, ◌≢◌, ℕ, zero, suc, ◌+◌, ◌*◌, ◌⊎◌, inl, inr, Bool, true, false, not, if◌then◌else◌, nat_le, nat_lt, nat_eq, List, [], ◌∷◌, Option, Some, None, Result, Ok, Err, refl, sym, ap, ◌∙◌, arith, cases_Bool, ltb-true, leb-true, lt-ltb, le-leb, Reason, BadDescriptor, Float, DepthLimit, ScalarLimit, AnnotationLimit, Rules, Kind, SymbolAt, PlacedItem, Step, Ends, Stops, Gives, GoesOn, next_reading, reading_for, Cursor, ◌>>=◌, ◌>>◌, refuse, Placed, part, AreWithin, Reading, Frame, State, var_uint_at, Shape, null, bool, nop_pad, wrapper, body, sorted, float, illegal, shape_of, Around, body_at, scalar_at, begin_at, container_at, sorted_at, read_by_descriptor, typed_value_at, ids_at, plain_at, inner_at, annotated_at, wrapper_length, by_wrapper, value_at, top_of, member_at, step_of, top_step, step_in, step, size, start, reading, IsNarrower, IsCut, here, later, Narrow}
 use Rattle.ion_value.specs.declared.ion_type.Kind.TheVariants as kind
-use Rattle.ion_binary.specs.Positions.{Frame, State}
-use Rattle.ion_binary.specs.Descriptor.{var_uint_at, Shape, null, bool, nop_pad, wrapper, body, container, sorted, marker, float, illegal, shape_of}
-use Rattle.ion_binary.specs.Reading.{Around, body_at, scalar_at, begin_at, container_at, sorted_at, read_by_descriptor, typed_value_at, ids_at, plain_at, inner_at, annotated_at, wrapper_length, by_wrapper, value_at, top_of, member_at, step_of, top_step, step_in, step, size, start, reading}
-use Rattle.ion_binary.specs.Laws.{IsNarrower, IsCut, here, later, Narrow}
+use Rattle.ion_binary.specs.Descriptor.{container, marker}
 
 -- ---- one result, or a fault of narrower rules in its place
 

@@ -1,9 +1,5 @@
 -- A value stands after the ids of its field and its annotation.
-use Rattle.std.proofs.Common.{◌≡◌, ℕ, ◌+◌, ◌<◌, Bool, if◌then◌else◌, List, [], ◌∷◌, ◌++◌, length, ap, sym, ◌∙◌, arith, append_assoc, ne_eqb}
-use Rattle.ion_value.specs.Number.{var_uint_octets}
-use Rattle.ion_binary.specs.Canonical.{wrapped}
-use Rattle.ion_binary.specs.Held.{counted_ids}
-use Rattle.ion_binary.specs.Opening.{name_octets, wrapper_octets}
+use Rattle.ion_binary.proofs.Below.{◌≡◌, ℕ, ◌+◌, ◌<◌, Bool, if◌then◌else◌, List, [], ◌∷◌, ◌++◌, length, ap, sym, ◌∙◌, arith, append_assoc, ne_eqb, var_uint_octets, wrapped, counted_ids, name_octets, wrapper_octets}
 use Rattle.ion_binary.proofs.OpenSteps.{wrapper-around}
 use Rattle.ion_binary.proofs.ShortestHeaders.{var-one}
 

@@ -1,12 +1,7 @@
 -- Symbols that are given ids one after the other, and octets that are put as long as they fit.
-use Rattle.ion_binary.proofs.Below.{◌≡◌, ℕ, zero, suc, ◌+◌, ◌<◌, ◌≤◌, Bool, true, false, nat_lt, if◌then◌else◌, List, [], ◌∷◌, ◌++◌, length, take, drop, Option, Some, None, option_map, Result, Ok, Err, OnOk, refl, ap, ap₂, sym, subst, ◌∙◌, append_assoc, append-nil, length-append, arith, slice_get, lt-ltb, le-ltb, map-append, take-append-drop, flat_map-append, Counts, Fault, Refused, SymbolLimit, var_uint_octets, Charges, MemoryCauses, WriteCauses, fault_of, SymbolAt, UserSymbol, Known, Unknown, user_symbol_at, user_item, map_head, map_scalar, Head, Scalar, PlacedItem, field_symbols, scalar_symbols, Output, texts_cost, id_given}
+use Rattle.ion_binary.proofs.Below.{◌≡◌, ℕ, zero, suc, ◌+◌, ◌<◌, ◌≤◌, Bool, true, false, nat_lt, if◌then◌else◌, List, [], ◌∷◌, ◌++◌, length, take, drop, Option, Some, None, option_map, Result, Ok, Err, OnOk, refl, ap, ap₂, sym, subst, ◌∙◌, append_assoc, append-nil, length-append, arith, slice_get, lt-ltb, le-ltb, map-append, take-append-drop, flat_map-append, Counts, Fault, Refused, SymbolLimit, var_uint_octets, Charges, MemoryCauses, WriteCauses, fault_of, SymbolAt, UserSymbol, Known, Unknown, user_symbol_at, user_item, map_head, map_scalar, Head, Scalar, PlacedItem, field_symbols, scalar_symbols, Output, texts_cost, id_given, Front, field_octets, id_in, id_octets, with_symbol, with_symbols, head_name, CanNumber, IsFront, Numbering, Numbers, PutsWithin, numbering, users, first_over, head_symbols, item_symbols, IsGiven}
 use Rattle.ion_value.specs.Value as value
-use Rattle.ion_binary.specs.declared.front.Front.{Front}
-use Rattle.ion_binary.specs.Canonical.{field_octets, id_in, id_octets, with_symbol, with_symbols}
-use Rattle.ion_binary.specs.ItemOctets.{head_name}
-use Rattle.ion_binary.specs.Numbering.{CanNumber, IsFront, Numbering, Numbers, PutsWithin, held_by, numbering, users}
-use Rattle.ion_binary.specs.Writing.{first_over, head_symbols, item_symbols}
-use Rattle.ion_binary.specs.WritingLaws.{IsGiven}
+use Rattle.ion_binary.specs.Numbering.{held_by}
 use Rattle.ion_binary.proofs.GivenIds.{ids_are_given}
 use Rattle.ion_binary.proofs.KnownIds.{Extends, extends_all, extends_trans, AreKnown, all_known, field_octets-same, id_octets-same, with_symbols-append}
 use Rattle.ion_binary.proofs.ReaderParts.{charges-then}

@@ -1,16 +1,6 @@
 -- The headers that are missing stay right as one goes in, and as containers begin and values come.
-use Rattle.ion_binary.proofs.Below.{◌≡◌, ℕ, zero, suc, ◌+◌, ◌-◌, ◌*◌, ◌^◌, ◌<◌, ◌≤◌, inl, inr, Bool, if◌then◌else◌, List, [], ◌∷◌, ◌++◌, length, map, take, drop, get_or, Option, Some, None, refl, ap, sym, subst, ◌∙◌, arith, append_assoc, length-append, suc-mul, lit<, MatchOption, AllByRecursion, cases_lt, length-take-le, length-drop, Counts, Grows, Shrinks, AreChecked, Limits, Kind, var_uint_octets, Charges}
-use Rattle.std.proofs.Common.{ne_eqb}
+use Rattle.ion_binary.proofs.Below.{◌≡◌, ℕ, zero, suc, ◌+◌, ◌-◌, ◌*◌, ◌^◌, ◌<◌, ◌≤◌, inl, inr, Bool, if◌then◌else◌, List, [], ◌∷◌, ◌++◌, length, map, take, drop, get_or, Option, Some, None, refl, ap, sym, subst, ◌∙◌, arith, append_assoc, length-append, suc-mul, lit<, MatchOption, AllByRecursion, cases_lt, length-take-le, length-drop, Counts, Grows, Shrinks, AreChecked, Limits, Kind, var_uint_octets, Charges, ne_eqb, type_code, HeaderPlace, OpenValue, header, headed, wrapped, ArePlaced, AreReached, IsCounted, beyond, counted_length, cut, place_of_header, begun_at, counted_ids, headed_at, header_at, size_of, whole_at, wrapper_headers, opening, CanStep, IsOpen, IsOpenTo, Stepped, wrapper_octets, closed_length, header_size, missing}
 use Rattle.ion_value.specs.declared.ion_type.Kind.TheVariants as kind
-use Rattle.ion_binary.specs.Grammar.{type_code}
-use Rattle.ion_binary.specs.declared.headers.HeaderPlace.{HeaderPlace}
-use Rattle.ion_binary.specs.declared.open_value.OpenValue.{OpenValue}
-use Rattle.ion_binary.specs.Canonical.{header, headed, wrapped}
-use Rattle.ion_binary.specs.Counting.{ArePlaced, AreReached, IsCounted, beyond, counted_length, cut, place_of_header}
-use Rattle.ion_binary.specs.Held.{begun_at, counted_ids, headed_at, header_at, size_of, whole_at, wrapper_headers}
-use Rattle.ion_binary.specs.ItemOctets.{opening}
-use Rattle.ion_binary.specs.Opening.{CanStep, IsOpen, IsOpenTo, Stepped, wrapper_octets}
-use Rattle.ion_binary.specs.Places.{closed_length, header_size, missing}
 use Rattle.ion_binary.proofs.CountedHeaders.{closed-counted, cut-is-reached, reached-inner, reached-more}
 use Rattle.ion_binary.proofs.PlacedHeaders.{header-few}
 use Rattle.ion_binary.proofs.HeldMoves.{counted-some, wrapper-headers-some}

@@ -1,14 +1,6 @@
 -- Where a stream passes a limit, its reading stops at one.
-use Rattle.ion_binary.proofs.Below.{◌≡◌, ℕ, zero, suc, ◌+◌, ◌*◌, ◌<◌, ◌≤◌, ◌⊎◌, inl, inr, true, false, not, ◌&&◌, leb, ltb, eqb, List, [], ◌∷◌, ◌++◌, length, drop, Option, Some, None, Ok, Err, refl, sym, ap, subst, ◌∙◌, append_assoc, arith, leb-true, leb-false, ltb-false, lt-leb, drop_at, Reason, BadDescriptor, BadAnnotation, Float, DepthLimit, ScalarLimit, AnnotationLimit, Rules, Cursor, Kind, IsVar, VarUInt, var_uint, SymbolAt, PlacedItem, top_items, Path, path_items, ◌>>=◌, refuse, Placed, part, Reading, Finished, Stopped, More, Step, Stops, next_reading, reading_by, ending_of, AreWithin, reading_by-step, ending_of-items_then, all-permitted, permitted-alike}
-use Rattle.std.proofs.lemmas.List.{length-append}
+use Rattle.ion_binary.proofs.Below.{◌≡◌, ℕ, zero, suc, ◌+◌, ◌*◌, ◌<◌, ◌≤◌, ◌⊎◌, inl, inr, true, false, not, ◌&&◌, leb, ltb, eqb, List, [], ◌∷◌, ◌++◌, length, drop, Option, Some, None, Ok, Err, refl, sym, ap, subst, ◌∙◌, append_assoc, arith, leb-true, leb-false, ltb-false, lt-leb, drop_at, Reason, BadDescriptor, BadAnnotation, Float, DepthLimit, ScalarLimit, AnnotationLimit, Rules, Cursor, Kind, IsVar, VarUInt, var_uint, SymbolAt, PlacedItem, top_items, Path, path_items, ◌>>=◌, refuse, Placed, part, Reading, Finished, Stopped, More, Step, Stops, next_reading, reading_by, ending_of, AreWithin, reading_by-step, ending_of-items_then, all-permitted, permitted-alike, length-append, IsBodyTypeCode, octet_at, var_uint_at, length_at, Shape, shape_of, is_unwrappable, Descriptor, Ids, Field, Header, Wrapper, Annotated, type_code, Bodies, IsBefore, StandNext, BeginNext, PassesLimit, Passes, PassedLimitsStop, FieldIn, At, Frame, State, Around, TypedValue, fits, body_at, scalar_at, begin_at, container_at, sorted_at, read_by_descriptor, typed_value_at, Wrapped, wrapper_at, ids_at, region_of, field_at, plain_at, inner_at, annotated_at, wrapper_length, by_wrapper, value_at, top_of, member_at, step_of, top_step, step_in, step, size, start, reading}
 use Rattle.ion_value.specs.declared.ion_type.Kind.TheVariants as kind
-use Rattle.ion_binary.specs.Bodies.{IsBodyTypeCode}
-use Rattle.ion_binary.specs.Descriptor.{octet_at, var_uint_at, length_at, Shape, shape_of, is_unwrappable}
-use Rattle.ion_binary.specs.Grammar.{Descriptor, Ids, Field, Header, Wrapper, Annotated, type_code}
-use Rattle.ion_binary.specs.Laws.{Bodies, IsBefore, StandNext, BeginNext, PassesLimit, Passes, PassedLimitsStop}
-use Rattle.ion_binary.specs.Paths.{FieldIn, At}
-use Rattle.ion_binary.specs.Positions.{Frame, State}
-use Rattle.ion_binary.specs.Reading.{Around, TypedValue, fits, body_at, scalar_at, begin_at, container_at, sorted_at, read_by_descriptor, typed_value_at, Wrapped, wrapper_at, ids_at, region_of, field_at, plain_at, inner_at, annotated_at, wrapper_length, by_wrapper, value_at, top_of, member_at, step_of, top_step, step_in, step, size, start, reading}
 use Rattle.ion_binary.proofs.Complete.{Shrinking, Reads, read_from, reading-read_from, Spells-reads, streams}
 use Rattle.ion_binary.proofs.Fitting.{Spells-allowed}
 use Rattle.ion_binary.proofs.Narrow.{StepCut, narrow, step-Cut}

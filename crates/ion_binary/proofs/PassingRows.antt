@@ -1,8 +1,5 @@
 -- Worked rows: streams that pass no limit at any place, though some of their octets would pass one if a value began with them.
-use Rattle.ion_binary.proofs.Below.{false, ◌≡◌, ℕ, List, [], ◌∷◌, refl, Reason, Rules, SymbolAt, Path, Finished, ending_of}
-use Rattle.ion_binary.specs.Positions.{State}
-use Rattle.ion_binary.specs.Paths.{At}
-use Rattle.ion_binary.specs.Laws.{Passes}
+use Rattle.ion_binary.proofs.Below.{false, ◌≡◌, ℕ, List, [], ◌∷◌, refl, Reason, Rules, SymbolAt, Path, Finished, ending_of, State, At, Passes}
 use Rattle.ion_binary.proofs.Bodies.{bodies}
 use Rattle.ion_binary.proofs.PassedLimits.{none_passed}
 use Rattle.ion_binary.proofs.Rows.{read}

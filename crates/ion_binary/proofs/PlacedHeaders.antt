@@ -1,9 +1,5 @@
 -- The closed size by the places of headers, and by counts of them.
-use Rattle.ion_binary.proofs.Below.{◌≡◌, ℕ, zero, suc, ◌+◌, ◌-◌, ◌^◌, ◌<◌, ◌≤◌, ◌⊎◌, inl, inr, min, nat_lt, nat_le, Bool, true, false, if◌then◌else◌, List, [], ◌∷◌, ◌++◌, length, sum, get_or, refl, ap, ap₂, sym, ◌∙◌, arith, length-append, ⊤, AllByRecursion, cases_lt, lt-leb, pow-le-pow_right, sum_by-cons, number, marked, digits_in, var_uint_octets, Digits, digits_in-Digits, number-below}
-use Rattle.std.proofs.Common.{ltb-true, ltb-false, lt-ltb, le-ltb, le-leb}
-use Rattle.ion_binary.specs.Canonical.{headed, header, wrapped}
-use Rattle.ion_binary.specs.Writing.{Unclosed, all_closed, closed_with}
-use Rattle.ion_binary.specs.Places.{AreSettled, ClosedSizeByCounts, ClosedSizeByPlaces, IsSettledAt, contents, counted_size, thresholds, header_places, header_size, missing, unheaded, wrapper_places}
+use Rattle.ion_binary.proofs.Below.{◌≡◌, ℕ, zero, suc, ◌+◌, ◌-◌, ◌^◌, ◌<◌, ◌≤◌, ◌⊎◌, inl, inr, min, nat_lt, nat_le, Bool, true, false, if◌then◌else◌, List, [], ◌∷◌, ◌++◌, length, sum, get_or, refl, ap, ap₂, sym, ◌∙◌, arith, length-append, ⊤, AllByRecursion, cases_lt, lt-leb, pow-le-pow_right, sum_by-cons, number, marked, digits_in, var_uint_octets, Digits, digits_in-Digits, number-below, ltb-true, ltb-false, lt-ltb, le-ltb, le-leb, headed, header, wrapped, Unclosed, all_closed, closed_with, AreSettled, ClosedSizeByCounts, ClosedSizeByPlaces, IsSettledAt, contents, counted_size, thresholds, header_places, header_size, missing, unheaded, wrapper_places}
 
 -- ---- lengths of what is closed
 

@@ -1,21 +1,11 @@
 -- A plain item that is added to an open value is that of the streaming definition.
-use Rattle.ion_binary.proofs.Below.{◌≡◌, ℕ, ◌+◌, ◌-◌, ◌/◌, ◌<◌, ◌≤◌, ◌⊎◌, inl, subst, nat_lt, Bool, true, false, if◌then◌else◌, List, [], ◌∷◌, ◌++◌, length, map, take, drop, Option, Some, None, unwrap_or, option_map, Ok, refl, ap, sym, ◌∙◌, arith, append-nil, append_assoc, IfSome, Counts, Outgoing, Limits, Reason, PlainItem, TextAt, raw_head, listed, placed_item, placed_text, single_item, with_second, Head, Known, PlacedItem, SymbolAt, UserSymbol, map_head, user_item, user_symbol_at, known_id, or_given, position, system_texts, texts_cost, var_uint_octets, field_symbols}
-use Rattle.std.proofs.Common.{le-ltb}
+use Rattle.ion_binary.proofs.Below.{◌≡◌, ℕ, ◌+◌, ◌-◌, ◌/◌, ◌<◌, ◌≤◌, ◌⊎◌, inl, subst, nat_lt, Bool, true, false, if◌then◌else◌, List, [], ◌∷◌, ◌++◌, length, map, take, drop, Option, Some, None, unwrap_or, option_map, Ok, refl, ap, sym, ◌∙◌, arith, append-nil, append_assoc, IfSome, Counts, Outgoing, Limits, Reason, PlainItem, TextAt, raw_head, listed, placed_item, placed_text, single_item, with_second, Head, Known, PlacedItem, SymbolAt, UserSymbol, map_head, user_item, user_symbol_at, known_id, or_given, position, system_texts, texts_cost, var_uint_octets, field_symbols, le-ltb, HeaderPlace, OpenValue, BinWriter, annotation_octets, declaration, header, marker_if, field_octets, id_in, id_octets, member_octets, wrapped, with_symbol, with_symbols, with_text, Held, closed_in, counted_ids, headed_at, headers_around, headers_with, held_forgotten, held_of, ids_place, moved_headers, moved_octets, octets_with, size_of, value_held, value_put, whole_at, with_front, with_names, head_octets, AddsOctets, IsOpen, MayAdd, Stepped, name_octets, noted, noted_by, AddsPlain, HaveIds, IsWhole, TakesPlain, ComesAt, Taken, added, adds_at, held_in, item_refusal, Written, first_over, head_symbols, item_puts, item_symbols, refused_at, unless_refused, ArePlaced}
 use Rattle.ion_value.specs.Value as value
-use Rattle.ion_binary.specs.declared.headers.HeaderPlace.{HeaderPlace}
-use Rattle.ion_binary.specs.declared.open_value.OpenValue.{OpenValue}
-use Rattle.ion_binary.specs.declared.writer.BinWriter.{BinWriter}
-use Rattle.ion_binary.specs.Canonical.{annotation_octets, declaration, header, marker_if, field_octets, id_in, id_octets, member_octets, wrapped, with_symbol, with_symbols, with_text}
-use Rattle.ion_binary.specs.Held.{Held, closed_in, counted_ids, headed_at, headers_around, headers_with, held_forgotten, held_of, ids_place, moved_headers, moved_octets, octets_with, size_of, value_held, value_put, whole_at, with_front, with_names}
-use Rattle.ion_binary.specs.ItemOctets.{head_octets}
-use Rattle.ion_binary.specs.Opening.{AddsOctets, IsOpen, MayAdd, MayCome, Stepped, name_octets, noted, noted_by}
-use Rattle.ion_binary.specs.Plain.{AddsPlain, HaveIds, IsWhole, TakesPlain}
-use Rattle.ion_binary.specs.Writer.{CanTake, ComesAt, Follows, Taken, added, adds_at, held_in, item_refusal}
-use Rattle.ion_binary.specs.Writing.{Written, first_over, head_symbols, item_puts, item_symbols, refused_at, unless_refused}
+use Rattle.ion_binary.specs.Opening.{MayCome}
+use Rattle.ion_binary.specs.Writer.{CanTake, Follows}
 use Rattle.ion_binary.proofs.HeldMoves.{counted-are, whole-is}
 use Rattle.ion_binary.proofs.NotedOctets.{named-octets}
 use Rattle.ion_binary.proofs.Numbered.{users-item}
-use Rattle.ion_binary.specs.Counting.{ArePlaced}
 use Rattle.ion_binary.proofs.DeclarationOctets.{declaration-none}
 use Rattle.ion_binary.proofs.OpenSteps.{closed-put, put-length}
 use Rattle.ion_binary.proofs.WriterFollows.{codes-after, forgotten-is, held-after, may-add, put-then, refusal-is}

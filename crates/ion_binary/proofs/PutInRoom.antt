@@ -1,9 +1,5 @@
 -- Octets that are put where there is surely room for them: what a call keeps and moves, whether it puts them or declines.
-use Rattle.ion_binary.proofs.Below.{◌≡◌, ℕ, suc, ◌+◌, ◌*◌, ◌≤◌, Bool, true, false, List, [], length, None, refl, ap, sym, subst, arith, length-append, Counts, Grows, Limits, Kind}
-use Rattle.ion_binary.specs.declared.headers.HeaderPlace.{HeaderPlace}
-use Rattle.ion_binary.specs.declared.open_value.OpenValue.{OpenValue}
-use Rattle.ion_binary.specs.Late.{Content, appended}
-use Rattle.ion_binary.specs.Opening.{AddsOctets, Begins, CanAdd, CanStep, Stepped}
+use Rattle.ion_binary.proofs.Below.{◌≡◌, ℕ, suc, ◌+◌, ◌*◌, ◌≤◌, Bool, true, false, List, [], length, None, refl, ap, sym, subst, arith, length-append, Counts, Grows, Limits, Kind, HeaderPlace, OpenValue, Content, appended, AddsOctets, Begins, CanAdd, CanStep, Stepped}
 use Rattle.ion_binary.proofs.Contents.{costed-by}
 use Rattle.ion_binary.proofs.OpenSteps.{room-open}
 

@@ -1,15 +1,9 @@
 -- What a scanner finds, and then what follows it, is what reading finds of a descriptor octet.
-use Rattle.ion_binary.proofs.Below.{arith, refl, sym, ap, ◌∙◌, ◌≡◌, ℕ, ◌+◌, ◌/◌, ◌^◌, ◌<◌, Bool, true, false, ◌&&◌, not, nat_eq, nat_le, nat_lt, if◌then◌else◌, List, [], ◌∷◌, length, take, Option, Some, None, Result, Ok, Err, le-ltb, leb-false, Reason, BadAnnotation, BadDescriptor, DepthLimit, Float, Overrun, ScalarLimit, Truncated, Rules, Cursor, skip, Kind, ◌>>=◌, ◌>>◌, Placed, part, refuse, Step, scalar_of_body, Symbol, SymbolAt, Scalar}
-use Rattle.std.proofs.lemmas.Bool.{eq-eqb}
+use Rattle.ion_binary.proofs.Below.{arith, refl, sym, ap, ◌∙◌, ◌≡◌, ℕ, ◌+◌, ◌/◌, ◌^◌, ◌<◌, Bool, true, false, ◌&&◌, not, nat_eq, nat_le, nat_lt, if◌then◌else◌, List, [], ◌∷◌, length, take, Option, Some, None, Result, Ok, Err, le-ltb, leb-false, Reason, BadAnnotation, BadDescriptor, DepthLimit, Float, Overrun, ScalarLimit, Truncated, Rules, Cursor, skip, Kind, ◌>>=◌, ◌>>◌, Placed, part, refuse, Step, scalar_of_body, Symbol, SymbolAt, Scalar, eq-eqb, Found, Region, Shape, falls_short, first_octet, is_unwrappable, length_at, octet_at, passes, shape_of, body_here, Frame, State, Around, TypedValue, a_scalar, annotated_at, bare_at, begin_at, body_at, by_wrapper, container_at, fits, inner_at, is_top, marker_at, nop_pad_at, plain_at, read_by_descriptor, region_of, scalar_at, sorted_at, step_for, typed_value_at, value_at, wrapper_length, IsFound, bodied, found_at, found_by, length_code_of, noted_at, pad_at, part_at, rest_at, wrapper_after, wrapping}
 use Rattle.ion_value.specs.declared.ion_type.Kind.TheVariants as kind
 use Rattle.ion_value.specs.Value as value
-use Rattle.ion_binary.specs.declared.scan.Found.{Found}
 use Rattle.ion_binary.specs.declared.scan.Found.TheVariants as found
-use Rattle.ion_binary.specs.Descriptor.{Region, Shape, falls_short, first_octet, is_unwrappable, length_at, octet_at, passes, shape_of}
-use Rattle.ion_binary.specs.Parts.{body_here}
-use Rattle.ion_binary.specs.Positions.{Frame, State}
-use Rattle.ion_binary.specs.Reading.{Around, TypedValue, a_scalar, annotated_at, bare_at, begin_at, body_at, by_wrapper, container_at, fits, inner_at, is_top, marker_at, nop_pad_at, plain_at, read_by_descriptor, region_of, scalar_at, sorted_at, step_for, typed_value_at, value_at, wrapper_length}
-use Rattle.ion_binary.specs.Scanned.{IsFound, begun, bodied, found_at, found_by, length_code_of, noted_at, pad_at, part_at, rest_at, wrapper_after, wrapping}
+use Rattle.ion_binary.specs.Scanned.{begun}
 use Rattle.ion_binary.proofs.StepPreservesPath.{wrapper_is}
 use Rattle.ion_binary.proofs.WrapperCode.{wrapper_at-after}
 

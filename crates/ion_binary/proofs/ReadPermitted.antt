@@ -1,13 +1,9 @@
 -- What is read is permitted: a float only where floats are read.
-use Rattle.ion_binary.proofs.Below.{◌≡◌, ℕ, zero, suc, ◌/◌, ◌%◌, Bool, true, false, not, ◌&&◌, if◌then◌else◌, nat_eq, nat_le, nat_lt, List, [], ◌∷◌, length, take, Option, Some, None, Result, Ok, Err, refl, rules, AllByRecursion, IfOk, is_utf8, Cursor, skip, Reason, Rules, Kind, Placed, part, refuse, ◌>>◌, Step, items_of, IsPermitted, ArePermitted, with_value, decimal_of_bytes, int_of_bytes, timestamp_of_bytes, Symbol, SymbolAt, Scalar, GivesPermitted, reading-permitted, scalar-all, if-any, if-next, if-passed, if-then}
+use Rattle.ion_binary.proofs.Below.{◌≡◌, ℕ, zero, suc, ◌/◌, ◌%◌, Bool, true, false, not, ◌&&◌, if◌then◌else◌, nat_eq, nat_le, nat_lt, List, [], ◌∷◌, length, take, Option, Some, None, Result, Ok, Err, refl, rules, AllByRecursion, IfOk, is_utf8, Cursor, skip, Reason, Rules, Kind, Placed, part, refuse, ◌>>◌, Step, items_of, IsPermitted, ArePermitted, with_value, decimal_of_bytes, int_of_bytes, timestamp_of_bytes, Symbol, SymbolAt, Scalar, GivesPermitted, reading-permitted, scalar-all, if-any, if-next, if-passed, if-then, scalar_of_body, Frame, State, placed_scalar, Shape, bool_shape, length_at, null_shapes, octet_at, passes, shape_of, sized_shapes, struct_shape, var_uint_at, wrapper_shape, falls_short, is_unwrappable, Around, TypedValue, a_scalar, bare_at, begin_at, body_at, container_at, field_at, fits, ids_at, inner_at, marker_at, annotated_at, member_at, nop_pad_at, plain_at, read_by_descriptor, region_of, scalar_at, size, sorted_at, start, step, step_for, step_of, top_of, typed_value_at, value_at, wrapper_at, wrapper_length, by_wrapper}
 use Rattle.ion_meter.specs.declared.fault.Reason.TheVariants as reason
 use Rattle.ion_value.specs.declared.ion_type.Kind.TheVariants as kind
-use Rattle.ion_value.specs.Scalar.{scalar_of_body}
 use Rattle.ion_value.specs.Value as value
-use Rattle.ion_binary.specs.Positions.{Frame, State, placed_scalar}
-use Rattle.ion_binary.specs.Descriptor.{Shape, bool_shape, length_at, null_shapes, octet_at, passes, shape_of, sized_shapes, struct_shape, var_uint_at, wrapper_shape, falls_short, is_unwrappable}
 use Rattle.ion_binary.specs.Reading as reading
-use Rattle.ion_binary.specs.Reading.{Around, TypedValue, a_scalar, bare_at, begin_at, body_at, container_at, field_at, fits, ids_at, inner_at, marker_at, annotated_at, member_at, nop_pad_at, plain_at, read_by_descriptor, region_of, scalar_at, size, sorted_at, start, step, step_for, step_of, top_of, typed_value_at, value_at, wrapper_at, wrapper_length, by_wrapper}
 use Rattle.ion_binary.proofs.TypedValueCode.{slice_index_or-all}
 
 -- ---- descriptors

@@ -1,6 +1,5 @@
 -- The steps of the reader as those of the reading.
-use Rattle.ion_binary.proofs.Below.{arith, refl, ap, ◌∙◌, sym, subst, ◌≡◌, ℕ, suc, ◌*◌, ◌-◌, ◌<◌, ◌≤◌, true, false, List, [], ◌∷◌, ◌++◌, length, drop, map, reverse, Option, Some, None, Result, Ok, Err, is_some, slice_get, leb, le-leb, lt-leb, reverse_onto, length-map, length-reverse, Counts, Shrinks, Fault, Refused, Memory, ReadFault, WriteFault, InputLimit, Rules, Kind, Annotation, Symbol, SymbolAt, Scalar, PlacedItem, Step, Ends, Stops, Gives, GoesOn, Charges, Fits, InRange, in_struct, Cursor, ◌>>=◌, Placed, part, Answers}
-use Rattle.ion_meter.specs.declared.device.Input.{Ghosts as InputOf}
+use Rattle.ion_binary.proofs.Below.{arith, refl, ap, ◌∙◌, sym, subst, ◌≡◌, ℕ, suc, ◌*◌, ◌-◌, ◌<◌, ◌≤◌, true, false, List, [], ◌∷◌, ◌++◌, length, drop, map, reverse, Option, Some, None, Result, Ok, Err, is_some, slice_get, leb, le-leb, lt-leb, reverse_onto, length-map, length-reverse, Counts, Shrinks, Fault, Refused, Memory, ReadFault, WriteFault, InputLimit, Rules, Kind, Annotation, Symbol, SymbolAt, Scalar, PlacedItem, Step, Ends, Stops, Gives, GoesOn, Charges, Fits, InRange, in_struct, Cursor, ◌>>=◌, Placed, part, Answers, InputOf, BinReader, ItemKind, StepResult, Frame, State, placed_scalar, region_of, field_at, value_at, member_at, top_of, top_step, step_of, step, as_scalar, GivesStep, as_annotations, as_field, as_frame, as_frames, innermost, item_seen, kinds_of, TakenGives, TakesAs, IsInnermost, at_top, inside}
 use Rattle.ion_value.specs.declared.ion_type.Kind.TheVariants as kind
 use Rattle.ion_value.specs.Value as value
 use Rattle.ion_binary.specs.declared.body.Body.{Body}
@@ -8,16 +7,8 @@ use Rattle.ion_binary.specs.declared.value.TypedValue as typed
 use Rattle.ion_binary.specs.declared.value.TypedValue.TheVariants as finds
 use Rattle.ion_binary.specs.declared.wrapper.Field as field
 use Rattle.ion_binary.specs.declared.wrapper.Frame as frame
-use Rattle.ion_binary.specs.declared.reader.BinReader.{BinReader}
-use Rattle.ion_binary.specs.declared.reader.ItemKind.{ItemKind}
-use Rattle.ion_binary.specs.declared.reader.StepResult.{StepResult}
 use Rattle.ion_binary.specs.declared.reader.StepResult.TheVariants as taken
-use Rattle.ion_binary.specs.Positions.{Frame, State, placed_scalar}
-use Rattle.ion_binary.specs.Reading.{region_of, field_at, value_at, placed_item, member_at, top_of, top_step, step_of, step}
-use Rattle.ion_binary.specs.Bodies.{as_scalar}
-use Rattle.ion_binary.specs.Values.{GivesStep}
-use Rattle.ion_binary.specs.Wrappers.{as_annotations, as_field, as_frame, as_frames, innermost}
-use Rattle.ion_binary.specs.Reader.{item_seen, kinds_of, TakenGives, TakesAs, IsInnermost, at_top, inside}
+use Rattle.ion_binary.specs.Reading.{placed_item}
 use Rattle.ion_binary.specs.Steps.{Stepped}
 
 -- ---- open containers

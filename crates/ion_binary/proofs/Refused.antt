@@ -1,8 +1,5 @@
 -- Where a reading stops, and not at a limit, the bytes are no stream of permitted values; and such a stream that passes no limit is read to its end.
-use Rattle.ion_binary.proofs.Below.{◌≡◌, ℕ, ◌+◌, ◌*◌, inl, inr, List, ◌++◌, length, refl, sym, ap, ◌∙◌, arith, Reason, Rules, PlacedItem, top_items, Finished, Stopped, items_of, items_then, closed, path_items, ending_of, IsLimit, AreWithin, ending_of-items_then, permitted-alike}
-use Rattle.ion_value.specs.Reading.{Reading}
-use Rattle.ion_binary.specs.Laws.{Bodies, IsNarrower, IsCut, here, later, RightlyRefused, NoStreamBegins, WithinLimitsAreRead}
-use Rattle.ion_binary.specs.Reading.{reading}
+use Rattle.ion_binary.proofs.Below.{◌≡◌, ℕ, ◌+◌, ◌*◌, inl, inr, List, ◌++◌, length, refl, sym, ap, ◌∙◌, arith, Reason, Rules, PlacedItem, top_items, Finished, Stopped, items_of, items_then, closed, path_items, ending_of, IsLimit, AreWithin, ending_of-items_then, permitted-alike, Reading, Bodies, IsNarrower, IsCut, here, later, RightlyRefused, NoStreamBegins, WithinLimitsAreRead, reading}
 use Rattle.ion_binary.proofs.ExactLimits.{exact_limits}
 use Rattle.ion_binary.proofs.Narrow.{narrow}
 use Rattle.ion_binary.proofs.Stable.{stable}

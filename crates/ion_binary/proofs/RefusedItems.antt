@@ -1,11 +1,7 @@
 -- Item by item the same is refused as in trees.
-use Rattle.ion_binary.proofs.Below.{map, ◌≡◌, ℕ, ◌+◌, Bool, false, List, [], ◌∷◌, ◌++◌, length, Option, Some, None, refl, ap, ap₂, sym, ◌∙◌, append_assoc, append-nil, length-append, arith, append_cancel_left, Reason, Limits, SymbolAt, UserSymbol, Value, scalar, container, Members, nothing, member, Top, version, tree, Head, Item, PlacedItem, bare_item, value_items, member_items, one_top, top_items, user_item, map_scalar, user_symbol_at, Nest, outermost, inner, Path, closed, opened, begin_item, close_all, closing, nest_items, path_items, with_item, is_marker, field_symbols, members_symbols, value_symbols}
+use Rattle.ion_binary.proofs.Below.{map, ◌≡◌, ℕ, ◌+◌, Bool, false, List, [], ◌∷◌, ◌++◌, length, Option, Some, None, refl, ap, ap₂, sym, ◌∙◌, append_assoc, append-nil, length-append, arith, append_cancel_left, Reason, Limits, SymbolAt, UserSymbol, Value, scalar, container, Members, nothing, member, Top, version, tree, Head, Item, PlacedItem, bare_item, value_items, member_items, one_top, top_items, user_item, map_scalar, user_symbol_at, Nest, outermost, inner, Path, closed, opened, begin_item, close_all, closing, nest_items, path_items, with_item, is_marker, field_symbols, members_symbols, value_symbols, binary, id_in, is_over, member_octets, value_octets, with_symbols, Written, after_all, all_closed, at_begin, first_over, head_symbols, item_symbols, own_octets, refused_at, refused_by, too_long, last_size, ItemsAreRefusedAsInTrees, refused_after, texts_after, texts_left}
 use Rattle.ion_value.specs.Value as value
 use Rattle.ion_value.specs.Path as path
-use Rattle.ion_binary.specs.Canonical.{binary, id_in, is_over, member_octets, value_octets, with_symbols}
-use Rattle.ion_binary.specs.Writing.{Written, after_all, all_closed, at_begin, first_over, head_symbols, item_symbols, own_octets, refused_at, refused_by, too_long}
-use Rattle.ion_binary.specs.WritingLaws.{last_size}
-use Rattle.ion_binary.specs.Refusals.{ItemsAreRefusedAsInTrees, refused_after, texts_after, texts_left}
 use Rattle.ion_binary.proofs.KnownIds.{extends_all, with_symbols-append}
 use Rattle.ion_binary.proofs.WholeValues.{after_all_tops, forgotten, nothing_open, written}
 use Rattle.ion_binary.proofs.ClosedSize.{after_open_path, around_it, closed-inside, innermost, last-size, nest_texts}

@@ -1,19 +1,11 @@
 -- Worked rows of the reading, by computing.
-use Rattle.ion_binary.proofs.Below.{◌≡◌, refl, ℕ, pos, negsuc, List, [], ◌∷◌, Option, Some, None, true, false, fin, inf, Rules, Day, Second, Fraction, SymbolAt, Head, PlacedItem, whole, begin, end, marker, Reading, Finished, Stopped, items_then, ending_of}
-use Rattle.ion_meter.specs.declared.fault.Reason.{Reason}
-use Rattle.std.specs.Str.{is_utf8, chars}
+use Rattle.ion_binary.proofs.Below.{◌≡◌, refl, ℕ, pos, negsuc, List, [], ◌∷◌, Option, Some, None, true, false, fin, inf, Rules, Day, Second, Fraction, SymbolAt, Head, PlacedItem, whole, begin, end, marker, Reading, Finished, Stopped, items_then, ending_of, Reason, is_utf8, chars, decimal_of_bytes, var_cut, scalar_of_body, fields_cut, timestamp_of_bytes, local_of, octet_at, var_at, var_uint_at, length_at, shape_of, symbol_id, marker_at, bare_at, nop_pad_at, body_at, scalar_at, begin_at, container_at, sorted_at, read_by_descriptor, typed_value_at, wrapper_at, ids_at, plain_at, inner_at, annotated_at, value_at, member_at, step, reading}
 use lib.Ieee.{of_bits}
 use lib.Utf8.{encode}
 use Rattle.ion_value.specs.declared.ion_type.IonType.TheVariants as type
 use Rattle.ion_value.specs.declared.ion_type.Kind.TheVariants as kind
-use Rattle.ion_value.specs.Decimal.{decimal_of_bytes}
-use Rattle.ion_value.specs.Number.{var_cut}
-use Rattle.ion_value.specs.Scalar.{scalar_of_body}
-use Rattle.ion_value.specs.Timestamp.{fields_cut, timestamp_of_bytes, local_of}
 use Rattle.ion_value.specs.Value as value
-use Rattle.ion_binary.specs.Descriptor.{octet_at, var_at, var_uint_at, length_at, shape_of}
-use Rattle.ion_binary.specs.Positions.{symbol_id}
-use Rattle.ion_binary.specs.Reading.{marker_at, bare_at, nop_pad_at, body_at, scalar_at, begin_at, container_at, sorted_at, read_by_descriptor, typed_value_at, wrapper_at, ids_at, placed_item, plain_at, inner_at, annotated_at, value_at, member_at, step, reading}
+use Rattle.ion_binary.specs.Reading.{placed_item}
 
 abbrev usual : Rules
 usual = record { depth = 64; scalar = 1048576; floats = false }

@@ -1,10 +1,7 @@
 -- A text that a writer may declare is no longer than the limit on symbols.
-use Rattle.ion_binary.proofs.Below.{◌≡◌, ℕ, ◌+◌, ◌≤◌, Bool, true, false, if◌then◌else◌, List, [], ◌∷◌, length, Option, None, Some, option_map, refl, ap, arith, AllByRecursion, bytes_eq, bytes_eq-Decides, Limits, Profile, UserSymbol, Known, Unknown, Top, version, tree, value_symbols, or_given, position, system_id, texts_cost}
+use Rattle.ion_binary.proofs.Below.{◌≡◌, ℕ, ◌+◌, ◌≤◌, Bool, true, false, if◌then◌else◌, List, [], ◌∷◌, length, Option, None, Some, option_map, refl, ap, arith, AllByRecursion, bytes_eq, bytes_eq-Decides, Limits, Profile, UserSymbol, Known, Unknown, Top, version, tree, value_symbols, or_given, position, system_id, texts_cost, with_symbols, texts_left, SymbolFits, SymbolsFit, TextsWithinFit}
 use Rattle.ion_meter.specs.Rules.{rules}
-use Rattle.ion_binary.specs.Canonical.{with_symbols}
-use Rattle.ion_binary.specs.Refusals.{AreWithin, texts_left}
-use Rattle.ion_binary.specs.WrittenLimits.{SymbolFits}
-use Rattle.ion_binary.specs.WrittenSymbols.{SymbolsFit, TextsWithinFit}
+use Rattle.ion_binary.specs.Refusals.{AreWithin}
 use Rattle.ion_binary.proofs.KnownIds.{AreKnown, IsKnown, IsThere, all_known}
 
 -- a text among others costs no more than they do

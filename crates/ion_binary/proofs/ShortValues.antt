@@ -1,9 +1,6 @@
 -- What a writer refuses nothing of is short enough to be read again.
-use Rattle.ion_binary.proofs.Below.{◌≡◌, ℕ, ◌+◌, ◌<◌, ◌≤◌, Bool, true, false, List, [], ◌∷◌, length, drop, None, refl, subst, sym, length-append, arith, nat_lt, if◌then◌else◌, ◌^◌, AreChecked, Limits, is_none_left, var_uint_octets, UserSymbol, Top, version, tree, value_symbols, var_uint_octets-VarUInt, texts_cost}
-use Rattle.ion_binary.specs.Canonical.{declaration, header, headed, with_symbols}
-use Rattle.ion_binary.specs.ItemOctets.{declaration_front, opening, strings_octets}
-use Rattle.ion_binary.specs.Refusals.{AreWithin, texts_left}
-use Rattle.ion_binary.specs.Spelling.{AreShort, WhatIsWithinIsShort}
+use Rattle.ion_binary.proofs.Below.{◌≡◌, ℕ, ◌+◌, ◌<◌, ◌≤◌, Bool, true, false, List, [], ◌∷◌, length, drop, None, refl, subst, sym, length-append, arith, nat_lt, if◌then◌else◌, ◌^◌, AreChecked, Limits, is_none_left, var_uint_octets, UserSymbol, Top, version, tree, value_symbols, var_uint_octets-VarUInt, texts_cost, declaration, header, headed, with_symbols, declaration_front, opening, strings_octets, texts_left, AreShort, WhatIsWithinIsShort}
+use Rattle.ion_binary.specs.Refusals.{AreWithin}
 use Rattle.ion_binary.proofs.DeclarationOctets.{few-texts, cost-drop, declaration-none, declaration-some}
 
 header-by : (n : ℕ) (b : Bool) → length (var_uint_octets n) ≤ 9 → length (if b then [] else var_uint_octets n) ≤ 9

@@ -1,9 +1,5 @@
 -- The header that is written is the shortest descriptor, and a number below 128 one octet.
-use Rattle.ion_binary.proofs.Below.{◌≡◌, ℕ, zero, suc, ◌+◌, ◌*◌, ◌/◌, ◌%◌, ◌<◌, ◌≤◌, Bool, true, false, List, [], ◌∷◌, ◌++◌, length, refl, ap, sym, ◌∙◌, arith, nat_lt, if◌then◌else◌, marked, var_uint_octets, var_uint_octets-fewest}
-use Rattle.std.proofs.Common.{lt-ltb}
-use Rattle.ion_value.specs.Number.{digits_within}
-use Rattle.ion_binary.specs.Grammar.{Descriptor}
-use Rattle.ion_binary.specs.Spelling.{HeadersAreShortest}
+use Rattle.ion_binary.proofs.Below.{◌≡◌, ℕ, zero, suc, ◌+◌, ◌*◌, ◌/◌, ◌%◌, ◌<◌, ◌≤◌, Bool, true, false, List, [], ◌∷◌, ◌++◌, length, refl, ap, sym, ◌∙◌, arith, nat_lt, if◌then◌else◌, marked, var_uint_octets, var_uint_octets-fewest, lt-ltb, digits_within, Descriptor, HeadersAreShortest}
 
 shortest-by : (b : Bool) (t n : ℕ) (head : List ℕ) → nat_lt n 14 ≡ b → Descriptor t n head
     → length ((16 * t + (if b then n else 14)) ∷ (if b then [] else var_uint_octets n)) ≤ length head

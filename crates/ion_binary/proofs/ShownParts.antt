@@ -1,13 +1,6 @@
 -- What a window shows is what reading gives, whatever follows it.
-use Rattle.ion_binary.proofs.Below.{◌≡◌, ℕ, suc, ◌+◌, ◌*◌, ◌-◌, ◌%◌, ◌<◌, ◌≤◌, true, false, ◌&&◌, List, [], ◌∷◌, ◌++◌, length, take, drop, get_or, Option, Some, None, Ok, refl, ap, sym, ◌∙◌, arith, IfSome, nat_le, nat_lt, zero, le-leb, le-ltb, lt-leb, common_steps, take-append-le, drop-append-le, Cursor, skip, BadAnnotation, Rules, Kind, ◌>>=◌, ◌>>◌, part, refuse, scalar_of_body, Symbol, SymbolAt, Scalar}
-use Rattle.ion_binary.specs.declared.reader.front.ShownNote.{ShownNote}
-use Rattle.ion_binary.specs.declared.scan.Found.{Found}
+use Rattle.ion_binary.proofs.Below.{◌≡◌, ℕ, suc, ◌+◌, ◌*◌, ◌-◌, ◌%◌, ◌<◌, ◌≤◌, true, false, ◌&&◌, List, [], ◌∷◌, ◌++◌, length, take, drop, get_or, Option, Some, None, Ok, refl, ap, sym, ◌∙◌, arith, IfSome, nat_le, nat_lt, zero, le-leb, le-ltb, lt-leb, common_steps, take-append-le, drop-append-le, Cursor, skip, BadAnnotation, Rules, Kind, ◌>>=◌, ◌>>◌, part, refuse, scalar_of_body, Symbol, SymbolAt, Scalar, ShownNote, Found, symbol_id, Region, Shape, wrapper, is_unwrappable, length_at, shape_of, var_uint_at, Around, TypedValue, a_container, a_scalar, ids_at, inner_at, Reaches, found_at, found_by, length_code_of, noted_at, part_at, rest_at, window, wrapper_by, wrapping, ShowsItem, ShowsLength, ShowsNote, ShowsPart, ShowsRest, ShowsSecond, ShowsValue, ShowsVar, around_after, noted_ids, second_id}
 use Rattle.ion_binary.specs.declared.scan.Found.TheVariants as found
-use Rattle.ion_binary.specs.Positions.{symbol_id}
-use Rattle.ion_binary.specs.Descriptor.{Region, Shape, wrapper, is_unwrappable, length_at, shape_of, var_uint_at}
-use Rattle.ion_binary.specs.Reading.{Around, TypedValue, a_container, a_scalar, ids_at, inner_at}
-use Rattle.ion_binary.specs.Scanned.{Reaches, found_at, found_by, length_code_of, noted_at, part_at, rest_at, window, wrapper_by, wrapping}
-use Rattle.ion_binary.specs.Shown.{ShowsItem, ShowsLength, ShowsNote, ShowsPart, ShowsRest, ShowsSecond, ShowsValue, ShowsVar, around_after, noted_ids, second_id}
 use Rattle.ion_binary.proofs.BodyParts.{body_here-read}
 use Rattle.ion_binary.proofs.ReadParts.{inner_at-found, value_at-found, value_at-wrapped}
 use Rattle.ion_binary.proofs.ScannedParts.{found_at-found, octet_shown, part_at-octet, reaches-less, skip-skip}

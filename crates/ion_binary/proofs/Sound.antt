@@ -1,11 +1,6 @@
 -- What is read is a path of the bytes, and all of them where reading finishes.
-use Rattle.ion_binary.proofs.Below.{◌≡◌, ℕ, zero, suc, ◌<◌, List, [], ◌∷◌, ◌++◌, length, refl, sym, ap, subst, ◌∙◌, append_assoc, append-nil, arith, Reason, Rules, SymbolAt, Top, Path, closed, path_items, Reading, Finished, Stopped, items_of, Step, Ends, Stops, Gives, GoesOn, Leaves, after_item, after_nothing, next_reading, reading_for, ending_of}
+use Rattle.ion_binary.proofs.Below.{◌≡◌, ℕ, zero, suc, ◌<◌, List, [], ◌∷◌, ◌++◌, length, refl, sym, ap, subst, ◌∙◌, append_assoc, append-nil, arith, Reason, Rules, SymbolAt, Top, Path, closed, path_items, Reading, Finished, Stopped, items_of, Step, Ends, Stops, Gives, GoesOn, Leaves, after_item, after_nothing, next_reading, reading_for, ending_of, Frame, State, step, size, start, reading, Tops, Spells, IsPath, At, Follows, Bodies, Sound}
 use Rattle.ion_value.specs.Reading.{Shrinks}
-use Rattle.ion_binary.specs.Positions.{Frame, State}
-use Rattle.ion_binary.specs.Reading.{step, size, start, reading}
-use Rattle.ion_binary.specs.Grammar.{Tops}
-use Rattle.ion_binary.specs.Paths.{Spells, IsPath, At, Follows}
-use Rattle.ion_binary.specs.Laws.{Bodies, Sound}
 use Rattle.ion_binary.proofs.ReadPermitted.{read-permitted}
 use Rattle.ion_binary.proofs.StepPreservesPath.{step-follows}
 

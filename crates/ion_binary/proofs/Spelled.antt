@@ -1,11 +1,5 @@
 -- What the parts of the grammar spell is read: octets, lengths, ids and fields.
-use Rattle.ion_binary.proofs.Below.{◌≡◌, ℕ, zero, suc, ◌+◌, ◌*◌, ◌<◌, ◌≤◌, ◌⊎◌, inl, inr, false, ltb, List, [], ◌∷◌, ◌++◌, length, Option, Some, None, Ok, refl, sym, ◌∙◌, subst, append_assoc, arith, lt-leb, lt-ltb, le-ltb, le-leb, ne_eqb, Rules, Kind, IsVar, VarUInt, SymbolAt, Cursor}
-use Rattle.std.proofs.lemmas.List.{length-append}
-use Rattle.ion_binary.specs.Positions.{Frame}
-use Rattle.ion_binary.specs.Descriptor.{Region, is_at_end, octet_at, var_at, var_uint_at, length_at}
-use Rattle.ion_binary.specs.Grammar.{Descriptor, Ids, Field}
-use Rattle.ion_binary.specs.Paths.{FieldIn, Within}
-use Rattle.ion_binary.specs.Reading.{ids_at, region_of, field_in, field_at}
+use Rattle.ion_binary.proofs.Below.{◌≡◌, ℕ, zero, suc, ◌+◌, ◌*◌, ◌<◌, ◌≤◌, ◌⊎◌, inl, inr, false, ltb, List, [], ◌∷◌, ◌++◌, length, Option, Some, None, Ok, refl, sym, ◌∙◌, subst, append_assoc, arith, lt-leb, lt-ltb, le-ltb, le-leb, ne_eqb, Rules, Kind, IsVar, VarUInt, SymbolAt, Cursor, length-append, Frame, Region, is_at_end, octet_at, var_at, var_uint_at, length_at, Descriptor, Ids, Field, FieldIn, Within, ids_at, region_of, field_in, field_at}
 
 -- ---- where reading stands
 

@@ -1,12 +1,7 @@
 -- Annotation wrappers, values and members that the grammar spells are read, each in one step.
-use Rattle.ion_binary.proofs.Below.{◌≡◌, ℕ, suc, ◌+◌, ◌*◌, ◌<◌, ◌≤◌, ◌⊎◌, inl, inr, true, false, leb, List, [], ◌∷◌, ◌++◌, length, Option, Some, None, Ok, refl, ap, ◌∙◌, subst, append_assoc, arith, lt-leb, le-leb, le-ltb, ne_eqb, Rules, VarUInt, Kind, SymbolAt, Step, Ends, Gives, Cursor, Placed}
-use Rattle.std.proofs.lemmas.List.{length-append}
+use Rattle.ion_binary.proofs.Below.{◌≡◌, ℕ, suc, ◌+◌, ◌*◌, ◌<◌, ◌≤◌, ◌⊎◌, inl, inr, true, false, leb, List, [], ◌∷◌, ◌++◌, length, Option, Some, None, Ok, refl, ap, ◌∙◌, subst, append_assoc, arith, lt-leb, le-leb, le-ltb, ne_eqb, Rules, VarUInt, Kind, SymbolAt, Step, Ends, Gives, Cursor, Placed, length-append, Frame, State, Region, octet_at, var_uint_at, length_at, wrapper, shape_by, shape_of, Wrapper, Annotated, Ids, FieldIn, Within, frame_of, Around, TypedValue, typed_value_at, wrapper_at, ids_at, region_of, step_for, plain_at, inner_at, annotated_at, wrapper_length, value_at, top_of, member_at, step_of, step}
 use Rattle.ion_value.specs.Value as value
-use Rattle.ion_binary.specs.Positions.{Frame, State}
-use Rattle.ion_binary.specs.Descriptor.{Region, octet_at, var_uint_at, length_at, wrapper, shape_by, shape_of}
-use Rattle.ion_binary.specs.Grammar.{Wrapper, Annotated, Ids}
-use Rattle.ion_binary.specs.Paths.{FieldIn, Within, frame_of}
-use Rattle.ion_binary.specs.Reading.{Around, TypedValue, typed_value_at, wrapper_at, ids_at, region_of, placed_item, step_for, plain_at, inner_at, annotated_at, wrapper_length, value_at, top_of, member_at, step_of, step}
+use Rattle.ion_binary.specs.Reading.{placed_item}
 use Rattle.ion_binary.proofs.Spelled.{cursor_at, Holds, Holds-before, octet_at-spelled, var_uint_at-spelled, Descriptor-headed, ids_at-spelled, field_at-spelled}
 use Rattle.ion_binary.proofs.SpelledParts.{shape_of-parts, passes-not, Suits, Finds}
 

@@ -1,13 +1,9 @@
 -- What the grammar has after ids is found: scalars, NOP pads, version markers and the headers of containers.
-use Rattle.ion_binary.proofs.Below.{◌≡◌, ◌≢◌, ℕ, suc, ◌+◌, ◌*◌, ◌/◌, ◌%◌, ◌<◌, ◌≤◌, ◌⊎◌, inl, inr, Bool, true, false, ◌&&◌, ltb, List, [], ◌∷◌, ◌++◌, length, Some, None, Ok, refl, sym, ap, ◌∙◌, subst, append_assoc, arith, lt-leb, le-ltb, ne_eqb, drop_at, Rules, IonType, Kind, IsPermitted, scalar_of_body, Symbol, Scalar, Cursor, skip}
-use Rattle.std.proofs.lemmas.List.{length-append, take_at}
+use Rattle.ion_binary.proofs.Below.{◌≡◌, ◌≢◌, ℕ, suc, ◌+◌, ◌*◌, ◌/◌, ◌%◌, ◌<◌, ◌≤◌, ◌⊎◌, inl, inr, Bool, true, false, ◌&&◌, ltb, List, [], ◌∷◌, ◌++◌, length, Some, None, Ok, refl, sym, ap, ◌∙◌, subst, append_assoc, arith, lt-leb, le-ltb, ne_eqb, drop_at, Rules, IonType, Kind, IsPermitted, scalar_of_body, Symbol, Scalar, Cursor, skip, length-append, take_at, Region, passes, falls_short, var_uint_at, length_at, Shape, null, bool, nop_pad, body, sorted, float, shape_by, shape_of, is_unwrappable, IsNullOf, Body, Plain, IsNopPad, Header, type_code, Bodies, Around, TypedValue, a_nop_pad, a_marker, a_scalar, a_container, marker_at, bare_at, nop_pad_at, body_at, scalar_at, begin_at, container_at, sorted_at, read_by_descriptor, typed_value_at, wrapper_length}
 use Rattle.ion_value.specs.declared.ion_type.IonType.TheVariants as type
 use Rattle.ion_value.specs.declared.ion_type.Kind.TheVariants as kind
 use Rattle.ion_value.specs.Value as value
-use Rattle.ion_binary.specs.Descriptor.{Region, passes, falls_short, var_uint_at, length_at, Shape, null, bool, nop_pad, body, container, sorted, marker, float, shape_by, shape_of, is_unwrappable}
-use Rattle.ion_binary.specs.Grammar.{IsNullOf, Body, Plain, IsNopPad, Header, type_code}
-use Rattle.ion_binary.specs.Laws.{Bodies}
-use Rattle.ion_binary.specs.Reading.{Around, TypedValue, a_nop_pad, a_marker, a_scalar, a_container, marker_at, bare_at, nop_pad_at, body_at, scalar_at, begin_at, container_at, sorted_at, read_by_descriptor, typed_value_at, wrapper_length}
+use Rattle.ion_binary.specs.Descriptor.{container, marker}
 use Rattle.ion_binary.proofs.Fitting.{PlainFits}
 use Rattle.ion_binary.proofs.Spelled.{cursor_at, Holds, Holds-before, var_uint_at-spelled, Headed, Descriptor-headed}
 

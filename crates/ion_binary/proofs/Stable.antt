@@ -1,13 +1,10 @@
 -- A reading that stops, and not since the bytes end, stops so whatever bytes follow.
-use Rattle.ion_binary.proofs.Below.{◌≡◌, ◌≢◌, ℕ, zero, suc, ◌+◌, ◌≤◌, Bool, true, false, not, ◌||◌, if◌then◌else◌, nat_le, nat_lt, nat_eq, List, [], ◌∷◌, ◌++◌, length, take, Option, Some, None, Result, Ok, Err, refl, sym, ap, ◌∙◌, arith, ltb-false, le-ltb, take-append-le, drop-append-le, Reason, Truncated, BadDescriptor, BadVar, Overrun, BadAnnotation, Float, DepthLimit, ScalarLimit, Rules, Kind, scalar_of_body, var_uint, Symbol, SymbolAt, Scalar, PlacedItem, Reading, Stopped, items_then, Step, Ends, Stops, Gives, GoesOn, next_reading, reading_for, reading_by, reading_by-step, Cursor, skip, ◌>>=◌, ◌>>◌, refuse, Placed, part}
-use Rattle.std.proofs.lemmas.List.{length-append}
+use Rattle.ion_binary.proofs.Below.{◌≡◌, ◌≢◌, ℕ, zero, suc, ◌+◌, ◌≤◌, Bool, true, false, not, ◌||◌, if◌then◌else◌, nat_le, nat_lt, nat_eq, List, [], ◌∷◌, ◌++◌, length, take, Option, Some, None, Result, Ok, Err, refl, sym, ap, ◌∙◌, arith, ltb-false, le-ltb, take-append-le, drop-append-le, Reason, Truncated, BadDescriptor, BadVar, Overrun, BadAnnotation, Float, DepthLimit, ScalarLimit, Rules, Kind, scalar_of_body, var_uint, Symbol, SymbolAt, Scalar, PlacedItem, Reading, Stopped, items_then, Step, Ends, Stops, Gives, GoesOn, next_reading, reading_for, reading_by, reading_by-step, Cursor, skip, ◌>>=◌, ◌>>◌, refuse, Placed, part, length-append, symbol_id, Frame, State, Region, passes, octet_at, var_at, var_uint_at, length_at, first_octet, is_at_end, Shape, null, bool, nop_pad, wrapper, body, sorted, float, illegal, shape_of, Around, TypedValue, a_nop_pad, a_marker, a_scalar, a_container, body_at, nop_pad_at, bare_at, marker_at, marker_rest, scalar_at, begin_at, container_at, sorted_at, fits, region_of, read_by_descriptor, typed_value_at, wrapper_at, ids_at, field_at, field_in, plain_at, inner_at, annotated_at, wrapper_length, by_wrapper, value_at, top_of, member_at, step_of, top_step, step_in, step, step_for, size, start, reading, Stable}
 use Rattle.ion_value.specs.declared.ion_type.Kind.TheVariants as kind
 use Rattle.ion_value.specs.Value as value
 use Rattle.ion_value.specs.Reading.{Shrinks}
-use Rattle.ion_binary.specs.Positions.{symbol_id, Frame, State}
-use Rattle.ion_binary.specs.Descriptor.{Region, passes, octet_at, var_at, var_uint_at, length_at, first_octet, is_at_end, Shape, null, bool, nop_pad, wrapper, body, container, sorted, marker, float, illegal, shape_of}
-use Rattle.ion_binary.specs.Reading.{Around, TypedValue, a_nop_pad, a_marker, a_scalar, a_container, placed_item, body_at, nop_pad_at, bare_at, marker_at, marker_rest, scalar_at, begin_at, container_at, sorted_at, fits, region_of, read_by_descriptor, typed_value_at, wrapper_at, ids_at, field_at, field_in, plain_at, inner_at, annotated_at, wrapper_length, by_wrapper, value_at, top_of, member_at, step_of, top_step, step_in, step, step_for, size, start, reading}
-use Rattle.ion_binary.specs.Laws.{Stable}
+use Rattle.ion_binary.specs.Descriptor.{container, marker}
+use Rattle.ion_binary.specs.Reading.{placed_item}
 use Rattle.ion_binary.proofs.Complete.{Shrinking}
 
 -- ---- one result, and the one where more bytes follow

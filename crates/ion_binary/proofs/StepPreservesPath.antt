@@ -1,13 +1,7 @@
 -- Each step leads from a path of the bytes to the path with the item that it gives.
-use Rattle.ion_binary.proofs.Below.{◌≡◌, ℕ, ◌+◌, ◌*◌, ◌<◌, ◌≤◌, Bool, true, false, leb, List, [], ◌∷◌, ◌++◌, length, Option, Some, None, Ok, Err, refl, sym, ap, subst, ◌∙◌, append_assoc, append-nil, arith, leb-true, true≢false, none-some, Reason, Rules, Kind, VarUInt, Symbol, SymbolAt, Scalar, Value, PlacedItem, bare_item, outermost, inner, Path, closed, opened, path_items, open_in, Step, Gives, GoesOn, Cursor, Placed, part, put_in, mark_in, end_in, path_items-put_in, path_items-mark_in, path_items-open_in, path_items-end_in}
-use Rattle.std.proofs.lemmas.List.{length-append}
+use Rattle.ion_binary.proofs.Below.{◌≡◌, ℕ, ◌+◌, ◌*◌, ◌<◌, ◌≤◌, Bool, true, false, leb, List, [], ◌∷◌, ◌++◌, length, Option, Some, None, Ok, Err, refl, sym, ap, subst, ◌∙◌, append_assoc, append-nil, arith, leb-true, true≢false, none-some, Reason, Rules, Kind, VarUInt, Symbol, SymbolAt, Scalar, Value, PlacedItem, bare_item, outermost, inner, Path, closed, opened, path_items, open_in, Step, Gives, GoesOn, Cursor, Placed, part, put_in, mark_in, end_in, path_items-put_in, path_items-mark_in, path_items-open_in, path_items-end_in, length-append, Frame, State, placed_scalar, Region, Shape, shape_of, octet_at, Around, TypedValue, a_nop_pad, a_marker, a_scalar, a_container, typed_value_at, Wrapped, wrapper_at, ids_at, region_of, field_at, step_for, plain_at, inner_at, annotated_at, wrapper_length, by_wrapper, value_at, top_of, member_at, step_of, top_step, step_in, step, Descriptor, Ids, Header, Annotated, Wrapper, Plain, IsNopPad, Bin, FieldIn, Within, frame_of, Spells, IsSpelledTo, IsTop, At, Follows, Bodies}
 use Rattle.ion_value.specs.Value as value
-use Rattle.ion_binary.specs.Positions.{Frame, State, placed_scalar}
-use Rattle.ion_binary.specs.Descriptor.{Region, Shape, shape_of, octet_at}
-use Rattle.ion_binary.specs.Reading.{Around, TypedValue, a_nop_pad, a_marker, a_scalar, a_container, typed_value_at, Wrapped, wrapper_at, ids_at, region_of, field_at, placed_item, step_for, plain_at, inner_at, annotated_at, wrapper_length, by_wrapper, value_at, top_of, member_at, step_of, top_step, step_in, step}
-use Rattle.ion_binary.specs.Grammar.{Descriptor, Ids, Header, Annotated, Wrapper, Plain, IsNopPad, Bin}
-use Rattle.ion_binary.specs.Paths.{FieldIn, Within, frame_of, Spells, IsSpelledTo, IsTop, At, Follows}
-use Rattle.ion_binary.specs.Laws.{Bodies}
+use Rattle.ion_binary.specs.Reading.{placed_item}
 use Rattle.ion_binary.proofs.Taken.{bind_ok, part_ok, ok_is, InRegion, Took, Took-then, octet_at-taken}
 use Rattle.ion_binary.proofs.TypedValueSound.{IsShape, shape_of-is, Fills, Finds, typed_value_at-finds}
 use Rattle.ion_binary.proofs.WrapperSound.{InRegion-below, Took-wide, TookWrapper, wrapper_at-taken, TookIds, ids_at-taken, field_at-taken}

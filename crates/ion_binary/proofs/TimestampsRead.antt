@@ -1,7 +1,5 @@
 -- The body that is read as a timestamp is one that the grammar has.
-use Rattle.ion_binary.proofs.Below.{◌≡◌, ℕ, zero, suc, ◌^◌, ◌<◌, ◌≤◌, ◌⊎◌, inl, inr, Bool, true, false, if◌then◌else◌, not, ◌&&◌, ◌||◌, nat_lt, nat_le, ◌==◌, List, [], ◌∷◌, ◌++◌, length, refl, sym, ap, ◌∙◌, arith, append_assoc, ℤ, Option, Some, None, IfSome, option_map, option_and_then, Result, Ok, Err, AllByRecursion, ints, cases_Bool, and_parts, and_cases, or_cases, or_parts, not-true, eqb-true, eqb-false, ltb-true, ltb-false, leb-true, pow-le-pow_right, Reason, BadTimestamp, Range, Timestamp, var_uint, var_int_negative, var_int_magnitude, int_negative, int_magnitude, signed, IsMoment, is_moment, IsOffset, is_date, local_of, fields, second_precision, digits_after_point, exponent_in, is_fraction, offset_in, utc_fields, in_local_time, timestamp_in_utc, timestamp_of_fields, timestamp_of_cut, Cut, IfSome-Cut, local-is, append-none, is_moment-is}
-use Rattle.ion_value.specs.Timestamp.{fields_cut, timestamp_of_bytes}
-use Rattle.ion_binary.specs.Grammar.{IsField, Says, year, month, day, minute, second, no_fraction, fraction, IsOffsetOf, unknown, known, TimestampBody, date, time}
+use Rattle.ion_binary.proofs.Below.{◌≡◌, ℕ, zero, suc, ◌^◌, ◌<◌, ◌≤◌, ◌⊎◌, inl, inr, Bool, true, false, if◌then◌else◌, not, ◌&&◌, ◌||◌, nat_lt, nat_le, ◌==◌, List, [], ◌∷◌, ◌++◌, length, refl, sym, ap, ◌∙◌, arith, append_assoc, ℤ, Option, Some, None, IfSome, option_map, option_and_then, Result, Ok, Err, AllByRecursion, ints, cases_Bool, and_parts, and_cases, or_cases, or_parts, not-true, eqb-true, eqb-false, ltb-true, ltb-false, leb-true, pow-le-pow_right, Reason, BadTimestamp, Range, Timestamp, var_uint, var_int_negative, var_int_magnitude, int_negative, int_magnitude, signed, IsMoment, is_moment, IsOffset, is_date, local_of, fields, second_precision, digits_after_point, exponent_in, is_fraction, offset_in, utc_fields, in_local_time, timestamp_in_utc, timestamp_of_fields, timestamp_of_cut, Cut, IfSome-Cut, local-is, append-none, is_moment-is, fields_cut, timestamp_of_bytes, IsField, Says, year, month, day, minute, second, no_fraction, fraction, IsOffsetOf, unknown, known, TimestampBody, date, time}
 use Rattle.ion_binary.proofs.TimestampsSpelled.{run}
 
 -- ---- what is read passed its tests

@@ -1,7 +1,5 @@
 -- The body of a timestamp that the grammar has is read as the timestamp.
-use Rattle.ion_binary.proofs.Below.{◌≡◌, ℕ, zero, suc, ◌^◌, ◌<◌, ◌≤◌, ◌⊎◌, inl, inr, Bool, true, false, if◌then◌else◌, not, ◌&&◌, nat_lt, nat_le, ◌==◌, List, [], ◌∷◌, ◌++◌, length, refl, sym, ap, ◌∙◌, arith, append_assoc, ℤ, Option, Some, None, Ok, AllByRecursion, flat_map, ints, or_right, ne_eqb, lt-ltb, le-ltb, le-leb, lt-leb, pow-le-pow_right, Timestamp, var_int_negative, var_int_magnitude, int_negative, int_magnitude, signed, IsMoment, IsMoved, IsOffset, offset_minutes, in_years, moved, digits_after_point, exponent_in, is_fraction, offset_in, utc_fields, in_local_time, timestamp_of_cut, var_cut-IsVar, moved-is, one_outcome, offset-bounds, joined, fields_cut-some, append-none, is_moment-true}
-use Rattle.ion_value.specs.Timestamp.{local_of, fields_cut, timestamp_of_bytes}
-use Rattle.ion_binary.specs.Grammar.{IsField, Says, year, month, day, minute, second, no_fraction, fraction, IsOffsetOf, unknown, known, TimestampBody, date, time}
+use Rattle.ion_binary.proofs.Below.{◌≡◌, ℕ, zero, suc, ◌^◌, ◌<◌, ◌≤◌, ◌⊎◌, inl, inr, Bool, true, false, if◌then◌else◌, not, ◌&&◌, nat_lt, nat_le, ◌==◌, List, [], ◌∷◌, ◌++◌, length, refl, sym, ap, ◌∙◌, arith, append_assoc, ℤ, Option, Some, None, Ok, AllByRecursion, flat_map, ints, or_right, ne_eqb, lt-ltb, le-ltb, le-leb, lt-leb, pow-le-pow_right, Timestamp, var_int_negative, var_int_magnitude, int_negative, int_magnitude, signed, IsMoment, IsMoved, IsOffset, offset_minutes, in_years, moved, digits_after_point, exponent_in, is_fraction, offset_in, utc_fields, in_local_time, timestamp_of_cut, var_cut-IsVar, moved-is, one_outcome, offset-bounds, joined, fields_cut-some, append-none, is_moment-true, local_of, fields_cut, timestamp_of_bytes, IsField, Says, year, month, day, minute, second, no_fraction, fraction, IsOffsetOf, unknown, known, TimestampBody, date, time}
 
 -- ---- fields are cut where they end
 

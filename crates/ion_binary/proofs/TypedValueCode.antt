@@ -1,10 +1,5 @@
 -- What a part is found to be, one call after the other.
-use Rattle.ion_binary.proofs.Below.{rules, arith, refl, sym, ap, subst, ◌∙◌, ◌≡◌, ℕ, zero, suc, ◌/◌, ◌%◌, ◌<◌, ◌≤◌, Bool, true, false, not, ◌&&◌, eqb, ltb, List, [], ◌∷◌, length, take, inl, inr, None, Ok, Err, slice_get, slice_index_or, AllByRecursion, pointwise, eqb-false, cases_Bool, BadVersion, Truncated, Incoming, left, lent, lent-take, lent-CanPass, Cursor, skip, ◌>>◌, refuse}
-use Rattle.std.proofs.lemmas.List.{length-append}
-use Rattle.ion_binary.specs.Descriptor.{Shape, bool_shape, struct_shape, wrapper_shape, null_shapes, sized_shapes, shape_of}
-use Rattle.ion_binary.specs.Reading.{a_marker, marker_rest}
-use Rattle.ion_binary.specs.Finds.{IsOfDescriptor}
-use Rattle.ion_binary.specs.Scanned.{version_at}
+use Rattle.ion_binary.proofs.Below.{rules, arith, refl, sym, ap, subst, ◌∙◌, ◌≡◌, ℕ, zero, suc, ◌/◌, ◌%◌, ◌<◌, ◌≤◌, Bool, true, false, not, ◌&&◌, eqb, ltb, List, [], ◌∷◌, length, take, inl, inr, None, Ok, Err, slice_get, slice_index_or, AllByRecursion, pointwise, eqb-false, cases_Bool, BadVersion, Truncated, Incoming, left, lent, lent-take, lent-CanPass, Cursor, skip, ◌>>◌, refuse, length-append, Shape, bool_shape, struct_shape, wrapper_shape, null_shapes, sized_shapes, shape_of, a_marker, marker_rest, IsOfDescriptor, version_at}
 
 -- ---- version markers
 

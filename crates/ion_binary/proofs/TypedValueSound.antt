@@ -1,12 +1,7 @@
 -- What the part after fields and wrappers is found to be stands in the bytes so.
-use Rattle.ion_binary.proofs.Below.{◌≡◌, ◌≢◌, ℕ, zero, suc, ◌+◌, ◌*◌, ◌/◌, ◌%◌, ◌<◌, ◌≤◌, true, false, eqb, ltb, leb, List, [], ◌∷◌, ◌++◌, length, take, drop, Some, None, Ok, refl, sym, ap, subst, ◌∙◌, arith, inl, inr, add-zero, not, ◌&&◌, slice_index_or, ltb-false, eqb-true, eqb-false, and_cases, and_parts, not-false, cases_Bool, length-take, Reason, ScalarLimit, DepthLimit, BadDescriptor, BadAnnotation, BadVersion, Float, Overrun, Truncated, Rules, Kind, scalar_of_body, Symbol, Scalar, Cursor, skip}
+use Rattle.ion_binary.proofs.Below.{◌≡◌, ◌≢◌, ℕ, zero, suc, ◌+◌, ◌*◌, ◌/◌, ◌%◌, ◌<◌, ◌≤◌, true, false, eqb, ltb, leb, List, [], ◌∷◌, ◌++◌, length, take, drop, Some, None, Ok, refl, sym, ap, subst, ◌∙◌, arith, inl, inr, add-zero, not, ◌&&◌, slice_index_or, ltb-false, eqb-true, eqb-false, and_cases, and_parts, not-false, cases_Bool, length-take, Reason, ScalarLimit, DepthLimit, BadDescriptor, BadAnnotation, BadVersion, Float, Overrun, Truncated, Rules, Kind, scalar_of_body, Symbol, Scalar, Cursor, skip, Region, passes, falls_short, Shape, null_shapes, sized_shapes, shape_by, shape_of, length_at, var_uint_at, is_unwrappable, Around, TypedValue, a_nop_pad, a_marker, a_scalar, a_container, marker_rest, is_top, marker_at, fits, bare_at, nop_pad_at, body_at, scalar_at, begin_at, container_at, sorted_at, read_by_descriptor, typed_value_at, IsBodyTypeCode, IsNullOf, IsNopPad, Header, Plain, type_code, Bodies}
 use Rattle.ion_value.specs.declared.ion_type.Kind.TheVariants as kind
 use Rattle.ion_value.specs.Value as value
-use Rattle.ion_binary.specs.Descriptor.{Region, passes, falls_short, Shape, null_shapes, sized_shapes, shape_by, shape_of, length_at, var_uint_at, is_unwrappable}
-use Rattle.ion_binary.specs.Reading.{Around, TypedValue, a_nop_pad, a_marker, a_scalar, a_container, marker_rest, is_top, marker_at, fits, bare_at, nop_pad_at, body_at, scalar_at, begin_at, container_at, sorted_at, read_by_descriptor, typed_value_at}
-use Rattle.ion_binary.specs.Bodies.{IsBodyTypeCode}
-use Rattle.ion_binary.specs.Grammar.{IsNullOf, IsNopPad, Header, Plain, type_code}
-use Rattle.ion_binary.specs.Laws.{Bodies}
 use Rattle.ion_binary.proofs.Taken.{bind_ok, then_ok, refuse_ok, passed, ok_is, not_ok, InRegion, Took, Took-none, Took-then, var_uint_at-taken, length_at-taken, skip-taken}
 
 -- ---- descriptors

@@ -1,9 +1,7 @@
 -- A value's parts one after the other, as the step that reading makes of it.
-use Rattle.ion_binary.proofs.Below.{ap, ◌∙◌, sym, subst, ◌≡◌, ℕ, List, Option, Result, Ok, Err, Fault, Refused, Memory, ReadFault, WriteFault, InputLimit, Reason, SymbolAt, Step, Cursor, ◌>>=◌, Placed, part, Answers, AnswersAt}
+use Rattle.ion_binary.proofs.Below.{ap, ◌∙◌, sym, subst, ◌≡◌, ℕ, List, Option, Result, Ok, Err, Fault, Refused, Memory, ReadFault, WriteFault, InputLimit, Reason, SymbolAt, Step, Cursor, ◌>>=◌, Placed, part, Answers, AnswersAt, Frame, State, GivesStep}
 use Rattle.ion_binary.specs.declared.body.Body.{Body}
 use Rattle.ion_binary.specs.declared.value.TypedValue as typed
-use Rattle.ion_binary.specs.Positions.{Frame, State}
-use Rattle.ion_binary.specs.Values.{GivesStep}
 
 -- what was found, of one answer
 abbrev pub found_there : typed.TypedValue → ℕ → Result (typed.TypedValue × ℕ) Fault

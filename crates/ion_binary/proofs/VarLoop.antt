@@ -1,7 +1,5 @@
 -- A VarUInt as a loop over its octets reads it.
-use Rattle.ion_binary.proofs.Below.{arith, refl, ap, ◌∙◌, ◌≡◌, ℕ, zero, suc, ◌+◌, ◌*◌, ◌%◌, ◌^◌, ◌<◌, ◌≤◌, Bool, true, false, nat_lt, if◌then◌else◌, List, [], ◌∷◌, length, Result, Ok, Err, ltb-true, lt-ltb, le-ltb, length-map, pow-suc, Reason, BadVar, seven-low, var_uint, Cursor, ◌>>=◌}
-use Rattle.ion_binary.specs.Descriptor.{Region, octet_at, var_at, var_uint_at}
-use Rattle.ion_binary.specs.Parts.{var_from}
+use Rattle.ion_binary.proofs.Below.{arith, refl, ap, ◌∙◌, ◌≡◌, ℕ, zero, suc, ◌+◌, ◌*◌, ◌%◌, ◌^◌, ◌<◌, ◌≤◌, Bool, true, false, nat_lt, if◌then◌else◌, List, [], ◌∷◌, length, Result, Ok, Err, ltb-true, lt-ltb, le-ltb, length-map, pow-suc, Reason, BadVar, seven-low, var_uint, Cursor, ◌>>=◌, Region, octet_at, var_at, var_uint_at, var_from}
 
 -- the number of octets after others that spell a number already
 abbrev with_prefix : ℕ → List ℕ × Cursor → Result (ℕ × Cursor) Reason

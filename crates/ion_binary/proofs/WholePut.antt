@@ -1,13 +1,6 @@
 -- A plain scalar that is put at top level is that of the streaming definition.
-use Rattle.ion_binary.proofs.Below.{◌≡◌, ℕ, ◌≤◌, Bool, true, false, List, [], ◌++◌, length, drop, Option, None, refl, ap, sym, ◌∙◌, subst, arith, Outgoing, PlacedItem, SymbolAt, UserSymbol, user_item, field_symbols}
-use Rattle.ion_binary.specs.declared.headers.HeaderPlace.{HeaderPlace}
-use Rattle.ion_binary.specs.declared.writer.BinWriter.{BinWriter}
-use Rattle.ion_binary.specs.Canonical.{declaration, id_in, marker_if, member_octets}
-use Rattle.ion_binary.specs.Held.{Held, size_of, value_held, value_put}
-use Rattle.ion_binary.specs.ItemOctets.{head_octets}
-use Rattle.ion_binary.specs.Plain.{HaveIds, IsBare, IsSettled, IsWhole, PutsWhole}
-use Rattle.ion_binary.specs.Writer.{IsSound, added, held_in, item_refusal}
-use Rattle.ion_binary.specs.Writing.{head_symbols, item_symbols}
+use Rattle.ion_binary.proofs.Below.{◌≡◌, ℕ, ◌≤◌, Bool, true, false, List, [], ◌++◌, length, drop, Option, None, refl, ap, sym, ◌∙◌, subst, arith, Outgoing, PlacedItem, SymbolAt, UserSymbol, user_item, field_symbols, HeaderPlace, BinWriter, declaration, id_in, marker_if, member_octets, Held, size_of, value_held, value_put, head_octets, HaveIds, IsBare, IsSettled, IsWhole, PutsWhole, added, held_in, item_refusal, head_symbols, item_symbols}
+use Rattle.ion_binary.specs.Writer.{IsSound}
 use Rattle.ion_binary.proofs.DeclarationOctets.{declaration-none}
 use Rattle.ion_binary.proofs.PlainAdded.{drop-all, have-append, have-allowed, scalar-added}
 use Rattle.ion_binary.proofs.WriterSteps.{not-refused, same-held}

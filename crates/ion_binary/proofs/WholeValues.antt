@@ -1,11 +1,7 @@
 -- The items of whole values put the canonical form of the values.
-use Rattle.ion_binary.proofs.Below.{◌≡◌, ℕ, Bool, true, false, List, [], ◌∷◌, ◌++◌, length, drop, Option, None, refl, ap, sym, subst, ◌∙◌, append_assoc, append-nil, Kind, UserSymbol, Scalar, Value, scalar, container, Members, nothing, member, Top, version, tree, Item, bare_item, value_items, member_items, top_items, field_symbols, members_symbols, scalar_symbols, value_symbols}
+use Rattle.ion_binary.proofs.Below.{◌≡◌, ℕ, Bool, true, false, List, [], ◌∷◌, ◌++◌, length, drop, Option, None, refl, ap, sym, subst, ◌∙◌, append_assoc, append-nil, Kind, UserSymbol, Scalar, Value, scalar, container, Members, nothing, member, Top, version, tree, Item, bare_item, value_items, member_items, top_items, field_symbols, members_symbols, scalar_symbols, value_symbols, type_code, annotation_octets, binary, declaration, field_octets, headed, id_in, is_over, marker_if, marker_octets, member_octets, members_octets, octets_after, scalar_octets, texts_kept, tree_octets, value_octets, with_symbols, wrapped, Unclosed, Written, after_all, at_begin, forgetting, opened_with, ItemsPutTheForm, texts_after}
 use Rattle.ion_value.specs.Value as value
-use Rattle.ion_binary.specs.Grammar.{type_code}
-use Rattle.ion_binary.specs.Canonical.{annotation_octets, binary, declaration, field_octets, headed, id_in, is_over, marker_if, marker_octets, member_octets, members_octets, octets_after, scalar_octets, texts_kept, tree_octets, value_octets, with_symbols, wrapped}
-use Rattle.ion_binary.specs.Writing.{Unclosed, Written, after_all, at_begin, forgetting, opened_with, with_head}
-use Rattle.ion_binary.specs.WritingLaws.{ItemsPutTheForm}
-use Rattle.ion_binary.specs.Refusals.{texts_after}
+use Rattle.ion_binary.specs.Writing.{with_head}
 use Rattle.ion_binary.proofs.KnownIds.{Extends, extends_same, extends_trans, extends_all, with_symbols-append, AreKnown, all_known, known_left, known_right, annotation_octets-same, field_octets-same, scalar_octets-same}
 
 abbrev pub written : List (List ℕ) → ℕ → Bool → List Unclosed → List ℕ → Written

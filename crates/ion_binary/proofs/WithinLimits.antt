@@ -1,11 +1,8 @@
 -- The items of whole values are refused nowhere exactly where the values are within the limits.
-use Rattle.ion_binary.proofs.Below.{◌≡◌, ℕ, suc, ◌+◌, ◌<◌, ◌≤◌, ◌↔◌, nat_lt, Bool, true, false, if◌then◌else◌, List, [], ◌∷◌, ◌++◌, length, drop, Option, Some, None, refl, ap, sym, subst, ◌∙◌, append_assoc, append-nil, length-append, map, option_map, arith, not, ◌&&◌, ◌^◌, ◌*◌, ⊤, map-append, Reason, ValueLimit, Limits, number, marked, digits_in, var_uint_octets, is_marker, SymbolAt, UserSymbol, Scalar, Value, scalar, container, Members, nothing, member, Top, version, tree, Head, Item, PlacedItem, bare_item, value_items, member_items, top_items, user_item, user_items, user_symbol_at, field_symbols, members_symbols, scalar_symbols, value_symbols, Digits-fewest, digits_in-Digits, number-below, texts_cost}
-use Rattle.std.proofs.Common.{ltb-true, ltb-false, le-ltb}
+use Rattle.ion_binary.proofs.Below.{◌≡◌, ℕ, suc, ◌+◌, ◌<◌, ◌≤◌, ◌↔◌, nat_lt, Bool, true, false, if◌then◌else◌, List, [], ◌∷◌, ◌++◌, length, drop, Option, Some, None, refl, ap, sym, subst, ◌∙◌, append_assoc, append-nil, length-append, map, option_map, arith, not, ◌&&◌, ◌^◌, ◌*◌, ⊤, map-append, Reason, ValueLimit, Limits, number, marked, digits_in, var_uint_octets, is_marker, SymbolAt, UserSymbol, Scalar, Value, scalar, container, Members, nothing, member, Top, version, tree, Head, Item, PlacedItem, bare_item, value_items, member_items, top_items, user_item, user_items, user_symbol_at, field_symbols, members_symbols, scalar_symbols, value_symbols, Digits-fewest, digits_in-Digits, number-below, texts_cost, ltb-true, ltb-false, le-ltb, type_code, declaration, headed, id_in, is_over, length_code, length_octets, marker_if, marker_octets, member_octets, members_octets, scalar_octets, value_octets, with_symbol, with_symbols, wrapped, Unclosed, Written, after, after_all, all_closed, at_begin, begun, closed_size, closed_with, first_over, forgetting, head_symbols, item_symbols, with_ids_given, opened_with, refused_at, refused_by, with_end, NoneIsRefusedWithin, texts_left}
 use Rattle.ion_value.specs.Value as value
-use Rattle.ion_binary.specs.Grammar.{type_code}
-use Rattle.ion_binary.specs.Canonical.{declaration, headed, id_in, is_over, length_code, length_octets, marker_if, marker_octets, member_octets, members_octets, scalar_octets, value_octets, with_symbol, with_symbols, wrapped}
-use Rattle.ion_binary.specs.Writing.{Unclosed, Written, after, after_all, all_closed, at_begin, begun, closed_size, closed_with, first_over, forgetting, head_symbols, item_symbols, with_ids_given, opened_with, refused_at, refused_by, with_end, with_head, with_value}
-use Rattle.ion_binary.specs.Refusals.{AreWithin, NoneIsRefusedWithin, texts_left}
+use Rattle.ion_binary.specs.Writing.{with_head, with_value}
+use Rattle.ion_binary.specs.Refusals.{AreWithin}
 use Rattle.ion_binary.proofs.KnownIds.{Extends, extends_same, extends_all, with_symbols-append}
 use Rattle.ion_binary.proofs.WholeValues.{extends_left, extends_right, forgotten, nothing_open, put_in, same_opened, same_scalar, written}
 

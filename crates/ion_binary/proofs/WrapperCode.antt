@@ -1,8 +1,5 @@
 -- An annotation wrapper, read one length after the other.
-use Rattle.ion_binary.proofs.Below.{refl, ◌≡◌, ℕ, ◌+◌, ◌-◌, ◌^◌, ◌<◌, ◌≤◌, true, false, nat_lt, nat_le, nat_eq, ◌||◌, Some, None, Result, Ok, Err, arith, le-ltb, lt-ltb, Reason, Overrun, BadAnnotation, Cursor, ◌>>=◌, ◌>>◌, refuse}
-use Rattle.ion_binary.specs.Descriptor.{Region, passes, var_uint_at, length_at}
-use Rattle.ion_binary.specs.Reading.{Wrapped, wrapper_at}
-use Rattle.ion_binary.specs.Scanned.{EndsAt, wrapper_after, wrapper_by}
+use Rattle.ion_binary.proofs.Below.{refl, ◌≡◌, ℕ, ◌+◌, ◌-◌, ◌^◌, ◌<◌, ◌≤◌, true, false, nat_lt, nat_le, nat_eq, ◌||◌, Some, None, Result, Ok, Err, arith, le-ltb, lt-ltb, Reason, Overrun, BadAnnotation, Cursor, ◌>>=◌, ◌>>◌, refuse, Region, passes, var_uint_at, length_at, Wrapped, wrapper_at, EndsAt, wrapper_after, wrapper_by}
 
 -- ---- what is tested once all octets were taken
 

@@ -1,11 +1,6 @@
 -- Annotation wrappers and fields, as they are read, stand in the bytes so.
-use Rattle.ion_binary.proofs.Below.{◌≡◌, ℕ, zero, suc, ◌+◌, ◌-◌, ◌*◌, ◌<◌, ◌≤◌, eqb, ltb, leb, List, [], ◌∷◌, ◌++◌, length, Option, Some, None, Ok, refl, subst, arith, inl, inr, ◌||◌, ltb-false, leb-false, leb-true, eqb-false, or_parts, Reason, Overrun, BadAnnotation, AnnotationLimit, Rules, Kind, VarUInt, SymbolAt, Cursor, refuse, part}
+use Rattle.ion_binary.proofs.Below.{◌≡◌, ℕ, zero, suc, ◌+◌, ◌-◌, ◌*◌, ◌<◌, ◌≤◌, eqb, ltb, leb, List, [], ◌∷◌, ◌++◌, length, Option, Some, None, Ok, refl, subst, arith, inl, inr, ◌||◌, ltb-false, leb-false, leb-true, eqb-false, or_parts, Reason, Overrun, BadAnnotation, AnnotationLimit, Rules, Kind, VarUInt, SymbolAt, Cursor, refuse, part, symbol_id, Frame, Region, passes, length_at, var_uint_at, Wrapped, wrapper_at, ids_at, region_of, field_in, field_at, Descriptor, Ids, Field, FieldIn}
 use Rattle.ion_value.specs.declared.ion_type.Kind.TheVariants as kind
-use Rattle.ion_binary.specs.Positions.{symbol_id, Frame}
-use Rattle.ion_binary.specs.Descriptor.{Region, passes, length_at, var_uint_at}
-use Rattle.ion_binary.specs.Reading.{Wrapped, wrapper_at, ids_at, region_of, field_in, field_at}
-use Rattle.ion_binary.specs.Grammar.{Descriptor, Ids, Field}
-use Rattle.ion_binary.specs.Paths.{FieldIn}
 use Rattle.ion_binary.proofs.Taken.{bind_ok, then_ok, passed, part_ok, ok_is, chosen, InRegion, Took, Took-none, Took-then, var_uint_at-taken, length_at-taken}
 use Rattle.ion_binary.proofs.TypedValueSound.{in_region}
 

@@ -1,18 +1,9 @@
 -- What an item leaves held is what the streaming definition has after it.
-use Rattle.ion_binary.proofs.Below.{◌≡◌, ℕ, suc, ◌+◌, ◌*◌, ◌<◌, ◌≤◌, Bool, false, not, ◌&&◌, List, [], ◌∷◌, ◌++◌, length, map, drop, Option, Some, None, is_some, option_map, Result, Ok, Err, OnOk, IfErr, refl, ap, sym, subst, ◌∙◌, arith, lit<, Fault, Refused, WriteFault, Reason, Limits, Kind, Continues, HasAnnotations, HasPlace, InRange, has_field, is_marker, open_after, open_after_all, Head, Item, PlacedItem, Scalar, SymbolAt, UserSymbol, map_head, map_scalar, user_item, user_items, user_symbol_at}
+use Rattle.ion_binary.proofs.Below.{◌≡◌, ℕ, suc, ◌+◌, ◌*◌, ◌<◌, ◌≤◌, Bool, false, not, ◌&&◌, List, [], ◌∷◌, ◌++◌, length, map, drop, Option, Some, None, is_some, option_map, Result, Ok, Err, OnOk, IfErr, refl, ap, sym, subst, ◌∙◌, arith, lit<, Fault, Refused, WriteFault, Reason, Limits, Kind, Continues, HasAnnotations, HasPlace, InRange, has_field, is_marker, open_after, open_after_all, Head, Item, PlacedItem, Scalar, SymbolAt, UserSymbol, map_head, map_scalar, user_item, user_items, user_symbol_at, HeaderPlace, OpenValue, BinWriter, is_over, type_code, HaveCodes, Held, MayCome, headers_of, held_forgotten, held_of, texts_forgotten, value_held, value_put, with_names, wrapper_headers, IsOpen, MayAdd, unheaded, ComesAt, Holds, added, adds_at, held_in, item_refusal, Unclosed, Written, after, after_all, begun, closed_size, closed_with, first_over, item_puts, item_symbols, refused_at, refused_by, unless_refused, with_end, with_ids_given, written_after, after_all-last}
 use Rattle.ion_value.specs.declared.ion_type.Kind.TheVariants as kind
 use Rattle.ion_value.specs.Value as value
-use Rattle.ion_binary.specs.declared.headers.HeaderPlace.{HeaderPlace}
-use Rattle.ion_binary.specs.declared.open_value.OpenValue.{OpenValue}
-use Rattle.ion_binary.specs.declared.writer.BinWriter.{BinWriter}
-use Rattle.ion_binary.specs.Canonical.{is_over}
-use Rattle.ion_binary.specs.Grammar.{type_code}
-use Rattle.ion_binary.specs.Held.{HaveCodes, Held, MayCome, headers_of, held_forgotten, held_of, texts_forgotten, value_held, value_put, with_names, wrapper_headers}
-use Rattle.ion_binary.specs.Opening.{IsOpen, MayAdd}
-use Rattle.ion_binary.specs.Places.{unheaded}
-use Rattle.ion_binary.specs.Writer.{ComesAt, Follows, Holds, Stands, added, adds_at, held_in, item_refusal}
-use Rattle.ion_binary.specs.Writing.{Unclosed, Written, after, after_all, begun, closed_size, closed_with, first_over, item_puts, item_symbols, refused_at, refused_by, unless_refused, with_end, with_head, with_ids_given, with_value, written_after}
-use Rattle.ion_binary.specs.ItemPuts.{after_all-last}
+use Rattle.ion_binary.specs.Writer.{Follows, Stands}
+use Rattle.ion_binary.specs.Writing.{with_head, with_value}
 use Rattle.ion_binary.proofs.HeldMoves.{forgetting-moves, forgetting-open, what_is_held_moves}
 
 -- ---- an item may come

@@ -1,20 +1,6 @@
 -- The writer of binary follows the streaming definition from item to item.
-use Rattle.ion_binary.proofs.Below.{◌≡◌, ℕ, zero, suc, ◌+◌, ◌-◌, ◌/◌, ◌<◌, ◌≤◌, ◌⊎◌, inl, inr, Bool, true, false, if◌then◌else◌, List, [], ◌∷◌, ◌++◌, length, map, drop, Option, Some, None, option_map, Result, Ok, Err, OnOk, refl, ap, sym, subst, ◌∙◌, arith, append-nil, length-append, Outgoing, Fault, Refused, Memory, ReadFault, WriteFault, InputLimit, Reason, ValueLimit, Limits, IsPut, Puts-longer, Puts-nothing, Head, Item, PlacedItem, SymbolAt, UserSymbol, map_head, map_scalar, user_item, user_symbol_at, texts_cost}
-use Rattle.std.proofs.Common.{lt-ltb, le-ltb}
-use Rattle.ion_meter.specs.declared.device.Output.{Ghosts as OutputOf}
+use Rattle.ion_binary.proofs.Below.{◌≡◌, ℕ, zero, suc, ◌+◌, ◌-◌, ◌/◌, ◌<◌, ◌≤◌, ◌⊎◌, inl, inr, Bool, true, false, if◌then◌else◌, List, [], ◌∷◌, ◌++◌, length, map, drop, Option, Some, None, option_map, Result, Ok, Err, OnOk, refl, ap, sym, subst, ◌∙◌, arith, append-nil, length-append, Outgoing, Fault, Refused, Memory, ReadFault, WriteFault, InputLimit, Reason, ValueLimit, Limits, IsPut, Puts-longer, Puts-nothing, Head, Item, PlacedItem, SymbolAt, UserSymbol, map_head, map_scalar, user_item, user_symbol_at, texts_cost, lt-ltb, le-ltb, OutputOf, Front, HeaderPlace, OpenValue, field_octets, id_in, id_octets, is_over, scalar_octets, Held, ids_place, moved_headers, moved_octets, size_of, texts_forgotten, value_put, with_front, with_names, head_name, IsFront, ArePlaced, AreReached, Content, IsOpen, IsOpenTo, MayAdd, MayFollow, PutsOctets, added, item_refusal, first_over, item_symbols, refused_by}
 use Rattle.ion_value.specs.Value as value
-use Rattle.ion_binary.specs.declared.front.Front.{Front}
-use Rattle.ion_binary.specs.declared.headers.HeaderPlace.{HeaderPlace}
-use Rattle.ion_binary.specs.declared.open_value.OpenValue.{OpenValue}
-use Rattle.ion_binary.specs.Canonical.{field_octets, id_in, id_octets, is_over, scalar_octets}
-use Rattle.ion_binary.specs.Held.{Held, ids_place, moved_headers, moved_octets, size_of, texts_forgotten, value_put, with_front, with_names}
-use Rattle.ion_binary.specs.ItemOctets.{head_name}
-use Rattle.ion_binary.specs.Numbering.{IsFront}
-use Rattle.ion_binary.specs.Counting.{ArePlaced, AreReached}
-use Rattle.ion_binary.specs.Late.{Content}
-use Rattle.ion_binary.specs.Opening.{IsOpen, IsOpenTo, MayAdd, MayFollow}
-use Rattle.ion_binary.specs.Writer.{PutsOctets, added, item_refusal}
-use Rattle.ion_binary.specs.Writing.{first_over, item_symbols, refused_by}
 use Rattle.ion_binary.proofs.CountedHeaders.{reached-more}
 use Rattle.ion_binary.proofs.OpenSteps.{begun-more, placed-more, whole-length}
 

@@ -1,10 +1,6 @@
 -- What the writer keeps and moves as an item is added.
-use Rattle.ion_binary.proofs.Below.{◌≡◌, ℕ, ◌+◌, ◌≤◌, length, Option, Some, None, refl, ap, ◌∙◌, arith, Counts, Fault, Refused, Reason, Limits, Charges, MemoryCauses, Output, texts_cost}
-use Rattle.ion_binary.specs.declared.open_value.OpenValue.{OpenValue}
-use Rattle.ion_binary.specs.declared.writer.BinWriter.{BinWriter}
-use Rattle.ion_binary.specs.Late.{Adds, Content}
-use Rattle.ion_binary.specs.Opening.{CanStep, Stepped}
-use Rattle.ion_binary.specs.Writer.{CanTake, Taken}
+use Rattle.ion_binary.proofs.Below.{◌≡◌, ℕ, ◌+◌, ◌≤◌, length, Option, Some, None, refl, ap, ◌∙◌, arith, Counts, Fault, Refused, Reason, Limits, Charges, MemoryCauses, Output, texts_cost, OpenValue, BinWriter, Adds, Content, CanStep, Stepped, Taken}
+use Rattle.ion_binary.specs.Writer.{CanTake}
 use Rattle.ion_binary.proofs.Contents.{adds-costed}
 
 -- the writer with other symbols and octets

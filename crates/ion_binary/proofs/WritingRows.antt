@@ -1,14 +1,9 @@
 -- Worked rows of the canonical form, of trees and item by item, by computing.
-use Rattle.ion_binary.proofs.Below.{◌≡◌, refl, ℕ, zero, suc, ◌^◌, ◌-◌, pos, negsuc, Bool, true, false, List, [], ◌∷◌, ◌++◌, Option, Some, None, codes, from_bits, binary64, Reason, SymbolLimit, ValueLimit, Limits, Timestamp, Year, Day, Fraction, fields, Text, Id, SymbolAt, UserSymbol, Known, Unknown, Value, Members, scalar, container, nothing, member, Top, tree, Head, whole, begin, PlacedItem, top_items}
+use Rattle.ion_binary.proofs.Below.{◌≡◌, refl, ℕ, zero, suc, ◌^◌, ◌-◌, pos, negsuc, Bool, true, false, List, [], ◌∷◌, ◌++◌, Option, Some, None, codes, from_bits, binary64, Reason, SymbolLimit, ValueLimit, Limits, Timestamp, Year, Day, Fraction, fields, Text, Id, SymbolAt, UserSymbol, Known, Unknown, Value, Members, scalar, container, nothing, member, Top, tree, Head, whole, begin, PlacedItem, top_items, digits_within, decimal_body, timestamp_body, utc_of, binary, declaration, id_in, is_over, marker_octets, member_octets, value_octets, with_symbol, after_all, at_begin, binary_adds, binary_puts, binary_refusal}
 use lib.Ieee.{fits, of_bits, to_bits}
 use Rattle.ion_value.specs.declared.ion_type.IonType.TheVariants as type
 use Rattle.ion_value.specs.declared.ion_type.Kind.TheVariants as kind
-use Rattle.ion_value.specs.Number.{digits_within}
-use Rattle.ion_value.specs.Decimal.{decimal_body}
-use Rattle.ion_value.specs.Timestamp.{timestamp_body, utc_of}
 use Rattle.ion_value.specs.Value as value
-use Rattle.ion_binary.specs.Canonical.{binary, declaration, id_in, is_over, marker_octets, member_octets, value_octets, with_symbol}
-use Rattle.ion_binary.specs.Writing.{after_all, at_begin, binary_adds, binary_puts, binary_refusal}
 
 abbrev int : Bool → ℕ → Value UserSymbol ℕ
 int negative n = scalar (value.int (record { negative = negative; magnitude = n }))

@@ -1,15 +1,9 @@
 -- The octets of a value are those of the grammar, with each symbol as its id.
-use Rattle.ion_binary.proofs.Below.{◌≡◌, ◌≢◌, ℕ, suc, ◌+◌, ◌*◌, ◌^◌, ◌<◌, ◌≤◌, Bool, true, false, nat_lt, is_some, if◌then◌else◌, List, [], ◌∷◌, ◌++◌, length, map, Option, Some, None, option_map, refl, ap, ap₂, sym, subst, ◌∙◌, inl, append_assoc, arith, length-append, length-map, ⊤, Rules, IonType, Kind, Int, uint, marked, digits_in, uint_octets, var_uint_octets, IsInt, decimal_body, float_octets, timestamp_body, raw_id, IsPermitted, InRange, in_struct, Symbol, Id, SymbolAt, UserSymbol, Scalar, Value, Members, scalar, container, nothing, member, map_scalar, map_value, map_members, no_place, HasText, IsWritable, AreWritable, Digits-fewest, digits_in-Digits, var_uint_octets-VarUInt, decimal_body-DecimalBody, bytes-back, octets-read}
-use Rattle.std.proofs.Common.{ltb-true}
+use Rattle.ion_binary.proofs.Below.{◌≡◌, ◌≢◌, ℕ, suc, ◌+◌, ◌*◌, ◌^◌, ◌<◌, ◌≤◌, Bool, true, false, nat_lt, is_some, if◌then◌else◌, List, [], ◌∷◌, ◌++◌, length, map, Option, Some, None, option_map, refl, ap, ap₂, sym, subst, ◌∙◌, inl, append_assoc, arith, length-append, length-map, ⊤, Rules, IonType, Kind, Int, uint, marked, digits_in, uint_octets, var_uint_octets, IsInt, decimal_body, float_octets, timestamp_body, raw_id, IsPermitted, InRange, in_struct, Symbol, Id, SymbolAt, UserSymbol, Scalar, Value, Members, scalar, container, nothing, member, map_scalar, map_value, map_members, no_place, HasText, IsWritable, AreWritable, Digits-fewest, digits_in-Digits, var_uint_octets-VarUInt, decimal_body-DecimalBody, bytes-back, octets-read, ltb-true, symbol_id, placed_scalar, Descriptor, IsNullOf, Body, Plain, Ids, Field, Header, Wrapper, Annotated, Bin, Inside, type_code, annotation_octets, field_octets, header, headed, id_octets, length_octets, members_octets, scalar_octets, value_octets, wrapped, IsSpelledAt, ValuesAreSpelled, bare_symbol, with_id, AnnotationsFit, IdFits, MembersFit, ScalarFits, ValueFits}
 use Rattle.ion_value.specs.declared.ion_type.IonType.TheVariants as type
 use Rattle.ion_value.specs.declared.ion_type.Kind.TheVariants as kind
 use Rattle.ion_value.specs.Scalar as numbered
 use Rattle.ion_value.specs.Value as value
-use Rattle.ion_binary.specs.Positions.{symbol_id, placed_scalar}
-use Rattle.ion_binary.specs.Grammar.{Descriptor, IsNullOf, Body, Plain, Ids, Field, Header, Wrapper, Annotated, Bin, Inside, type_code}
-use Rattle.ion_binary.specs.Canonical.{annotation_octets, field_octets, header, headed, id_octets, length_octets, members_octets, scalar_octets, value_octets, wrapped}
-use Rattle.ion_binary.specs.Spelling.{IsSpelledAt, ValuesAreSpelled, bare_symbol, with_id}
-use Rattle.ion_binary.specs.WrittenLimits.{AnnotationsFit, IdFits, MembersFit, ScalarFits, ValueFits}
 use Rattle.ion_binary.proofs.Fitting.{BinFits, InsideFits, PlainFits}
 use Rattle.ion_binary.proofs.TimestampsRead.{timestamp_of_bytes-body}
 

@@ -1,14 +1,8 @@
 -- The canonical form of values is a stream of which they are the user values, and it is read to its end where the values are within limits.
-use Rattle.ion_binary.proofs.Below.{◌≡◌, ℕ, suc, ◌+◌, ◌-◌, ◌^◌, ◌<◌, ◌≤◌, Bool, true, false, List, [], ◌∷◌, ◌++◌, length, drop, map, slice_get, Option, Some, None, option_map, unwrap_or, if◌then◌else◌, nat_lt, IsUtf8, refl, ap, ap₂, sym, subst, ◌∙◌, append_assoc, append-nil, arith, ⊤, bytes_eq, AllByRecursion, map-append, bytes_eq-Decides, option_map_id, drop-append_seam, Rules, named, text_or_id, closed, path_items, Finished, items_then, Symbol, Id, SymbolAt, UserSymbol, Known, Unknown, user_symbol, Scalar, Value, Members, scalar, container, nothing, member, Top, version, tree, map_scalar, map_value, map_members, no_place, unplaced_top, IsText, field_symbols, members_symbols, scalar_symbols, value_symbols, position, system_id, system_texts, or_given, known_id, word_by_id, Shared, Slots, Table, system, system_slots, local_slot, slot_in, text_of_slot, text_at, declares_table, next_table, user_at, user_tops, is_declaration, IsUser, is_declaring}
-use Rattle.std.proofs.Common.{lt-ltb, le-ltb}
+use Rattle.ion_binary.proofs.Below.{◌≡◌, ℕ, suc, ◌+◌, ◌-◌, ◌^◌, ◌<◌, ◌≤◌, Bool, true, false, List, [], ◌∷◌, ◌++◌, length, drop, map, slice_get, Option, Some, None, option_map, unwrap_or, if◌then◌else◌, nat_lt, IsUtf8, refl, ap, ap₂, sym, subst, ◌∙◌, append_assoc, append-nil, arith, ⊤, bytes_eq, AllByRecursion, map-append, bytes_eq-Decides, option_map_id, drop-append_seam, Rules, named, text_or_id, closed, path_items, Finished, items_then, Symbol, Id, SymbolAt, UserSymbol, Known, Unknown, user_symbol, Scalar, Value, Members, scalar, container, nothing, member, Top, version, tree, map_scalar, map_value, map_members, no_place, unplaced_top, IsText, field_symbols, members_symbols, scalar_symbols, value_symbols, position, system_id, system_texts, or_given, known_id, word_by_id, Shared, Slots, Table, system, system_slots, local_slot, slot_in, text_of_slot, text_at, declares_table, next_table, user_at, user_tops, is_declaration, IsUser, is_declaring, lt-ltb, le-ltb, Bin, Stream, Tops, Bodies, binary, declaration, id_in, is_over, marker_if, marker_octets, member_octets, octets_after, texts_kept, tree_octets, value_octets, with_symbol, with_symbols, with_text, AreShort, IsDeclared, TheFormIsRead, bare_symbol, with_id, with_texts, AllowDeclarations, FitsBinary, MayBeDeclared, SymbolFits, WhatIsWrittenIsWithinLimits}
 use Rattle.ion_meter.specs.Rules.{rules}
 use Rattle.ion_value.specs.declared.ion_type.Kind.TheVariants as kind
 use Rattle.ion_value.specs.Value as value
-use Rattle.ion_binary.specs.Grammar.{Bin, Stream, Tops}
-use Rattle.ion_binary.specs.Laws.{Bodies}
-use Rattle.ion_binary.specs.Canonical.{binary, declaration, id_in, is_over, marker_if, marker_octets, member_octets, octets_after, texts_kept, tree_octets, value_octets, with_symbol, with_symbols, with_text}
-use Rattle.ion_binary.specs.Spelling.{AreShort, IsDeclared, TheFormIsRead, bare_symbol, with_id, with_texts}
-use Rattle.ion_binary.specs.WrittenLimits.{AllowDeclarations, FitsBinary, MayBeDeclared, SymbolFits, WhatIsWrittenIsWithinLimits}
 use Rattle.ion_binary.proofs.Complete.{Shrinking, fitting_streams, one_stream}
 use Rattle.ion_binary.proofs.Elements.{all-append, all-left, all-right}
 use Rattle.ion_binary.proofs.Fitting.{BinFits, TopsFit}

@@ -1,7 +1,5 @@
 -- Annotations that are put one after the other.
-use Rattle.ion_text_out.proofs.Below.{◌≡◌, ℕ, zero, suc, ◌+◌, List, [], ◌∷◌, ◌++◌, take, drop, Result, Ok, Err, refl, arith, sym, ap, ◌∙◌, subst, append_assoc, append-nil, take-append-drop, codes, slice_get, Outgoing, Fault, SymbolAt, HasPut, user_symbol_at, put_cut, put_then}
-use Rattle.ion_text_out.specs.Text.{annotation_text}
-use Rattle.ion_text_out.specs.Writing.{annotations_text, marked_text}
+use Rattle.ion_text_out.proofs.Below.{◌≡◌, ℕ, zero, suc, ◌+◌, List, [], ◌∷◌, ◌++◌, take, drop, Result, Ok, Err, refl, arith, sym, ap, ◌∙◌, subst, append_assoc, append-nil, take-append-drop, codes, slice_get, Outgoing, Fault, SymbolAt, HasPut, user_symbol_at, put_cut, put_then, annotation_text, annotations_text, marked_text}
 
 -- the texts of the first annotations, and of the next
 next_annotation : (xs : List SymbolAt) (i : ℕ) → annotations_text (take (suc i) xs) ≡ annotations_text (take i xs) ++ marked_text (codes "::") (slice_get xs i)

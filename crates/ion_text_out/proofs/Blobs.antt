@@ -1,7 +1,5 @@
 -- Octets that are encoded and put in parts.
-use Rattle.ion_text_out.proofs.Below.{arith, ◌≡◌, ◌+◌, ◌-◌, ◌≤◌, ◌%◌, ◌∙◌, true, ap, sym, subst, refl, ℕ, List, [], ◌++◌, length, take, drop, replicate, None, Result, Ok, Err, take-add, length-append, length-drop, length-take-le, take_all, take-append-drop, standard, encode_of, encode, padding_len, encode_symbols-append, Fault, Outgoing, HasPut, put_nothing, put_cut, put_then}
-use Rattle.std.proofs.lemmas.List.{append-nil, append_assoc}
-use Rattle.base64.specs.Rfc4648.{encode_symbols}
+use Rattle.ion_text_out.proofs.Below.{arith, ◌≡◌, ◌+◌, ◌-◌, ◌≤◌, ◌%◌, ◌∙◌, true, ap, sym, subst, refl, ℕ, List, [], ◌++◌, length, take, drop, replicate, None, Result, Ok, Err, take-add, length-append, length-drop, length-take-le, take_all, take-append-drop, standard, encode_of, encode, padding_len, encode_symbols-append, Fault, Outgoing, HasPut, put_nothing, put_cut, put_then, append-nil, append_assoc, encode_symbols}
 
 -- octets in threes are encoded for themselves
 groups : (t xs ys : List ℕ) → length xs % 3 ≡ 0 → encode t 61 true (xs ++ ys) ≡ encode t 61 true xs ++ encode t 61 true ys

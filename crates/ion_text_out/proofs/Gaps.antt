@@ -1,10 +1,6 @@
 -- What stands between parts: which it is, how long, and how its blanks are put.
-use Rattle.ion_text_out.proofs.Below.{◌≡◌, ℕ, suc, ◌+◌, ◌-◌, ◌*◌, ◌<◌, ◌≤◌, Bool, true, false, List, [], ◌∷◌, ◌++◌, length, take, Some, None, refl, sym, subst, ap, ◌∙◌, arith, append_assoc, replicate, reverse, slice_get, codes, length-append, length-map, length-replicate, length-reverse, replicate-append-replicate, take-replicate, Outgoing, Kind}
+use Rattle.ion_text_out.proofs.Below.{◌≡◌, ℕ, suc, ◌+◌, ◌-◌, ◌*◌, ◌<◌, ◌≤◌, Bool, true, false, List, [], ◌∷◌, ◌++◌, length, take, Some, None, refl, sym, subst, ap, ◌∙◌, arith, append_assoc, replicate, reverse, slice_get, codes, length-append, length-map, length-replicate, length-reverse, replicate-append-replicate, take-replicate, Outgoing, Kind, new_line, Layout, marked, plain_front, before_item, before_end, innermost, shown, shown_in}
 use Rattle.ion_value.specs.declared.ion_type.Kind.TheVariants as kind
-use Rattle.ion_text_out.specs.Layout.{new_line, Layout}
-use Rattle.ion_text_out.specs.Lane.{marked, plain_front}
-use Rattle.ion_text_out.specs.Text.{before_item}
-use Rattle.ion_text_out.specs.Writing.{before_end, innermost, shown, shown_in}
 
 -- ---- before a member, and before a bracket that closes
 

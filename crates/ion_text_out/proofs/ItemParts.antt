@@ -1,9 +1,6 @@
 -- An item's text in parts: what stands first, the value, and what stands last.
-use Rattle.ion_text_out.proofs.Below.{◌≡◌, ℕ, List, [], ◌∷◌, ◌++◌, Option, Some, None, Result, Ok, Err, refl, sym, subst, ap, ◌∙◌, append_assoc, append-nil, length, OnOk, option_map, Outgoing, Fault, PlacedItem, SymbolAt, map_head, HasPut, user_symbol_at, user_item, put_cut, put_then}
+use Rattle.ion_text_out.proofs.Below.{◌≡◌, ℕ, List, [], ◌∷◌, ◌++◌, Option, Some, None, Result, Ok, Err, refl, sym, subst, ap, ◌∙◌, append_assoc, append-nil, length, OnOk, option_map, Outgoing, Fault, PlacedItem, SymbolAt, map_head, HasPut, user_symbol_at, user_item, put_cut, put_then, Layout, Open, before_item, after_value, closer, field_text_by, head_text, item_text, opener, body_text, first_text, is_value, last_text, marked_text, middle_text, annotations_text, where_value}
 use Rattle.ion_value.specs.Value as v
-use Rattle.ion_text_out.specs.Layout.{Layout}
-use Rattle.ion_text_out.specs.Text.{Open, before_item, after_value, closer, field_text_by, head_text, item_text, opener}
-use Rattle.ion_text_out.specs.Writing.{body_text, first_text, is_value, last_text, marked_text, middle_text, annotations_text, where_value}
 
 head_parts : (layout : Layout) (cs : Open) (name annotations : List ℕ) (h : v.Head SymbolAt)
     → first_text layout cs h ++ (where_value (is_value h) (name ++ (annotations ++ body_text (map_head user_symbol_at h))) ++ last_text cs h) ≡ head_text layout cs (name ++ annotations) (map_head user_symbol_at h)

@@ -1,7 +1,6 @@
 -- Canonical text and pretty text are layouts: they have white space between tokens, and what the grammar asks for.
-use Rattle.ion_text_out.proofs.Below.{◌≡◌, ◌*◌, ℕ, zero, suc, Bool, true, false, [], refl, replicate, Kind}
+use Rattle.ion_text_out.proofs.Below.{◌≡◌, ◌*◌, ℕ, zero, suc, Bool, true, false, [], refl, replicate, Kind, AreWhite, IsLayout, MayPrecede, canonical, new_line, pretty}
 use Rattle.ion_value.specs.declared.ion_type.Kind.TheVariants as kind
-use Rattle.ion_text_out.specs.Layout.{AreWhite, IsLayout, MayPrecede, canonical, new_line, pretty}
 
 blanks-white : (n : ℕ) → AreWhite (replicate n 32)
 blanks-white zero = refl

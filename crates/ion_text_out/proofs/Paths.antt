@@ -1,9 +1,6 @@
 -- The text of items grows by that of each, and the text of trees is that of their items, by each layout.
-use Rattle.ion_text_out.proofs.Below.{◌≡◌, ℕ, suc, ◌+◌, true, false, List, [], ◌∷◌, ◌++◌, length, Option, None, refl, ap, sym, ◌∙◌, arith, append_assoc, append-nil, flat_map, Bool, codes, Kind, UserSymbol, Value, Members, scalar, container, nothing, member, Top, tree, Item, bare_item, member_items, one_top, top_items, value_items, Nest, outermost, inner, Path, closed, opened, nest_items, path_items, begin_item}
+use Rattle.ion_text_out.proofs.Below.{◌≡◌, ℕ, suc, ◌+◌, true, false, List, [], ◌∷◌, ◌++◌, length, Option, None, refl, ap, sym, ◌∙◌, arith, append_assoc, append-nil, flat_map, Bool, codes, Kind, UserSymbol, Value, Members, scalar, container, nothing, member, Top, tree, Item, bare_item, member_items, one_top, top_items, value_items, Nest, outermost, inner, Path, closed, opened, nest_items, path_items, begin_item, Layout, further_in, items_append, Open, annotation_text, before_item, after_value, closer, field_text_by, inner_kind, inner_members, is_empty, items_text_by, nest_depth, nest_text_by, path_text_by, members_text_by, open_after, open_after_all, opener, scalar_text, text_by, top_text_by, value_text_by, with_member}
 use Rattle.ion_value.specs.Value as v
-use Rattle.ion_text_out.specs.Layout.{Layout, further_in}
-use Rattle.ion_text_out.specs.Written.{items_append}
-use Rattle.ion_text_out.specs.Text.{Open, annotation_text, before_item, after_value, closer, field_text_by, inner_kind, inner_members, is_empty, items_text_by, nest_depth, nest_text_by, path_text_by, members_text_by, open_after, open_after_all, opener, scalar_text, text_by, top_text_by, value_text_by, with_member}
 
 -- ---- layouts further in
 

@@ -1,14 +1,9 @@
 -- What is put of a plain item is its text.
-use Rattle.ion_text_out.proofs.Below.{◌==◌, ◌≡◌, ℕ, ◌≤◌, Bool, true, false, List, [], ◌∷◌, ◌++◌, length, take, drop, Option, Some, None, refl, sym, ap, ◌∙◌, append_assoc, append-nil, arith, if◌then◌else◌, drop-append_seam, take-append_seam, and_parts, map, option_map, codes, is_some, IfSome, flat_map, Outgoing, coded, IsQuotedAs, is_plain, is_simple, PlacedItem, SymbolAt, Symbol, map_head, map_scalar, user_symbol, user_symbol_at, user_item, raw_head, IsOwnText, IsQuotedIn, IsRightlyQuoted, IsTextOf, StandsAfter, listed, placed_item, placed_text, with_second, all_are, Kind, TextAt, PlainItem, Limits}
+use Rattle.ion_text_out.proofs.Below.{◌==◌, ◌≡◌, ℕ, ◌≤◌, Bool, true, false, List, [], ◌∷◌, ◌++◌, length, take, drop, Option, Some, None, refl, sym, ap, ◌∙◌, append_assoc, append-nil, arith, if◌then◌else◌, drop-append_seam, take-append_seam, and_parts, map, option_map, codes, is_some, IfSome, flat_map, Outgoing, coded, IsQuotedAs, is_plain, is_simple, PlacedItem, SymbolAt, Symbol, map_head, map_scalar, user_symbol, user_symbol_at, user_item, raw_head, IsOwnText, IsQuotedIn, IsRightlyQuoted, IsTextOf, StandsAfter, listed, placed_item, placed_text, with_second, all_are, Kind, TextAt, PlainItem, Limits, between_quotes, byte_text, is_shown, Layout, Open, annotation_text, after_value, field_text_by, head_text, item_text, scalar_text, symbol_text, after_end, closing, shown, text_adds, Shows, is_bare_in, marked, plain_front, plain_scalar, symbol_in, symbols_in, text_in}
 use Rattle.ion_value.specs.Value as v
 use Rattle.ion_value.specs.declared.quoting.Quoting.TheVariants as quoting
 use Rattle.ion_value.specs.declared.ion_type.Kind.TheVariants as kind
 use Rattle.ion_text_out.proofs.Quoted.{shown_between}
-use Rattle.ion_text_out.specs.Escape.{between_quotes, byte_text, is_shown}
-use Rattle.ion_text_out.specs.Layout.{Layout}
-use Rattle.ion_text_out.specs.Text.{Open, annotation_text, after_value, field_text_by, head_text, item_text, scalar_text, symbol_text}
-use Rattle.ion_text_out.specs.Writing.{after_end, closing, shown, text_adds, Shows}
-use Rattle.ion_text_out.specs.Lane.{is_bare_in, marked, plain_front, plain_scalar, symbol_in, symbols_in, text_in}
 
 -- a simple text is plain
 simple_plain : (bytes : List ℕ) → is_simple bytes ≡ true → is_plain bytes ≡ true

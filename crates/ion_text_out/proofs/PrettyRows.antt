@@ -1,10 +1,7 @@
 -- Worked rows of pretty text, by computing.
-use Rattle.ion_text_out.proofs.Below.{◌≡◌, refl, ℕ, List, [], ◌∷◌, false, Option, Some, None, codes, Path, opened, outermost, inner, UserSymbol, Known, Value, Members, Top, scalar, container, nothing, member, Item}
-use Rattle.std.specs.Fmt.{digits}
+use Rattle.ion_text_out.proofs.Below.{◌≡◌, refl, ℕ, List, [], ◌∷◌, false, Option, Some, None, codes, Path, opened, outermost, inner, UserSymbol, Known, Value, Members, Top, scalar, container, nothing, member, Item, digits, pretty, items_text_by, path_text_by, text_by}
 use Rattle.ion_value.specs.declared.ion_type.Kind.TheVariants as kind
 use Rattle.ion_value.specs.Value as v
-use Rattle.ion_text_out.specs.Layout.{pretty}
-use Rattle.ion_text_out.specs.Text.{items_text_by, path_text_by, text_by}
 
 abbrev known : List ℕ → UserSymbol
 known t = Known t

@@ -1,14 +1,9 @@
 -- Worked rows of text, by computing.
-use Rattle.ion_text_out.proofs.Below.{◌≡◌, refl, ℕ, pos, List, [], ◌∷◌, true, false, Option, Some, None, codes, from_bits, binary64, UserSymbol, Known, Unknown, Value, Members, Top, Item, scalar, container, nothing, member}
-use Rattle.std.specs.Fmt.{digits}
+use Rattle.ion_text_out.proofs.Below.{◌≡◌, refl, ℕ, pos, List, [], ◌∷◌, true, false, Option, Some, None, codes, from_bits, binary64, UserSymbol, Known, Unknown, Value, Members, Top, Item, scalar, container, nothing, member, digits, encode_symbols, cut_at, reads_as, search, shortest, items_text, symbol_text, text}
 use lib.Ieee.{round, to_bits, of_bits}
-use Rattle.base64.specs.Rfc4648.{encode_symbols}
-use Rattle.ion_value.specs.Digits.{cut_at}
-use Rattle.ion_value.specs.Shortest.{reads_as, search, shortest}
 use Rattle.ion_value.specs.declared.ion_type.IonType.TheVariants as type
 use Rattle.ion_value.specs.declared.ion_type.Kind.TheVariants as kind
 use Rattle.ion_value.specs.Value as v
-use Rattle.ion_text_out.specs.Text.{items_text, symbol_text, text}
 
 abbrev known : List ℕ → UserSymbol
 known t = Known t

@@ -1,6 +1,5 @@
 -- Runs of bytes that stand for themselves between quotes, as vectors find them.
-use Rattle.ion_text_out.proofs.Below.{◌≡◌, ◌≢◌, ℕ, zero, suc, ◌+◌, ◌-◌, ◌*◌, ◌%◌, ◌^◌, ◌<◌, ◌≤◌, Bool, true, false, not, cond, eqb, leb, ◌&&◌, ◌||◌, nat_eq, nat_le, nat_lt, List, [], ◌∷◌, ◌++◌, map, take, drop, length, replicate, refl, sym, subst, ap, ap₂, ◌∙◌, inl, inr, arith, w8, Fits, and_parts, cases_Bool, ne_eqb, nat_tests, zip2_splat, zip2_splat_left, map-map, mask_l-mod, chunk-drop, length-chunk, trailing_mask_l, length-map, length-drop, drop-drop, take_all, prefix_len-append, prefix_len-le-length, prefix_len, bit_or, zip2, chunk, mask_l, top, Each1, count_trailing_zeros, first_is, all_are}
-use Rattle.ion_text_out.specs.Escape.{is_shown}
+use Rattle.ion_text_out.proofs.Below.{◌≡◌, ◌≢◌, ℕ, zero, suc, ◌+◌, ◌-◌, ◌*◌, ◌%◌, ◌^◌, ◌<◌, ◌≤◌, Bool, true, false, not, cond, eqb, leb, ◌&&◌, ◌||◌, nat_eq, nat_le, nat_lt, List, [], ◌∷◌, ◌++◌, map, take, drop, length, replicate, refl, sym, subst, ap, ap₂, ◌∙◌, inl, inr, arith, w8, Fits, and_parts, cases_Bool, ne_eqb, nat_tests, zip2_splat, zip2_splat_left, map-map, mask_l-mod, chunk-drop, length-chunk, trailing_mask_l, length-map, length-drop, drop-drop, take_all, prefix_len-append, prefix_len-le-length, prefix_len, bit_or, zip2, chunk, mask_l, top, Each1, count_trailing_zeros, first_is, all_are, is_shown}
 use Rattle.ion_text_out.proofs.Quoted.{all_after, all_joined}
 
 -- ---- a vector of bytes, tested lane by lane

@@ -1,13 +1,6 @@
 -- What the fast path took of a head.
-use Rattle.ion_text_out.proofs.Below.{◌≡◌, ℕ, Bool, true, false, List, [], ◌∷◌, refl, sym, ap, ◌∙◌, arith, drop, reverse, Counts, Outgoing, IsQuotedIn, IsTextOf, SymbolAt, map_head, map_scalar, user_symbol_at, Kind}
+use Rattle.ion_text_out.proofs.Below.{◌≡◌, ℕ, Bool, true, false, List, [], ◌∷◌, refl, sym, ap, ◌∙◌, arith, drop, reverse, Counts, Outgoing, IsQuotedIn, IsTextOf, SymbolAt, map_head, map_scalar, user_symbol_at, Kind, LaidOut, between_quotes, Layout, plain_begin, plain_front, CanStep, Stepped, TakesHead, TakesScalar, opened_in, Open, end_text, head_text, open_after, opener, scalar_text, with_member, shown_in}
 use Rattle.ion_value.specs.Value as v
-use Rattle.ion_text_out.specs.declared.writer.LaidOut.{LaidOut}
-use Rattle.ion_text_out.specs.Escape.{between_quotes}
-use Rattle.ion_text_out.specs.Layout.{Layout}
-use Rattle.ion_text_out.specs.Lane.{plain_begin, plain_front}
-use Rattle.ion_text_out.specs.Steps.{CanStep, Stepped, TakesHead, TakesScalar, opened_in}
-use Rattle.ion_text_out.specs.Text.{Open, end_text, head_text, open_after, opener, scalar_text, with_member}
-use Rattle.ion_text_out.specs.Writing.{shown_in}
 use Rattle.ion_text_out.proofs.Plain.{puts_same, quoted_body, scalar_put, spelled_body}
 
 member : (kinds : List Kind) (empty : Bool) → shown_in kinds false ≡ with_member (shown_in kinds empty)

@@ -1,11 +1,7 @@
 -- What the writer of text puts grows by the text of each item.
-use Rattle.ion_text_out.proofs.Below.{◌≡◌, ℕ, suc, Bool, List, [], ◌∷◌, length, refl, sym, ap, ◌∙◌, map, false, reverse, length-map, length-reverse, Kind, PlacedItem, SymbolAt, map_head, Continues, HasPlace, HeadInRange, user_symbol_at, user_items}
+use Rattle.ion_text_out.proofs.Below.{◌≡◌, ℕ, suc, Bool, List, [], ◌∷◌, length, refl, sym, ap, ◌∙◌, map, false, reverse, length-map, length-reverse, Kind, PlacedItem, SymbolAt, map_head, Continues, HasPlace, HeadInRange, user_symbol_at, user_items, LaidOut, MayCome, Open, open_after, open_after_all, with_member, shown_in, HasRoom, Shows}
 use Rattle.ion_value.specs.Value as v
 use Rattle.ion_value.specs.Standing as standing
-use Rattle.ion_text_out.specs.declared.writer.LaidOut.{LaidOut}
-use Rattle.ion_text_out.specs.Steps.{MayCome}
-use Rattle.ion_text_out.specs.Text.{Open, open_after, open_after_all, with_member}
-use Rattle.ion_text_out.specs.Writing.{shown_in, HasRoom, Shows}
 
 -- how many containers are open
 abbrev kinds_in : Open → List Kind

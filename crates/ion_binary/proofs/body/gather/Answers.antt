@@ -1,5 +1,4 @@
-use Rattle.ion_binary.proofs.Below.{rules, sym, subst, ap, ◌∙◌, ◌≡◌, ◌+◌, ◌*◌, ◌-◌, ◌≤◌, ℕ, List, length, take, arith, common_steps, elements, length-take-le, left, lent, lent-take, passed_over, GrowsWithin, extends-moves, moves-then, grows-then, passed-then, Passed, Passed-then, Passed-lent, take_on}
-use Rattle.std.proofs.lemmas.List.{length-append}
+use Rattle.ion_binary.proofs.Below.{rules, sym, subst, ap, ◌∙◌, ◌≡◌, ◌+◌, ◌*◌, ◌-◌, ◌≤◌, ℕ, List, length, take, arith, common_steps, elements, length-take-le, left, lent, lent-take, passed_over, GrowsWithin, extends-moves, moves-then, grows-then, passed-then, Passed, Passed-then, Passed-lent, take_on, length-append}
 use Rattle.ion_binary.proofs.body.gather.Goals as goal
 
 pub loop-source-preserved : goal.loop-source-preserved

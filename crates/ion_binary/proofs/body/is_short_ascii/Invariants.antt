@@ -1,4 +1,4 @@
-use Rattle.std.proofs.Common.{ℕ, ◌<◌, slice_index}
+use Rattle.ion_binary.proofs.Below.{ℕ, ◌<◌, slice_index}
 use Rattle.ion_binary.proofs.body.is_short_ascii.Given as goal
 
 abbrev pub invariant-octets : goal.invariant-octets

@@ -1,5 +1,4 @@
-use Rattle.ion_binary.proofs.Below.{arith, common_steps}
-use Rattle.ion_binary.specs.Parts.{body_here}
+use Rattle.ion_binary.proofs.Below.{arith, common_steps, body_here}
 use Rattle.ion_binary.proofs.body.next_body.Goals as goal
 
 pub returns-then-count-buffer-clause-reads : goal.returns-then-count-buffer-clause-reads

@@ -1,5 +1,4 @@
-use Rattle.ion_binary.proofs.Below.{◌≡◌, Ok, refl, ap, sym, ◌∙◌, ℕ, List, take, arith, common_steps, lent-take, scalar_of_body, cursor, lent-there, IsPassed-cursor}
-use Rattle.ion_binary.specs.Bodies.{as_scalar}
+use Rattle.ion_binary.proofs.Below.{◌≡◌, Ok, refl, ap, sym, ◌∙◌, ℕ, List, take, arith, common_steps, lent-take, scalar_of_body, cursor, lent-there, IsPassed-cursor, as_scalar}
 use Rattle.ion_binary.proofs.BodyParts.{body_here-refused, body_here-read}
 use Rattle.ion_binary.proofs.body.number_in_window.Goals as goal
 

@@ -1,5 +1,4 @@
-use Rattle.ion_binary.proofs.Below.{◌∙◌, length, sym, arith, common_steps, put_cut, put_then}
-use Rattle.ion_binary.specs.ItemOctets.{declaration_front, strings_octets}
+use Rattle.ion_binary.proofs.Below.{◌∙◌, length, sym, arith, common_steps, put_cut, put_then, declaration_front, strings_octets}
 use Rattle.ion_binary.proofs.DeclarationOctets.{declaration-none, declaration-some}
 use Rattle.ion_binary.proofs.declaration.put_declaration.Goals as goal
 

@@ -1,5 +1,4 @@
-use Rattle.ion_binary.proofs.Below.{◌<◌, ◌+◌, length, drop, arith, onward_as, onward_then, onward_cut, onward_end}
-use Rattle.ion_binary.specs.ItemOctets.{strings_octets}
+use Rattle.ion_binary.proofs.Below.{◌<◌, ◌+◌, length, drop, arith, onward_as, onward_then, onward_cut, onward_end, strings_octets}
 use Rattle.ion_binary.proofs.DeclarationOctets.{got-lt, few-texts, strings-next, strings-past}
 use Rattle.ion_binary.proofs.declaration.put_strings.Goals as goal
 

@@ -1,5 +1,4 @@
-use Rattle.ion_binary.proofs.Below.{◌-◌, ◌≤◌, length, drop, Onward}
-use Rattle.ion_binary.specs.ItemOctets.{strings_octets}
+use Rattle.ion_binary.proofs.Below.{◌-◌, ◌≤◌, length, drop, Onward, strings_octets}
 use Rattle.ion_binary.proofs.declaration.put_strings.Given as goal
 
 abbrev pub invariant-loop-text : goal.invariant-loop-text

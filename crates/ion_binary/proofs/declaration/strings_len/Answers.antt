@@ -1,6 +1,4 @@
-use Rattle.std.proofs.Common.{◌≡◌, ◌<◌, ◌+◌, ◌∙◌, length, drop, ap, arith, length-append}
-use Rattle.ion_binary.specs.Canonical.{headed}
-use Rattle.ion_binary.specs.ItemOctets.{strings_octets}
+use Rattle.ion_binary.proofs.Below.{◌≡◌, ◌<◌, ◌+◌, ◌∙◌, length, drop, ap, arith, length-append, headed, strings_octets}
 use Rattle.ion_binary.proofs.DeclarationOctets.{got-lt, few-texts, cost-next, strings-next, strings-past}
 use Rattle.ion_binary.proofs.declaration.strings_len.Goals as goal
 

@@ -1,5 +1,4 @@
-use Rattle.ion_binary.proofs.Below.{◌≡◌, ◌+◌, ◌-◌, ◌≤◌, length, drop, texts_cost}
-use Rattle.ion_binary.specs.ItemOctets.{strings_octets}
+use Rattle.ion_binary.proofs.Below.{◌≡◌, ◌+◌, ◌-◌, ◌≤◌, length, drop, texts_cost, strings_octets}
 use Rattle.ion_binary.proofs.declaration.strings_len.Given as goal
 
 abbrev pub invariant-loop-text : goal.invariant-loop-text

@@ -1,5 +1,4 @@
-use Rattle.ion_binary.proofs.Below.{◌≡◌, ◌+◌, ◌-◌, ◌*◌, ◌/◌, ◌%◌, ◌^◌, ◌<◌, ◌∷◌, [], ◌++◌, if◌then◌else◌, List, ℕ, length, take, refl, ap, ◌∙◌, arith, bytes_high_first, leading_zeros, w64, length-take-le, coefficient_octets, length-bytes_high_first}
-use Rattle.ion_binary.specs.Canonical.{headed}
+use Rattle.ion_binary.proofs.Below.{◌≡◌, ◌+◌, ◌-◌, ◌*◌, ◌/◌, ◌%◌, ◌^◌, ◌<◌, ◌∷◌, [], ◌++◌, if◌then◌else◌, List, ℕ, length, take, refl, ap, ◌∙◌, arith, bytes_high_first, leading_zeros, w64, length-take-le, coefficient_octets, length-bytes_high_first, headed}
 use Rattle.ion_binary.proofs.FewOctets.{few-headed}
 use Rattle.ion_binary.proofs.ShortDecimals.{one-zero, signed-block, sum-fits}
 use Rattle.ion_binary.proofs.few.few_coefficient.Goals as goal

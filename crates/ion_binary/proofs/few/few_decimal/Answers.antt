@@ -1,5 +1,4 @@
-use Rattle.ion_binary.proofs.Below.{rules, ◌≡◌, ◌<◌, ◌∷◌, [], ℕ, ap, ◌∙◌, exponent_octets}
-use Rattle.ion_binary.specs.Canonical.{headed}
+use Rattle.ion_binary.proofs.Below.{rules, ◌≡◌, ◌<◌, ◌∷◌, [], ℕ, ap, ◌∙◌, exponent_octets, headed}
 use Rattle.ion_binary.proofs.ShortDecimals.{some-decimal}
 use Rattle.ion_binary.proofs.few.few_decimal.Goals as goal
 

@@ -1,4 +1,4 @@
-use Rattle.std.proofs.Common.{◌+◌, ◌*◌, ◌≤◌, ◌∷◌, List, ℕ, ap, ◌∙◌, arith}
+use Rattle.ion_binary.proofs.Below.{◌+◌, ◌*◌, ◌≤◌, ◌∷◌, List, ℕ, ap, ◌∙◌, arith}
 use Rattle.ion_binary.proofs.FewOctets.{header-two}
 use Rattle.ion_binary.proofs.few.few_header.Goals as goal
 

@@ -1,5 +1,4 @@
-use Rattle.ion_binary.proofs.Below.{◌≡◌, ◌+◌, ◌-◌, ◌*◌, ◌/◌, ◌∷◌, ◌++◌, List, ℕ, length, take, refl, ap, sym, ◌∙◌, arith, bytes_high_first, leading_zeros, w64, length-take-le, uint_octets, length-bytes_high_first}
-use Rattle.ion_binary.specs.Canonical.{headed}
+use Rattle.ion_binary.proofs.Below.{◌≡◌, ◌+◌, ◌-◌, ◌*◌, ◌/◌, ◌∷◌, ◌++◌, List, ℕ, length, take, refl, ap, sym, ◌∙◌, arith, bytes_high_first, leading_zeros, w64, length-take-le, uint_octets, length-bytes_high_first, headed}
 use Rattle.ion_binary.proofs.FewOctets.{few-headed}
 use Rattle.ion_binary.proofs.ShortInts.{shifted-uint}
 use Rattle.ion_binary.proofs.few.few_number.Goals as goal

@@ -1,4 +1,4 @@
-use Rattle.std.proofs.Common.{◌≢◌, ◌+◌, ◌/◌, ◌%◌, ◌<◌, ◌≤◌, ◌∷◌, ◌++◌, List, ℕ, ap, ◌∙◌, arith}
+use Rattle.ion_binary.proofs.Below.{◌≢◌, ◌+◌, ◌/◌, ◌%◌, ◌<◌, ◌≤◌, ◌∷◌, ◌++◌, List, ℕ, ap, ◌∙◌, arith}
 use Rattle.ion_binary.proofs.FewOctets.{named-one, named-two}
 use Rattle.ion_binary.proofs.few.noted_front.Goals as goal
 

@@ -1,5 +1,4 @@
-use Rattle.ion_binary.proofs.Below.{◌≡◌, ◌∙◌, ap, refl, sym, symbol_at, symbol_of, Known, Unknown, user_symbol, user_symbol_at}
-use Rattle.ion_binary.specs.Canonical.{id_in}
+use Rattle.ion_binary.proofs.Below.{◌≡◌, ◌∙◌, ap, refl, sym, symbol_at, symbol_of, Known, Unknown, user_symbol, user_symbol_at, id_in}
 use Rattle.ion_binary.proofs.Numbered.{id-known, id-unknown, numbers-known, numbers-over, numbers-unknown}
 use Rattle.ion_binary.proofs.front.id_of.Goals as goal
 

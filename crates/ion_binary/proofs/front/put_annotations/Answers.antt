@@ -1,6 +1,4 @@
-use Rattle.ion_binary.proofs.Below.{◌≡◌, ◌∙◌, ◌<◌, ap, sym, arith, refl, length, None, Some, common_steps, slice_get, annotations_of, raw_field, symbol_at}
-use Rattle.ion_binary.specs.Canonical.{id_in, id_octets}
-use Rattle.ion_binary.specs.Numbering.{users}
+use Rattle.ion_binary.proofs.Below.{◌≡◌, ◌∙◌, ◌<◌, ap, sym, arith, refl, length, None, Some, common_steps, slice_get, annotations_of, raw_field, symbol_at, id_in, id_octets, users}
 use Rattle.ion_binary.proofs.Contents.{adds-then}
 use Rattle.ion_binary.proofs.Numbered.{got-within, numbers-as, numbers-failed, numbers-next, puts-as, puts-next, take-past}
 use Rattle.ion_binary.proofs.front.put_annotations.Goals as goal

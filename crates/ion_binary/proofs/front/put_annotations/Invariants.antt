@@ -1,7 +1,4 @@
-use Rattle.ion_binary.proofs.Below.{◌-◌, ◌≤◌, length, take, Bool, Ok, annotations_of}
-use Rattle.ion_binary.specs.Canonical.{id_in, id_octets}
-use Rattle.ion_binary.specs.Late.{Adds}
-use Rattle.ion_binary.specs.Numbering.{Numbers, PutsWithin, numbering, users}
+use Rattle.ion_binary.proofs.Below.{◌-◌, ◌≤◌, length, take, Bool, Ok, annotations_of, id_in, id_octets, Adds, Numbers, PutsWithin, numbering, users}
 use Rattle.ion_binary.proofs.front.put_annotations.Given as goal
 
 -- the annotations so far

@@ -1,6 +1,4 @@
-use Rattle.ion_binary.proofs.Below.{◌++◌, ◌∙◌, ap, refl, append_assoc, arith, common_steps, annotations_of, item_of, raw_field, raw_head, field_symbols}
-use Rattle.ion_binary.specs.Canonical.{with_symbols}
-use Rattle.ion_binary.specs.Writing.{head_symbols}
+use Rattle.ion_binary.proofs.Below.{◌++◌, ◌∙◌, ap, refl, append_assoc, arith, common_steps, annotations_of, item_of, raw_field, raw_head, field_symbols, with_symbols, head_symbols}
 use Rattle.ion_binary.proofs.Contents.{adds-then}
 use Rattle.ion_binary.proofs.Numbered.{can-then, front-is, item-symbols, numbers-as, numbers-beside, numbers-cut, numbers-err, numbers-ok, numbers-then, users-item}
 use Rattle.ion_binary.proofs.front.put_front.Goals as goal

@@ -1,5 +1,4 @@
-use Rattle.std.proofs.Common.{◌≡◌, ℕ, ◌+◌, ◌*◌, Bool, false, if◌then◌else◌, nat_lt, List, [], ◌∷◌, ◌++◌, ap, sym, ◌∙◌, le-ltb}
-use Rattle.ion_value.specs.Number.{var_uint_octets}
+use Rattle.ion_binary.proofs.Below.{◌≡◌, ℕ, ◌+◌, ◌*◌, Bool, false, if◌then◌else◌, nat_lt, List, [], ◌∷◌, ◌++◌, ap, sym, ◌∙◌, le-ltb, var_uint_octets}
 use Rattle.ion_binary.proofs.ShortestHeaders.{var-one}
 use Rattle.ion_binary.proofs.header.header.Goals as goal
 

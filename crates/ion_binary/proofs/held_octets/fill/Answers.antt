@@ -1,7 +1,4 @@
-use Rattle.std.proofs.Common.{◌≡◌, ◌+◌, ◌-◌, ◌<◌, ◌≤◌, ◌∷◌, List, ℕ, drop, get_or, length, sym, ap, subst, ◌∙◌, arith}
-use Rattle.ion_binary.specs.declared.held_octets.LateHeader.{LateHeader}
-use Rattle.ion_binary.specs.Held.{put_at}
-use Rattle.ion_binary.specs.Late.{AreLate, late_octets, missing_of, spread}
+use Rattle.ion_binary.proofs.Below.{◌≡◌, ◌+◌, ◌-◌, ◌<◌, ◌≤◌, ◌∷◌, List, ℕ, drop, get_or, length, sym, ap, subst, ◌∙◌, arith, LateHeader, put_at, AreLate, late_octets, missing_of, spread}
 use Rattle.ion_binary.proofs.LateHeaders.{around_gap, late-at, moved-length, moved-put}
 use Rattle.ion_binary.proofs.held_octets.fill.Goals as goal
 

@@ -1,5 +1,4 @@
-use Rattle.std.proofs.Common.{◌≡◌, ◌+◌, ◌≤◌, drop, length, take}
-use Rattle.ion_binary.specs.Late.{AreLate, missing_of, spread}
+use Rattle.ion_binary.proofs.Below.{◌≡◌, ◌+◌, ◌≤◌, drop, length, take, AreLate, missing_of, spread}
 use Rattle.ion_binary.proofs.LateHeaders.{around_gap}
 use Rattle.ion_binary.proofs.held_octets.fill.Given as goal
 

@@ -1,6 +1,4 @@
-use Rattle.std.proofs.Common.{◌≡◌, suc, ◌+◌, ◌-◌, ◌<◌, ◌∷◌, List, ℕ, drop, get_or, length, sym, ap, subst, ◌∙◌, arith}
-use Rattle.ion_binary.specs.declared.held_octets.LateHeader.{LateHeader}
-use Rattle.ion_binary.specs.Late.{AreLate, FitsAt, late_octets, missing_of}
+use Rattle.ion_binary.proofs.Below.{◌≡◌, suc, ◌+◌, ◌-◌, ◌<◌, ◌∷◌, List, ℕ, drop, get_or, length, sym, ap, subst, ◌∙◌, arith, LateHeader, AreLate, FitsAt, late_octets, missing_of}
 use Rattle.ion_binary.proofs.LateHeaders.{fits-after, late-at, late-code, late-drop}
 use Rattle.ion_binary.proofs.held_octets.find.Goals as goal
 

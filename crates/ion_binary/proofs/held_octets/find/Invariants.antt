@@ -1,5 +1,4 @@
-use Rattle.std.proofs.Common.{◌≡◌, ◌+◌, ◌≤◌, drop, length}
-use Rattle.ion_binary.specs.Late.{AreLate, missing_of}
+use Rattle.ion_binary.proofs.Below.{◌≡◌, ◌+◌, ◌≤◌, drop, length, AreLate, missing_of}
 use Rattle.ion_binary.proofs.held_octets.find.Given as goal
 
 abbrev pub invariant-loop-after : goal.invariant-loop-after

@@ -1,6 +1,4 @@
-use Rattle.ion_binary.proofs.Below.{◌≡◌, suc, ◌-◌, ◌<◌, ◌≤◌, ◌++◌, List, ℕ, drop, get_or, length, take, ap, subst, ◌∙◌, arith, onward_as, onward_cut, onward_then, IsPut}
-use Rattle.ion_binary.specs.declared.held_octets.LateHeader.{LateHeader}
-use Rattle.ion_binary.specs.Late.{AreLate, late_octets, spread}
+use Rattle.ion_binary.proofs.Below.{◌≡◌, suc, ◌-◌, ◌<◌, ◌≤◌, ◌++◌, List, ℕ, drop, get_or, length, take, ap, subst, ◌∙◌, arith, onward_as, onward_cut, onward_then, IsPut, LateHeader, AreLate, late_octets, spread}
 use Rattle.ion_binary.proofs.LateHeaders.{late-below, late-code, late-order, next-piece, part-of}
 use Rattle.ion_binary.proofs.held_octets.put_pieces.Goals as goal
 

@@ -1,6 +1,4 @@
-use Rattle.ion_binary.proofs.Below.{ℕ, ◌<◌, ◌≤◌, drop, get_or, length, take, Onward}
-use Rattle.ion_binary.specs.declared.held_octets.LateHeader.{LateHeader}
-use Rattle.ion_binary.specs.Late.{spread}
+use Rattle.ion_binary.proofs.Below.{ℕ, ◌<◌, ◌≤◌, drop, get_or, length, take, Onward, LateHeader, spread}
 use Rattle.ion_binary.proofs.held_octets.put_pieces.Given as goal
 
 abbrev pub invariant-loop-left : goal.invariant-loop-left

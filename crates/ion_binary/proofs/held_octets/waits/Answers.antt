@@ -1,4 +1,4 @@
-use Rattle.std.proofs.Common.{arith}
+use Rattle.ion_binary.proofs.Below.{arith}
 use Rattle.ion_binary.proofs.held_octets.waits.Goals as goal
 
 pub returns-in-Some-clause-fits : goal.returns-in-Some-clause-fits

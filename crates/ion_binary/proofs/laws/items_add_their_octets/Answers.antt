@@ -1,4 +1,4 @@
-use Rattle.ion_binary.specs.ItemPuts.{binary_grows}
+use Rattle.ion_binary.proofs.Below.{binary_grows}
 use Rattle.ion_binary.proofs.laws.items_add_their_octets.Goals as goal
 
 pub returns : goal.returns

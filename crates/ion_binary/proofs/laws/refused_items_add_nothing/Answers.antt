@@ -1,4 +1,4 @@
-use Rattle.ion_binary.specs.ItemPuts.{binary_silent}
+use Rattle.ion_binary.proofs.Below.{binary_silent}
 use Rattle.ion_binary.proofs.laws.refused_items_add_nothing.Goals as goal
 
 pub returns : goal.returns

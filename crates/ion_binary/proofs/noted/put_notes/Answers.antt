@@ -1,5 +1,4 @@
-use Rattle.ion_binary.proofs.Below.{rules, ◌≡◌, ◌++◌, List, ℕ, length, ap, ◌∙◌, arith, common_steps}
-use Rattle.ion_binary.specs.Opening.{wrapper_octets}
+use Rattle.ion_binary.proofs.Below.{rules, ◌≡◌, ◌++◌, List, ℕ, length, ap, ◌∙◌, arith, common_steps, wrapper_octets}
 use Rattle.ion_binary.proofs.NotedOctets.{notes-front}
 use Rattle.ion_binary.proofs.noted.put_notes.Goals as goal
 

@@ -1,5 +1,4 @@
-use Rattle.std.proofs.Common.{◌≡◌, [], List, ℕ, ap, sym, ◌∙◌}
-use Rattle.ion_binary.specs.Late.{appended}
+use Rattle.ion_binary.proofs.Below.{◌≡◌, [], List, ℕ, ap, sym, ◌∙◌, appended}
 use Rattle.ion_binary.proofs.Contents.{appended-none, empty-list}
 use Rattle.ion_binary.proofs.open_value.extend_some.Goals as goal
 

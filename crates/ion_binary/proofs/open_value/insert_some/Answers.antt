@@ -1,5 +1,4 @@
-use Rattle.std.proofs.Common.{◌≡◌, [], List, ℕ, ap, sym, ◌∙◌, arith, rules, take-append-drop}
-use Rattle.ion_binary.specs.Held.{put_at}
+use Rattle.ion_binary.proofs.Below.{◌≡◌, [], List, ℕ, ap, sym, ◌∙◌, arith, rules, take-append-drop, put_at}
 use Rattle.ion_binary.proofs.Contents.{empty-list, same-moved}
 use Rattle.ion_binary.proofs.open_value.insert_some.Goals as goal
 

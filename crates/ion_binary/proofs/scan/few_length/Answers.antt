@@ -1,4 +1,4 @@
-use Rattle.std.proofs.Common.{arith}
+use Rattle.ion_binary.proofs.Below.{arith}
 use Rattle.ion_binary.proofs.ShownParts.{if_some, length_code_shown, length_shown}
 use Rattle.ion_binary.proofs.scan.few_length.Goals as goal
 

@@ -1,6 +1,4 @@
-use Rattle.std.proofs.Common.{◌+◌, ◌∙◌, get_or, sym, arith}
-use Rattle.ion_binary.specs.Scanned.{as_around, region_in}
-use Rattle.ion_binary.specs.Shapes.{as_shape}
+use Rattle.ion_binary.proofs.Below.{◌+◌, ◌∙◌, get_or, sym, arith, as_around, region_in, as_shape}
 use Rattle.ion_binary.proofs.ScannedParts.{ends-reaches, length_code-small}
 use Rattle.ion_binary.proofs.ShownParts.{part_shown}
 use Rattle.ion_binary.proofs.TypedValueCode.{shape_read}

@@ -1,4 +1,4 @@
-use Rattle.std.proofs.Common.{◌+◌, arith}
+use Rattle.ion_binary.proofs.Below.{◌+◌, arith}
 use Rattle.ion_binary.proofs.ShownParts.{shows_one, shows_two}
 use Rattle.ion_binary.proofs.scan.few_var.Goals as goal
 

@@ -1,5 +1,4 @@
-use Rattle.ion_binary.proofs.Below.{◌≡◌, false, nat_eq, Ok, ap, arith, ne_eqb}
-use Rattle.ion_binary.specs.Descriptor.{length_at}
+use Rattle.ion_binary.proofs.Below.{◌≡◌, false, nat_eq, Ok, ap, arith, ne_eqb, length_at}
 use Rattle.ion_binary.proofs.ScannedParts.{skip-none}
 use Rattle.ion_binary.proofs.scan.scan_length.Goals as goal
 

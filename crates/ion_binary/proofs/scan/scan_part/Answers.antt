@@ -1,6 +1,4 @@
-use Rattle.std.proofs.Common.{arith, refl, sym, ◌+◌, ◌∙◌, [], get_or}
-use Rattle.ion_binary.specs.Scanned.{as_around, region_in}
-use Rattle.ion_binary.specs.Shapes.{as_shape}
+use Rattle.ion_binary.proofs.Below.{arith, refl, sym, ◌+◌, ◌∙◌, [], get_or, as_around, region_in, as_shape}
 use Rattle.ion_binary.proofs.ScannedParts.{part-found, part-no_length, part-none, part-over, part-refused, part-unwrappable, length-sliced, length_code-small, an_octet, no_octet}
 use Rattle.ion_binary.proofs.TypedValueCode.{shape_read}
 use Rattle.ion_binary.proofs.scan.scan_part.Goals as goal

@@ -1,6 +1,4 @@
-use Rattle.ion_binary.proofs.Below.{arith, ap, ◌∙◌, ◌+◌, ◌-◌, ◌*◌, [], get_or, Ok, Overrun, Truncated, skip, seven-fits, append-lt}
-use Rattle.ion_binary.specs.Parts.{var_from}
-use Rattle.ion_binary.specs.Scanned.{window}
+use Rattle.ion_binary.proofs.Below.{arith, ap, ◌∙◌, ◌+◌, ◌-◌, ◌*◌, [], get_or, Ok, Overrun, Truncated, skip, seven-fits, append-lt, var_from, window}
 use Rattle.ion_binary.proofs.ScannedParts.{ends-reaches, octet_lacks, octet_over, octet_shown, skip-none}
 use Rattle.ion_binary.proofs.VarLoop.{var_uint_at-prefix, var_from-none, var_from-refused, var_from-ends, var_from-goes_on}
 use Rattle.ion_binary.proofs.scan.scan_var.Goals as goal

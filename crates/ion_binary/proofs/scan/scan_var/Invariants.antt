@@ -1,7 +1,4 @@
-use Rattle.ion_binary.proofs.Below.{◌≡◌, ◌-◌, ◌^◌, ◌<◌, ◌≤◌, ℕ, List, length, skip}
-use Rattle.ion_binary.specs.Descriptor.{Region, var_uint_at}
-use Rattle.ion_binary.specs.Parts.{var_from}
-use Rattle.ion_binary.specs.Scanned.{EndsAt, window}
+use Rattle.ion_binary.proofs.Below.{◌≡◌, ◌-◌, ◌^◌, ◌<◌, ◌≤◌, ℕ, List, length, skip, Region, var_uint_at, var_from, EndsAt, window}
 use Rattle.ion_binary.proofs.scan.scan_var.Given as goal
 
 abbrev pub invariant-loop-index : goal.invariant-loop-index

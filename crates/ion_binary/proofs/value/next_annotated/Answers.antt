@@ -1,6 +1,4 @@
-use Rattle.ion_binary.proofs.Below.{rules, ap, arith, common_steps, ◌>>=◌, cursor}
-use Rattle.ion_binary.specs.Reading.{inner_at}
-use Rattle.ion_binary.specs.Wrappers.{as_annotations}
+use Rattle.ion_binary.proofs.Below.{rules, ap, arith, common_steps, ◌>>=◌, cursor, inner_at, as_annotations}
 use Rattle.ion_binary.proofs.ValueParts.{step-refused_at, step-same}
 use Rattle.ion_binary.proofs.value.next_annotated.Goals as goal
 

@@ -1,7 +1,4 @@
-use Rattle.ion_binary.proofs.Below.{moves-then, ap, ◌∙◌, sym, subst, Some, Ok, Err, true, arith, common_steps, ◌>>=◌, part, cursor, Answers}
-use Rattle.ion_binary.specs.Reading.{step_for}
-use Rattle.ion_binary.specs.Finds.{as_typed_value}
-use Rattle.ion_binary.specs.Scanned.{itself_found, part_at, rest_at}
+use Rattle.ion_binary.proofs.Below.{moves-then, ap, ◌∙◌, sym, subst, Some, Ok, Err, true, arith, common_steps, ◌>>=◌, part, cursor, Answers, step_for, as_typed_value, itself_found, part_at, rest_at}
 use Rattle.ion_binary.proofs.ReadParts.{inner_at-found, inner_at-parts}
 use Rattle.ion_binary.proofs.ValueParts.{step-refused, step-same}
 use Rattle.ion_binary.proofs.value.next_inner.Goals as goal

@@ -1,9 +1,5 @@
-use Rattle.ion_binary.proofs.Below.{ap, ◌∙◌, sym, subst, Ok, Err, [], arith, common_steps, ◌>>=◌, part, cursor, Answers, moves-then}
-use Rattle.ion_binary.specs.Reading.{step_for}
+use Rattle.ion_binary.proofs.Below.{ap, ◌∙◌, sym, subst, Ok, Err, [], arith, common_steps, ◌>>=◌, part, cursor, Answers, moves-then, step_for, as_typed_value, IsFound, as_around, is_wrapper, itself_found, noted_at, part_at, region_in, rest_at, wrapper_after, as_annotations, as_wrapped}
 use Rattle.ion_binary.specs.declared.value.TypedValue.TheVariants as typed
-use Rattle.ion_binary.specs.Finds.{as_typed_value}
-use Rattle.ion_binary.specs.Scanned.{IsFound, as_around, is_wrapper, itself_found, noted_at, part_at, region_in, rest_at, wrapper_after}
-use Rattle.ion_binary.specs.Wrappers.{as_annotations, as_wrapped}
 use Rattle.ion_binary.proofs.ReadParts.{found-wraps, value_at-found, value_at-parts, value_at-wrapped}
 use Rattle.ion_binary.proofs.ValueParts.{found-same, step-refused, step-same}
 use Rattle.ion_binary.proofs.value.next_value.Goals as goal

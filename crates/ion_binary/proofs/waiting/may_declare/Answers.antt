@@ -1,4 +1,4 @@
-use Rattle.std.proofs.Common.{None, refl, arith}
+use Rattle.ion_binary.proofs.Below.{None, refl, arith}
 use Rattle.ion_binary.proofs.waiting.may_declare.Goals as goal
 
 pub slice_bounds-matches-count : goal.slice_bounds-matches-count

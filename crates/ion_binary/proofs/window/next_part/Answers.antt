@@ -1,5 +1,4 @@
-use Rattle.ion_binary.proofs.Below.{refl, cursor}
-use Rattle.ion_binary.specs.Scanned.{as_around, itself_found, part_at}
+use Rattle.ion_binary.proofs.Below.{refl, cursor, as_around, itself_found, part_at}
 use Rattle.ion_binary.proofs.ScannedParts.{scanned-cut, scanned-fault, scanned-whole}
 use Rattle.ion_binary.proofs.window.next_part.Goals as goal
 

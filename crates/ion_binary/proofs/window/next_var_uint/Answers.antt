@@ -1,5 +1,4 @@
-use Rattle.ion_binary.proofs.Below.{Some, refl, arith, cursor, lent-CanPass, itself}
-use Rattle.ion_binary.specs.Descriptor.{var_uint_at}
+use Rattle.ion_binary.proofs.Below.{Some, refl, arith, cursor, lent-CanPass, itself, var_uint_at}
 use Rattle.ion_binary.proofs.ScannedParts.{reads-passed, scanned-cut, scanned-fault, scanned-whole}
 use Rattle.ion_binary.proofs.window.next_var_uint.Goals as goal
 

@@ -1,7 +1,4 @@
-use Rattle.ion_binary.proofs.Below.{arith, ap, sym, ◌∙◌, ◌≡◌, ◌+◌, ◌*◌, ◌-◌, ◌≤◌, [], length, None, Some, Err, common_steps, AnnotationLimit, cursor, itself, passed_over, GrowsWithin, moves-then, grows-then, passed-then}
-use Rattle.std.proofs.lemmas.List.{length-append}
-use Rattle.ion_binary.specs.Descriptor.{var_uint_at}
-use Rattle.ion_binary.specs.Wrappers.{as_annotations}
+use Rattle.ion_binary.proofs.Below.{arith, ap, sym, ◌∙◌, ◌≡◌, ◌+◌, ◌*◌, ◌-◌, ◌≤◌, [], length, None, Some, Err, common_steps, AnnotationLimit, cursor, itself, passed_over, GrowsWithin, moves-then, grows-then, passed-then, length-append, var_uint_at, as_annotations}
 use Rattle.ion_binary.proofs.Annotations.{ids_at-ended, ids_at-refused, ids_at-limited, ids_at-one_more, answers_at-refused, charges-grown}
 use Rattle.ion_binary.proofs.wrapper.next_annotations.Goals as goal
 

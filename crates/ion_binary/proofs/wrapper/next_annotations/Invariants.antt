@@ -1,6 +1,4 @@
-use Rattle.ion_binary.proofs.Below.{◌≡◌, ◌-◌, ◌*◌, ◌≤◌, length, passed_over, Charges, GrowsWithin, cursor, Stands, Moves}
-use Rattle.ion_binary.specs.Reading.{ids_at}
-use Rattle.ion_binary.specs.Wrappers.{as_annotations}
+use Rattle.ion_binary.proofs.Below.{◌≡◌, ◌-◌, ◌*◌, ◌≤◌, length, passed_over, Charges, GrowsWithin, cursor, Stands, Moves, ids_at, as_annotations}
 use Rattle.ion_binary.proofs.Annotations.{after}
 use Rattle.ion_binary.proofs.wrapper.next_annotations.Given as goal
 

@@ -1,7 +1,4 @@
-use Rattle.ion_binary.proofs.Below.{◌≡◌, ◌+◌, ℕ, Some, Ok, Err, refl, ap, sym, ◌∙◌, arith, common_steps, ◌>>=◌, cursor, itself, answers-refused}
-use Rattle.ion_binary.specs.Descriptor.{var_uint_at}
-use Rattle.ion_binary.specs.Scanned.{region_in, wrapper_after, wrapper_by}
-use Rattle.ion_binary.specs.Wrappers.{as_wrapped}
+use Rattle.ion_binary.proofs.Below.{◌≡◌, ◌+◌, ℕ, Some, Ok, Err, refl, ap, sym, ◌∙◌, arith, common_steps, ◌>>=◌, cursor, itself, answers-refused, var_uint_at, region_in, wrapper_after, wrapper_by, as_wrapped}
 use Rattle.ion_binary.proofs.WrapperCode.{wrapper_after-ids, wrapper_after-no_ids}
 use Rattle.ion_binary.proofs.wrapper.next_wrapper.Goals as goal
 

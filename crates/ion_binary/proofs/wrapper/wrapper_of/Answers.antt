@@ -1,4 +1,4 @@
-use Rattle.std.proofs.Common.{sym, ◌∙◌, arith}
+use Rattle.ion_binary.proofs.Below.{sym, ◌∙◌, arith}
 use Rattle.ion_binary.proofs.WrapperCode.{passes-not, passes-over, wrapper_by-bad, wrapper_by-is, wrapper_by-over}
 use Rattle.ion_binary.proofs.wrapper.wrapper_of.Goals as goal
 

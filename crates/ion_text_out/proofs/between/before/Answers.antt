@@ -1,4 +1,4 @@
-use Rattle.std.proofs.Common.{◌∙◌, sym}
+use Rattle.ion_text_out.proofs.Below.{◌∙◌, sym}
 use Rattle.ion_text_out.proofs.Gaps.{before_none, before_some}
 use Rattle.ion_text_out.proofs.between.before.Goals as goal
 

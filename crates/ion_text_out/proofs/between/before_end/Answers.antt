@@ -1,4 +1,4 @@
-use Rattle.std.proofs.Common.{◌∙◌, arith}
+use Rattle.ion_text_out.proofs.Below.{◌∙◌, arith}
 use Rattle.ion_text_out.proofs.Gaps.{end_none, end_some}
 use Rattle.ion_text_out.proofs.between.before_end.Goals as goal
 

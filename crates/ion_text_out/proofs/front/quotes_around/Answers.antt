@@ -1,4 +1,4 @@
-use Rattle.std.proofs.Common.{sym, ◌∙◌}
+use Rattle.ion_text_out.proofs.Below.{sym, ◌∙◌}
 use Rattle.ion_text_out.proofs.Plain.{between_text}
 use Rattle.ion_text_out.proofs.front.quotes_around.Goals as goal
 

@@ -1,4 +1,4 @@
-use Rattle.std.proofs.Common.{◌∙◌, append-nil, sym}
+use Rattle.ion_text_out.proofs.Below.{◌∙◌, append-nil, sym}
 use Rattle.ion_text_out.proofs.Plain.{between_text, simple_text}
 use Rattle.ion_text_out.proofs.front.quotes_of.Goals as goal
 

@@ -1,5 +1,4 @@
-use Rattle.ion_text_out.proofs.Below.{◌≡◌, ◌-◌, ◌≤◌, length, take, None, Ok, annotations_of, HasPut}
-use Rattle.ion_text_out.specs.Writing.{annotations_text}
+use Rattle.ion_text_out.proofs.Below.{◌≡◌, ◌-◌, ◌≤◌, length, take, None, Ok, annotations_of, HasPut, annotations_text}
 use Rattle.ion_text_out.proofs.item.put_annotations.Given as goal
 
 abbrev pub invariant-annotations : goal.invariant-annotations

@@ -1,5 +1,4 @@
-use Rattle.ion_text_out.proofs.Below.{sym, ◌∙◌, arith, common_steps, item_of, raw_head}
-use Rattle.ion_text_out.specs.Writing.{shown}
+use Rattle.ion_text_out.proofs.Below.{sym, ◌∙◌, arith, common_steps, item_of, raw_head, shown}
 use Rattle.ion_text_out.proofs.ItemParts.{item_first, item_middle, item_last, on_ok}
 use Rattle.ion_text_out.proofs.item.put_item.Goals as goal
 

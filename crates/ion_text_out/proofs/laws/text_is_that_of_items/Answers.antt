@@ -1,4 +1,4 @@
-use Rattle.ion_text_out.specs.Layout.{canonical}
+use Rattle.ion_text_out.proofs.Below.{canonical}
 use Rattle.ion_text_out.proofs.Paths.{text_of_items}
 use Rattle.ion_text_out.proofs.laws.text_is_that_of_items.Goals as goal
 

@@ -1,5 +1,4 @@
-use Rattle.ion_text_out.proofs.Below.{sym, ◌∙◌, append-nil, put_cut, put_then}
-use Rattle.ion_text_out.specs.Writing.{byte_in}
+use Rattle.ion_text_out.proofs.Below.{sym, ◌∙◌, append-nil, put_cut, put_then, byte_in}
 use Rattle.ion_text_out.proofs.ItemParts.{on_ok}
 use Rattle.ion_text_out.proofs.put.put_gap.Goals as goal
 

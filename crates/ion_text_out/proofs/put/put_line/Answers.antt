@@ -1,4 +1,4 @@
-use Rattle.ion_meter.proofs.Putting.{put_cut, put_then}
+use Rattle.ion_text_out.proofs.Below.{put_cut, put_then}
 use Rattle.ion_text_out.proofs.put.put_line.Goals as goal
 
 pub returns-in-Err : goal.returns-in-Err

@@ -1,4 +1,4 @@
-use Rattle.std.proofs.Common.{sym, arith}
+use Rattle.ion_text_out.proofs.Below.{sym, arith}
 use Rattle.ion_text_out.proofs.ShownRuns.{over_block, over_last, some_hidden}
 use Rattle.ion_text_out.proofs.quote.blocks_stand.Goals as goal
 

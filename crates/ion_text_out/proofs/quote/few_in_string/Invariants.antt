@@ -1,5 +1,4 @@
-use Rattle.ion_text_out.proofs.Below.{◌≡◌, drop, all_are}
-use Rattle.ion_text_out.specs.Escape.{is_shown}
+use Rattle.ion_text_out.proofs.Below.{◌≡◌, drop, all_are, is_shown}
 use Rattle.ion_text_out.proofs.quote.few_in_string.Given as goal
 
 abbrev pub invariant-bytes : goal.invariant-bytes

@@ -1,5 +1,4 @@
-use Rattle.ion_text_out.proofs.Below.{◌≡◌, eqb, leb, ◌||◌, not, ap, ◌∙◌, arith, le-ltb, lt-ltb, common_steps}
-use Rattle.ion_text_out.specs.Escape.{is_shown}
+use Rattle.ion_text_out.proofs.Below.{◌≡◌, eqb, leb, ◌||◌, not, ap, ◌∙◌, arith, le-ltb, lt-ltb, common_steps, is_shown}
 use Rattle.ion_text_out.proofs.ShownRuns.{round, others_of, equal_to, from_round, either, mask_of, hides}
 use Rattle.ion_text_out.proofs.quote.hidden.Goals.{then-top-lt256, else-top-lt256}
 use Rattle.ion_text_out.proofs.quote.hidden.Goals as goal

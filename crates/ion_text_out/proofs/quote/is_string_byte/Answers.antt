@@ -1,6 +1,4 @@
-use Rattle.ion_text_out.proofs.Below.{nat_lt, get_or, refl, sym, arith, agree_below_at}
-use Rattle.ion_text_out.specs.declared.quote.TheConstants.{STRING_BYTES}
-use Rattle.ion_text_out.specs.Escape.{is_shown}
+use Rattle.ion_text_out.proofs.Below.{nat_lt, get_or, refl, sym, arith, agree_below_at, STRING_BYTES, is_shown}
 use Rattle.ion_text_out.proofs.quote.is_string_byte.Goals as goal
 
 pub returns : goal.returns

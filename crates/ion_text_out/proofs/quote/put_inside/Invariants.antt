@@ -1,5 +1,4 @@
-use Rattle.ion_text_out.proofs.Below.{length, flat_map, Onward}
-use Rattle.ion_text_out.specs.Escape.{byte_text}
+use Rattle.ion_text_out.proofs.Below.{length, flat_map, Onward, byte_text}
 use Rattle.ion_text_out.proofs.quote.put_inside.Given as goal
 
 abbrev pub invariant-runs : goal.invariant-runs

@@ -1,5 +1,4 @@
-use Rattle.ion_text_out.proofs.Below.{arith, common_steps, take_rest}
-use Rattle.ion_text_out.specs.Escape.{is_shown}
+use Rattle.ion_text_out.proofs.Below.{arith, common_steps, take_rest, is_shown}
 use Rattle.ion_text_out.proofs.ShownRuns.{over_block, to_hidden}
 use Rattle.ion_text_out.proofs.Quoted.{all_after}
 use Rattle.ion_text_out.proofs.quote.shown_run.Goals as goal

@@ -1,5 +1,4 @@
-use Rattle.ion_text_out.proofs.Below.{◌≡◌, ◌-◌, ◌≤◌, true, length, take, all_are}
-use Rattle.ion_text_out.specs.Escape.{is_shown}
+use Rattle.ion_text_out.proofs.Below.{◌≡◌, ◌-◌, ◌≤◌, true, length, take, all_are, is_shown}
 use Rattle.ion_text_out.proofs.quote.shown_run.Given as goal
 
 abbrev pub invariant-skip : goal.invariant-skip

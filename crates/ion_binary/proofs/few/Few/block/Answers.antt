@@ -1,4 +1,4 @@
-use Rattle.std.proofs.Common.{◌≡◌, List, ℕ, length, take, ap, sym, ◌∙◌}
+use Rattle.ion_binary.proofs.Below.{◌≡◌, List, ℕ, length, take, ap, sym, ◌∙◌}
 use Rattle.ion_binary.proofs.FewOctets.{block-octets, low-length}
 use Rattle.ion_binary.proofs.few.Few.block.Goals as goal
 

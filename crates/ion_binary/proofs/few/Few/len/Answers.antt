@@ -1,4 +1,4 @@
-use Rattle.std.proofs.Common.{List, ℕ, length, ap, sym, ◌∙◌}
+use Rattle.ion_binary.proofs.Below.{List, ℕ, length, ap, sym, ◌∙◌}
 use Rattle.ion_binary.proofs.FewOctets.{low-length}
 use Rattle.ion_binary.proofs.few.Few.len.Goals as goal
 

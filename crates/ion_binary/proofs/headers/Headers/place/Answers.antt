@@ -1,6 +1,4 @@
-use Rattle.ion_binary.proofs.Below.{◌≡◌, ◌<◌, List, length, reverse, ap, ◌∙◌, arith, common_steps, length-reverse}
-use Rattle.ion_binary.specs.declared.headers.HeaderPlace.{HeaderPlace}
-use Rattle.ion_binary.specs.Counting.{place_around}
+use Rattle.ion_binary.proofs.Below.{◌≡◌, ◌<◌, List, length, reverse, ap, ◌∙◌, arith, common_steps, length-reverse, HeaderPlace, place_around}
 use Rattle.ion_binary.proofs.CountedHeaders.{around-reverse}
 use Rattle.ion_binary.proofs.headers.Headers.place.Goals as goal
 

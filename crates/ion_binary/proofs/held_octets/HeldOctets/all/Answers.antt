@@ -1,5 +1,4 @@
-use Rattle.std.proofs.Common.{◌≡◌, ◌≤◌, ap, sym, ◌∙◌, arith}
-use Rattle.ion_binary.specs.Late.{Content, missing_of}
+use Rattle.ion_binary.proofs.Below.{◌≡◌, ◌≤◌, ap, sym, ◌∙◌, arith, Content, missing_of}
 use Rattle.ion_binary.proofs.Contents.{content-none}
 use Rattle.ion_binary.proofs.held_octets.HeldOctets.all.Goals as goal
 

@@ -1,6 +1,4 @@
-use Rattle.ion_binary.proofs.Below.{◌≡◌, ◌+◌, ◌*◌, [], List, ℕ, length, ap, sym, subst, ◌∙◌, arith, Shrinks}
-use Rattle.ion_binary.specs.declared.held_octets.LateHeader.{LateHeader}
-use Rattle.ion_binary.specs.Late.{AreLate, Content}
+use Rattle.ion_binary.proofs.Below.{◌≡◌, ◌+◌, ◌*◌, [], List, ℕ, length, ap, sym, subst, ◌∙◌, arith, Shrinks, LateHeader, AreLate, Content}
 use Rattle.ion_binary.proofs.Contents.{content, no-items}
 use Rattle.ion_binary.proofs.held_octets.HeldOctets.clear_settled.Goals as goal
 

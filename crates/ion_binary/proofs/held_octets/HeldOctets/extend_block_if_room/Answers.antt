@@ -1,4 +1,4 @@
-use Rattle.std.proofs.Common.{◌++◌, take}
+use Rattle.ion_binary.proofs.Below.{◌++◌, take}
 use Rattle.ion_binary.proofs.Contents.{content-more, late-if}
 use Rattle.ion_binary.proofs.held_octets.HeldOctets.extend_block_if_room.Goals as goal
 

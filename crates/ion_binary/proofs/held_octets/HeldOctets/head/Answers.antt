@@ -1,8 +1,4 @@
-use Rattle.ion_binary.proofs.Below.{◌≡◌, ◌+◌, ◌-◌, ◌*◌, ◌<◌, OnOk, List, ℕ, drop, length, max, ap, subst, sym, arith, fault_of}
-use Rattle.ion_binary.specs.declared.held_octets.LateHeader.{LateHeader}
-use Rattle.ion_binary.specs.Canonical.{header}
-use Rattle.ion_binary.specs.Held.{put_at}
-use Rattle.ion_binary.specs.Late.{AreLate, FitsAt, missing_of, spread}
+use Rattle.ion_binary.proofs.Below.{◌≡◌, ◌+◌, ◌-◌, ◌*◌, ◌<◌, OnOk, List, ℕ, drop, length, max, ap, subst, sym, arith, fault_of, LateHeader, header, put_at, AreLate, FitsAt, missing_of, spread}
 use Rattle.ion_binary.proofs.Contents.{content, moved-more}
 use Rattle.ion_binary.proofs.LateHeaders.{fits-few}
 use Rattle.ion_binary.proofs.LateOnes.{Waits, seen, waited-all, waited-few, waited-late, waited-missing, waited-moved, waited-same}

@@ -1,8 +1,4 @@
-use Rattle.ion_binary.proofs.Below.{◌≡◌, ◌+◌, ◌-◌, ◌*◌, ◌≤◌, List, ℕ, length, Ok, ap, subst, ◌∙◌, arith, common_steps, Grows}
-use Rattle.ion_binary.specs.declared.held_octets.LateHeader.{LateHeader}
-use Rattle.ion_binary.specs.Canonical.{header}
-use Rattle.ion_binary.specs.Held.{put_at}
-use Rattle.ion_binary.specs.Late.{AreLate}
+use Rattle.ion_binary.proofs.Below.{◌≡◌, ◌+◌, ◌-◌, ◌*◌, ◌≤◌, List, ℕ, length, Ok, ap, subst, ◌∙◌, arith, common_steps, Grows, LateHeader, header, put_at, AreLate}
 use Rattle.ion_binary.proofs.LateHeaders.{put-length}
 use Rattle.ion_binary.proofs.LateOnes.{inserted-all, inserted-if, seen}
 use Rattle.ion_binary.proofs.held_octets.HeldOctets.head_if_room.Goals as goal

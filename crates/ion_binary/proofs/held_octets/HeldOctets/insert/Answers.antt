@@ -1,6 +1,4 @@
-use Rattle.std.proofs.Common.{◌≤◌, List, length, subst, arith, rules}
-use Rattle.ion_binary.specs.declared.held_octets.LateHeader.{LateHeader}
-use Rattle.ion_binary.specs.Late.{AreLate}
+use Rattle.ion_binary.proofs.Below.{◌≤◌, List, length, subst, arith, rules, LateHeader, AreLate}
 use Rattle.ion_binary.proofs.LateOnes.{inserted-all, inserted-late, inserted-moved, inserted-same, seen}
 use Rattle.ion_binary.proofs.held_octets.HeldOctets.insert.Goals as goal
 

@@ -1,6 +1,4 @@
-use Rattle.ion_binary.proofs.Below.{◌≡◌, ◌-◌, List, ℕ, length, ap, subst, ◌∙◌, arith}
-use Rattle.ion_binary.specs.Canonical.{header}
-use Rattle.ion_binary.specs.Late.{PutsAt}
+use Rattle.ion_binary.proofs.Below.{◌≡◌, ◌-◌, List, ℕ, length, ap, subst, ◌∙◌, arith, header, PutsAt}
 use Rattle.ion_binary.proofs.PlacedHeaders.{header-few}
 use Rattle.ion_binary.proofs.held_octets.HeldOctets.insert_head.Goals as goal
 

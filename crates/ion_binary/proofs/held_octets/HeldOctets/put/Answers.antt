@@ -1,6 +1,4 @@
-use Rattle.ion_binary.proofs.Below.{List, ℕ, length, ap, subst, sym, ◌∙◌, IsPut}
-use Rattle.ion_binary.specs.declared.held_octets.LateHeader.{LateHeader}
-use Rattle.ion_binary.specs.Late.{AreLate, Content, spread}
+use Rattle.ion_binary.proofs.Below.{List, ℕ, length, ap, subst, sym, ◌∙◌, IsPut, LateHeader, AreLate, Content, spread}
 use Rattle.ion_binary.proofs.held_octets.HeldOctets.put.Goals as goal
 
 pub put_pieces-requires-clause-late : goal.put_pieces-requires-clause-late

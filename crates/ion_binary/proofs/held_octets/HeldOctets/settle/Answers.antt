@@ -1,6 +1,4 @@
-use Rattle.ion_binary.proofs.Below.{◌≡◌, ◌+◌, ◌*◌, List, ℕ, Some, length, take, refl, ap, sym, subst, ◌∙◌, arith, Shrinks}
-use Rattle.ion_binary.specs.declared.held_octets.LateHeader.{LateHeader}
-use Rattle.ion_binary.specs.Late.{Content, IsCosted, Moved, spread}
+use Rattle.ion_binary.proofs.Below.{◌≡◌, ◌+◌, ◌*◌, List, ℕ, Some, length, take, refl, ap, sym, subst, ◌∙◌, arith, Shrinks, LateHeader, Content, IsCosted, Moved, spread}
 use Rattle.ion_binary.proofs.Contents.{content, costed-is, refused-moved, settled-moved}
 use Rattle.ion_binary.proofs.LateHeaders.{spread-length}
 use Rattle.ion_binary.proofs.LateOnes.{gap-front, settled-costed}

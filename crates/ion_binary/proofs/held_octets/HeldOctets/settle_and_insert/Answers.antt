@@ -1,5 +1,4 @@
-use Rattle.std.proofs.Common.{◌≡◌, List, ℕ, OnOk, length, ap, subst, arith, rules}
-use Rattle.ion_binary.specs.Held.{put_at}
+use Rattle.ion_binary.proofs.Below.{◌≡◌, List, ℕ, OnOk, length, ap, subst, arith, rules, put_at}
 use Rattle.ion_binary.proofs.Contents.{moved-more}
 use Rattle.ion_binary.proofs.LateOnes.{err-all, settled-then}
 use Rattle.ion_binary.proofs.held_octets.HeldOctets.settle_and_insert.Goals as goal

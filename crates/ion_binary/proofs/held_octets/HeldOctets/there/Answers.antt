@@ -1,5 +1,4 @@
-use Rattle.std.proofs.Common.{◌≡◌, List, ℕ, length, ap, arith}
-use Rattle.ion_binary.specs.Late.{Content, spread}
+use Rattle.ion_binary.proofs.Below.{◌≡◌, List, ℕ, length, ap, arith, Content, spread}
 use Rattle.ion_binary.proofs.Contents.{late-six}
 use Rattle.ion_binary.proofs.LateHeaders.{spread-length}
 use Rattle.ion_binary.proofs.held_octets.HeldOctets.there.Goals as goal

@@ -1,6 +1,4 @@
-use Rattle.ion_binary.proofs.Below.{◌<◌, ℕ, List, ap, subst, ◌∙◌, arith, common_steps}
-use Rattle.ion_binary.specs.declared.headers.HeaderPlace.{HeaderPlace}
-use Rattle.ion_binary.specs.Held.{begun_at, begun_headers, size_of}
+use Rattle.ion_binary.proofs.Below.{◌<◌, ℕ, List, ap, subst, ◌∙◌, arith, common_steps, HeaderPlace, begun_at, begun_headers, size_of}
 use Rattle.ion_binary.proofs.MovedSteps.{open-to-again, stepped-then}
 use Rattle.ion_binary.proofs.OpenSteps.{can-step-again}
 use Rattle.ion_binary.proofs.open_value.OpenValue.begin.Goals as goal

@@ -1,8 +1,4 @@
-use Rattle.ion_binary.proofs.Below.{◌≡◌, ◌≤◌, ◌+◌, ◌-◌, ◌*◌, ◌∷◌, List, ℕ, length, refl, ap, ◌∙◌, arith, common_steps}
-use Rattle.ion_binary.specs.declared.headers.HeaderPlace.{HeaderPlace}
-use Rattle.ion_binary.specs.Grammar.{type_code}
-use Rattle.ion_binary.specs.Held.{header_at}
-use Rattle.ion_binary.specs.Late.{Content}
+use Rattle.ion_binary.proofs.Below.{◌≡◌, ◌≤◌, ◌+◌, ◌-◌, ◌*◌, ◌∷◌, List, ℕ, length, refl, ap, ◌∙◌, arith, common_steps, HeaderPlace, type_code, header_at, Content}
 use Rattle.ion_binary.proofs.OpenSteps.{kind-small, room-begun}
 use Rattle.ion_binary.proofs.PutInRoom.{begun-not, begun-stepped, not-begun}
 use Rattle.ion_binary.proofs.open_value.OpenValue.begin_if_room.Goals as goal

@@ -1,5 +1,4 @@
-use Rattle.std.proofs.Common.{◌≢◌, ap, sym, arith}
-use Rattle.ion_binary.specs.Opening.{name_octets}
+use Rattle.ion_binary.proofs.Below.{◌≢◌, ap, sym, arith, name_octets}
 use Rattle.ion_binary.proofs.NotedOctets.{named-short}
 use Rattle.ion_binary.proofs.PutInRoom.{begins-same}
 use Rattle.ion_binary.proofs.open_value.OpenValue.begin_member.Goals as goal

@@ -1,9 +1,4 @@
-use Rattle.ion_binary.proofs.Below.{◌≡◌, ◌<◌, ◌≤◌, ◌*◌, ◌++◌, ◌∷◌, ℕ, List, length, drop, sym, ap, subst, ◌∙◌, rules, arith, common_steps, AllByRecursion}
-use Rattle.ion_binary.specs.declared.headers.HeaderPlace.{HeaderPlace}
-use Rattle.ion_binary.specs.Counting.{ArePlaced, AreReached, IsCounted, counted_length}
-use Rattle.ion_binary.specs.Grammar.{type_code}
-use Rattle.ion_binary.specs.Held.{begun_at, begun_headers, header_at, wrapper_headers}
-use Rattle.ion_binary.specs.Late.{Content}
+use Rattle.ion_binary.proofs.Below.{◌≡◌, ◌<◌, ◌≤◌, ◌*◌, ◌++◌, ◌∷◌, ℕ, List, length, drop, sym, ap, subst, ◌∙◌, rules, arith, common_steps, AllByRecursion, HeaderPlace, ArePlaced, AreReached, IsCounted, counted_length, type_code, begun_at, begun_headers, header_at, wrapper_headers, Content}
 use Rattle.ion_binary.proofs.OpenSteps.{begun-few, begun-more, begun-placed, begun-reached, counted-fits, size-counted}
 use Rattle.ion_binary.proofs.open_value.OpenValue.begin_spared.Goals as goal
 

@@ -1,7 +1,4 @@
-use Rattle.ion_binary.proofs.Below.{◌≡◌, ◌≢◌, ◌<◌, ◌-◌, ◌++◌, List, ℕ, suc, Option, Some, None, length, refl, sym, ap, subst, ◌∙◌, rules, arith, common_steps, Fault, var_uint_octets, fault_of}
-use Rattle.ion_binary.specs.declared.headers.HeaderPlace.{HeaderPlace}
-use Rattle.ion_binary.specs.Held.{put_at}
-use Rattle.ion_binary.specs.Opening.{Stepped}
+use Rattle.ion_binary.proofs.Below.{◌≡◌, ◌≢◌, ◌<◌, ◌-◌, ◌++◌, List, ℕ, suc, Option, Some, None, length, refl, sym, ap, subst, ◌∙◌, rules, arith, common_steps, Fault, var_uint_octets, fault_of, HeaderPlace, put_at, Stepped}
 use Rattle.ion_binary.proofs.LateHeaders.{put-length}
 use Rattle.ion_binary.proofs.MovedSteps.{fault-of, headed-stepped, put-stepped, refused-stepped}
 use Rattle.ion_binary.proofs.OpenSteps.{begun-length, begun-octets, wrapper-begun}

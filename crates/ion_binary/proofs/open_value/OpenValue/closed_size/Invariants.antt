@@ -1,5 +1,4 @@
-use Rattle.std.proofs.Common.{◌≡◌}
-use Rattle.ion_binary.specs.Counting.{IsCountedTo}
+use Rattle.ion_binary.proofs.Below.{◌≡◌, IsCountedTo}
 use Rattle.ion_binary.proofs.open_value.OpenValue.closed_size.Given as goal
 
 abbrev pub invariant-loop-level : goal.invariant-loop-level

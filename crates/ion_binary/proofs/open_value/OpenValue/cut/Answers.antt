@@ -1,4 +1,4 @@
-use Rattle.std.proofs.Common.{length, sym, arith}
+use Rattle.ion_binary.proofs.Below.{length, sym, arith}
 use Rattle.ion_binary.proofs.OpenSteps.{cut-all}
 use Rattle.ion_binary.proofs.open_value.OpenValue.cut.Goals as goal
 

@@ -1,4 +1,4 @@
-use Rattle.std.proofs.Common.{◌≡◌, ℕ, ◌<◌, ◌≤◌, get_or, length, min}
+use Rattle.ion_binary.proofs.Below.{◌≡◌, ℕ, ◌<◌, ◌≤◌, get_or, length, min}
 use Rattle.ion_binary.proofs.open_value.OpenValue.cut.Given as goal
 
 abbrev pub invariant-loop-count : goal.invariant-loop-count

@@ -1,10 +1,4 @@
-use Rattle.ion_binary.proofs.Below.{◌≡◌, ◌+◌, ◌-◌, ◌∷◌, List, ℕ, drop, length, refl, ap, subst, ◌∙◌, arith, common_steps, none-some, Shrinks}
-use Rattle.ion_binary.specs.declared.headers.HeaderPlace.{HeaderPlace}
-use Rattle.ion_binary.specs.Canonical.{header}
-use Rattle.ion_binary.specs.Counting.{ArePlaced, cut}
-use Rattle.ion_binary.specs.Held.{headed_at}
-use Rattle.ion_binary.specs.Late.{Content}
-use Rattle.ion_binary.specs.Opening.{open_cost, open_most}
+use Rattle.ion_binary.proofs.Below.{◌≡◌, ◌+◌, ◌-◌, ◌∷◌, List, ℕ, drop, length, refl, ap, subst, ◌∙◌, arith, common_steps, none-some, Shrinks, HeaderPlace, header, ArePlaced, cut, headed_at, Content, open_cost, open_most}
 use Rattle.ion_binary.proofs.LateHeaders.{put-length}
 use Rattle.ion_binary.proofs.MovedSteps.{header-fits}
 use Rattle.ion_binary.proofs.OpenSteps.{grow-shrink, innermost-open, popped, popped-cost}

@@ -1,5 +1,4 @@
-use Rattle.ion_binary.proofs.Below.{◌+◌, length, arith, length-append, common_steps}
-use Rattle.ion_binary.specs.Opening.{both_octets}
+use Rattle.ion_binary.proofs.Below.{◌+◌, length, arith, length-append, common_steps, both_octets}
 use Rattle.ion_binary.proofs.PutInRoom.{not-added, room-adds}
 use Rattle.ion_binary.proofs.open_value.OpenValue.extend_if_room.Goals as goal
 

@@ -1,4 +1,4 @@
-use Rattle.std.proofs.Common.{◌++◌, ℕ, List, ap, ◌∙◌}
+use Rattle.ion_binary.proofs.Below.{◌++◌, ℕ, List, ap, ◌∙◌}
 use Rattle.ion_binary.proofs.PutInRoom.{adds-same, not-added}
 use Rattle.ion_binary.proofs.open_value.OpenValue.put_after.Goals as goal
 

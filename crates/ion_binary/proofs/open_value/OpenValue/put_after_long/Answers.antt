@@ -1,5 +1,4 @@
-use Rattle.std.proofs.Common.{◌++◌, ℕ, List, take, ap, ◌∙◌}
-use Rattle.ion_binary.specs.Opening.{noted}
+use Rattle.ion_binary.proofs.Below.{◌++◌, ℕ, List, take, ap, ◌∙◌, noted}
 use Rattle.ion_binary.proofs.PutInRoom.{adds-same}
 use Rattle.ion_binary.proofs.open_value.OpenValue.put_after_long.Goals as goal
 

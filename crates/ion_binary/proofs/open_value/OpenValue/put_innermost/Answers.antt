@@ -1,9 +1,4 @@
-use Rattle.std.proofs.Common.{◌≡◌, ℕ, ◌+◌, ◌*◌, ◌-◌, List, ◌∷◌, drop, length, max, None, Some, refl, ap, sym, subst, ◌∙◌, arith}
-use Rattle.ion_binary.specs.Canonical.{header}
-use Rattle.ion_binary.specs.Counting.{cut}
-use Rattle.ion_binary.specs.declared.headers.HeaderPlace.{HeaderPlace}
-use Rattle.ion_binary.specs.Held.{innermost_in}
-use Rattle.ion_binary.specs.Late.{Content, Moved}
+use Rattle.ion_binary.proofs.Below.{◌≡◌, ℕ, ◌+◌, ◌*◌, ◌-◌, List, ◌∷◌, drop, length, max, None, Some, refl, ap, sym, subst, ◌∙◌, arith, header, cut, HeaderPlace, innermost_in, Content, Moved}
 use Rattle.ion_binary.proofs.MovedSteps.{header-fits, popped-stepped}
 use Rattle.ion_binary.proofs.OpenSteps.{innermost-open}
 use Rattle.ion_binary.proofs.open_value.OpenValue.put_innermost.Goals as goal

@@ -1,5 +1,4 @@
-use Rattle.ion_binary.proofs.Below.{rules, ◌≡◌, ◌≢◌, ◌<◌, ℕ, List, sym, ap, ◌∙◌, arith, var_uint_octets}
-use Rattle.ion_binary.specs.Opening.{both_octets, noted, noted_by}
+use Rattle.ion_binary.proofs.Below.{rules, ◌≡◌, ◌≢◌, ◌<◌, ℕ, List, sym, ap, ◌∙◌, arith, var_uint_octets, both_octets, noted, noted_by}
 use Rattle.ion_binary.proofs.NotedOctets.{named-octets}
 use Rattle.ion_binary.proofs.PutInRoom.{adds-same}
 use Rattle.ion_binary.proofs.open_value.OpenValue.put_octets.Goals as goal

@@ -1,5 +1,4 @@
-use Rattle.std.proofs.Common.{ap, ◌∙◌}
-use Rattle.ion_binary.specs.Opening.{noted}
+use Rattle.ion_binary.proofs.Below.{ap, ◌∙◌, noted}
 use Rattle.ion_binary.proofs.PutInRoom.{adds-same}
 use Rattle.ion_binary.proofs.open_value.OpenValue.put_spelled.Goals as goal
 

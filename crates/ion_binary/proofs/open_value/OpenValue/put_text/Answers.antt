@@ -1,5 +1,4 @@
-use Rattle.ion_binary.proofs.Below.{◌≡◌, ◌+◌, ◌++◌, List, ℕ, length, take, refl, ap, sym, ◌∙◌, arith, length-append, common_steps}
-use Rattle.ion_binary.specs.Opening.{noted}
+use Rattle.ion_binary.proofs.Below.{◌≡◌, ◌+◌, ◌++◌, List, ℕ, length, take, refl, ap, sym, ◌∙◌, arith, length-append, common_steps, noted}
 use Rattle.ion_binary.proofs.PutInRoom.{adds-same, not-added, room-adds}
 use Rattle.ion_binary.proofs.open_value.OpenValue.put_text.Goals as goal
 

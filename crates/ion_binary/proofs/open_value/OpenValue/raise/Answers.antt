@@ -1,7 +1,4 @@
-use Rattle.ion_binary.proofs.Below.{◌<◌, ◌≤◌, ℕ, List, length, get_or, sym, ◌∙◌, arith, common_steps}
-use Rattle.ion_binary.specs.declared.headers.HeaderPlace.{HeaderPlace}
-use Rattle.ion_binary.specs.Counting.{content_around, most_at}
-use Rattle.ion_binary.specs.Places.{thresholds}
+use Rattle.ion_binary.proofs.Below.{◌<◌, ◌≤◌, ℕ, List, length, get_or, sym, ◌∙◌, arith, common_steps, HeaderPlace, content_around, most_at, thresholds}
 use Rattle.ion_binary.proofs.CountedHeaders.{most-same, most-within, raise-reached, raise-settled, strictly-below}
 use Rattle.ion_binary.proofs.open_value.OpenValue.raise.Goals as goal
 

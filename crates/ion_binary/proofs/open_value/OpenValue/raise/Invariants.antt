@@ -1,5 +1,4 @@
-use Rattle.std.proofs.Common.{◌≡◌, ◌-◌, get_or, length}
-use Rattle.ion_binary.specs.Counting.{IsCountedTo, most_at}
+use Rattle.ion_binary.proofs.Below.{◌≡◌, ◌-◌, get_or, length, IsCountedTo, most_at}
 use Rattle.ion_binary.proofs.open_value.OpenValue.raise.Given as goal
 
 abbrev pub invariant-raising : goal.invariant-raising

@@ -1,5 +1,4 @@
-use Rattle.std.proofs.Common.{◌≡◌, ◌+◌, ◌*◌, ◌^◌, ◌≤◌, drop, length}
-use Rattle.ion_binary.specs.Counting.{beyond, sizes_from}
+use Rattle.ion_binary.proofs.Below.{◌≡◌, ◌+◌, ◌*◌, ◌^◌, ◌≤◌, drop, length, beyond, sizes_from}
 use Rattle.ion_binary.proofs.open_value.OpenValue.sizes_from.Given as goal
 
 abbrev pub invariant-loop-count : goal.invariant-loop-count

@@ -1,13 +1,6 @@
-use Rattle.ion_binary.proofs.Below.{◌≡◌, ◌+◌, ◌-◌, ◌*◌, ◌^◌, ◌<◌, ◌≤◌, ◌++◌, ℕ, List, Option, Some, None, length, map, refl, ap, sym, subst, ◌∙◌, rules, append_assoc, arith, length-append, common_steps, Counts, Fault, Limits, fault_of}
-use Rattle.ion_binary.specs.declared.headers.HeaderPlace.{HeaderPlace}
-use Rattle.ion_binary.specs.Counting.{IsCounted, counted_length, place_of_header}
-use Rattle.ion_binary.specs.Held.{put_at, whole_at}
-use Rattle.ion_binary.specs.Late.{Content, Moved, appended}
+use Rattle.ion_binary.proofs.Below.{◌≡◌, ◌+◌, ◌-◌, ◌*◌, ◌^◌, ◌<◌, ◌≤◌, ◌++◌, ℕ, List, Option, Some, None, length, map, refl, ap, sym, subst, ◌∙◌, rules, append_assoc, arith, length-append, common_steps, Counts, Fault, Limits, fault_of, HeaderPlace, IsCounted, counted_length, place_of_header, put_at, whole_at, Content, Moved, appended, CanStep, Stepped, both_octets, wrapper_octets, OpenValue, closed_length}
 use Rattle.ion_binary.proofs.LateHeaders.{put-length}
 use Rattle.ion_binary.proofs.MovedSteps.{fault-of, grows-raises, put-stepped, raised-stepped, refused-stepped}
-use Rattle.ion_binary.specs.Opening.{CanStep, Stepped, both_octets, wrapper_octets}
-use Rattle.ion_binary.specs.declared.open_value.OpenValue.{OpenValue}
-use Rattle.ion_binary.specs.Places.{closed_length}
 use Rattle.ion_binary.proofs.CountedHeaders.{reached-more}
 use Rattle.ion_binary.proofs.OpenSteps.{opened, placed-more, size-counted, whole-length, whole-octets}
 use Rattle.ion_binary.proofs.open_value.OpenValue.whole.Given.{Over}

@@ -1,5 +1,4 @@
-use Rattle.ion_binary.proofs.Below.{sym, arith, common_steps}
-use Rattle.ion_binary.specs.Wrappers.{as_frames}
+use Rattle.ion_binary.proofs.Below.{sym, arith, common_steps, as_frames}
 use Rattle.ion_binary.proofs.Handing.{ends_around}
 use Rattle.ion_binary.proofs.ReaderParts.{as_frames-length}
 use Rattle.ion_binary.proofs.reader.BinReader.found_after.Goals as goal

@@ -1,6 +1,4 @@
-use Rattle.ion_binary.proofs.Below.{◌≡◌, ◌+◌, ap, ◌∙◌, arith, named_item, one_if_closed}
-use Rattle.ion_binary.specs.Reader.{kinds_of}
-use Rattle.ion_binary.specs.Steps.{opened_in}
+use Rattle.ion_binary.proofs.Below.{◌≡◌, ◌+◌, ap, ◌∙◌, arith, named_item, one_if_closed, kinds_of, opened_in}
 use Rattle.ion_binary.proofs.Feeding.{can-hand, hands-again, hands_on-item, hands_on-none, hands_on-nothing, hands_on-then}
 use Rattle.ion_binary.proofs.reader.BinReader.hand_all.Goals as goal
 

@@ -1,7 +1,4 @@
-use Rattle.ion_value.specs.Items.{named_item}
-use Rattle.ion_binary.specs.Lane.{HandsOn, IsAround}
-use Rattle.ion_binary.specs.Steps.{left_to}
-use Rattle.ion_binary.specs.Wrappers.{as_frames}
+use Rattle.ion_binary.proofs.Below.{named_item, HandsOn, IsAround, left_to, as_frames}
 use Rattle.ion_binary.proofs.reader.BinReader.hand_all.Given as goal
 
 abbrev pub invariant-items : goal.invariant-items

@@ -1,13 +1,9 @@
-use Rattle.ion_binary.proofs.Below.{◌≡◌, ◌+◌, ◌<◌, None, [], ◌∷◌, ◌++◌, length, refl, ap, sym, subst, ◌∙◌, arith, common_steps, length_push, true≢false, IsPassed-total, lent-CanPass, IsPassed-moves, PlainItem, named_item, More, Fits}
+use Rattle.ion_binary.proofs.Below.{◌≡◌, ◌+◌, ◌<◌, None, [], ◌∷◌, ◌++◌, length, refl, ap, sym, subst, ◌∙◌, arith, common_steps, length_push, true≢false, IsPassed-total, lent-CanPass, IsPassed-moves, PlainItem, named_item, More, Fits, frame_in, a_container, top_of, kinds_of, to_come, opened_in, as_frames, innermost}
 use Rattle.ion_value.specs.declared.item.Head.TheVariants as code
 use Rattle.ion_value.specs.PlainItems as PlainItems
 use Rattle.ion_value.specs.Value as value
 use Rattle.ion_binary.specs.declared.wrapper.Frame.{Frame}
-use Rattle.ion_binary.specs.Lane.{frame_in}
-use Rattle.ion_binary.specs.Reading.{a_container, placed_item, top_of}
-use Rattle.ion_binary.specs.Reader.{kinds_of, to_come}
-use Rattle.ion_binary.specs.Steps.{opened_in}
-use Rattle.ion_binary.specs.Wrappers.{as_frames, innermost}
+use Rattle.ion_binary.specs.Reading.{placed_item}
 use Rattle.ion_binary.proofs.Handing.{around_pushed, as_frames-push, begin_fits, falls_begin, hands_by, kinds_of-push, path_here, plain_seen, shown-known, step_shown, to_come-gives}
 use Rattle.ion_binary.proofs.HandingKeeps.{goes-opened, handed-undone, keeps_on-begin, popped}
 use Rattle.ion_binary.proofs.ReaderParts.{as_frames-length}

@@ -1,11 +1,6 @@
-use Rattle.ion_binary.proofs.Below.{◌≡◌, ◌<◌, [], None, List, length, refl, ap, sym, subst, ◌∙◌, arith, common_steps, true≢false, cursor, Gives, More, named_item}
+use Rattle.ion_binary.proofs.Below.{◌≡◌, ◌<◌, [], None, List, length, refl, ap, sym, subst, ◌∙◌, arith, common_steps, true≢false, cursor, Gives, More, named_item, frame_in, Frame, IsInnermost, to_come, opened_in, as_frames}
 use Rattle.ion_value.specs.Value as value
-use Rattle.ion_binary.specs.Lane.{frame_in}
-use Rattle.ion_binary.specs.Positions.{Frame}
 use Rattle.ion_binary.specs.Reading.{placed_item}
-use Rattle.ion_binary.specs.Reader.{IsInnermost, to_come}
-use Rattle.ion_binary.specs.Steps.{opened_in}
-use Rattle.ion_binary.specs.Wrappers.{as_frames}
 use Rattle.ion_binary.proofs.Handing.{end_fits, ends-some, hands_by, open_one, path_here, to_come-gives}
 use Rattle.ion_binary.proofs.HandingKeeps.{keeps_on-end}
 use Rattle.ion_binary.proofs.ReaderParts.{inside-ends, kinds_of-length}

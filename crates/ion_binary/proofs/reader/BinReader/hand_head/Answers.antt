@@ -1,5 +1,4 @@
-use Rattle.ion_binary.proofs.Below.{ap, sym, ◌∙◌, arith, common_steps}
-use Rattle.ion_binary.specs.Shapes.{as_shape}
+use Rattle.ion_binary.proofs.Below.{ap, sym, ◌∙◌, arith, common_steps, as_shape}
 use Rattle.ion_binary.proofs.HandingKeeps.{hands-none}
 use Rattle.ion_binary.proofs.reader.BinReader.hand_head.Goals as goal
 

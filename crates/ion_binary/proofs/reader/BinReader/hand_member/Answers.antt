@@ -1,6 +1,4 @@
-use Rattle.ion_binary.proofs.Below.{arith, common_steps, lent}
-use Rattle.ion_binary.specs.Lane.{frame_in}
-use Rattle.ion_binary.specs.Wrappers.{as_frames, innermost}
+use Rattle.ion_binary.proofs.Below.{arith, common_steps, lent, frame_in, as_frames, innermost}
 use Rattle.ion_binary.proofs.Handing.{ends_around, front_bare}
 use Rattle.ion_binary.proofs.HandingKeeps.{hands-none}
 use Rattle.ion_binary.proofs.reader.BinReader.hand_member.Goals as goal

@@ -1,4 +1,4 @@
-use Rattle.ion_value.specs.Items.{named_item}
+use Rattle.ion_binary.proofs.Below.{named_item}
 use Rattle.ion_binary.proofs.Feeding.{hands-again, hands_on-then}
 use Rattle.ion_binary.proofs.reader.BinReader.hand_others.Goals as goal
 

@@ -1,13 +1,7 @@
-use Rattle.ion_binary.proofs.Below.{◌≡◌, ◌+◌, length, refl, ap, sym, subst, ◌∙◌, arith, true≢false, IsPassed-total, lent-CanPass, IsPassed-moves, PlainItem, named_item, More, Fits}
+use Rattle.ion_binary.proofs.Below.{◌≡◌, ◌+◌, length, refl, ap, sym, subst, ◌∙◌, arith, true≢false, IsPassed-total, lent-CanPass, IsPassed-moves, PlainItem, named_item, More, Fits, as_scalar, placed_scalar, frame_in, a_scalar, top_of, to_come, opened_in, as_frames, innermost}
 use Rattle.ion_value.specs.PlainItems as PlainItems
 use Rattle.ion_value.specs.Value as value
-use Rattle.ion_binary.specs.Bodies.{as_scalar}
-use Rattle.ion_binary.specs.Positions.{placed_scalar}
-use Rattle.ion_binary.specs.Lane.{frame_in}
-use Rattle.ion_binary.specs.Reading.{a_scalar, placed_item, top_of}
-use Rattle.ion_binary.specs.Reader.{to_come}
-use Rattle.ion_binary.specs.Steps.{opened_in}
-use Rattle.ion_binary.specs.Wrappers.{as_frames, innermost}
+use Rattle.ion_binary.specs.Reading.{placed_item}
 use Rattle.ion_binary.proofs.Handing.{falls_scalar, hands_by, path_here, plain_seen, scalar_fits, shown-known, step_shown, to_come-gives, whole-opens, whole-value}
 use Rattle.ion_binary.proofs.HandingKeeps.{keeps_on-scalar, more-below}
 use Rattle.ion_binary.proofs.reader.BinReader.hand_scalar.Goals as goal

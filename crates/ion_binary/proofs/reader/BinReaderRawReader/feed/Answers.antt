@@ -1,6 +1,4 @@
-use Rattle.ion_binary.proofs.Below.{ap, sym, subst, ◌∙◌, arith, common_steps, Rules, read_on-same, named_item, finished-feeds}
-use Rattle.ion_binary.specs.Lane.{joint}
-use Rattle.ion_binary.specs.Reader.{most_of}
+use Rattle.ion_binary.proofs.Below.{ap, sym, subst, ◌∙◌, arith, common_steps, Rules, read_on-same, named_item, finished-feeds, joint, most_of}
 use Rattle.ion_binary.proofs.Feeding.{exceeds-same, hands-again, hands-begin, hands_on-none, hands_on-then, nothing-left}
 use Rattle.ion_binary.proofs.reader.BinReaderRawReader.feed.Goals as goal
 

@@ -1,5 +1,4 @@
-use Rattle.ion_binary.proofs.Below.{length, named_item, left}
-use Rattle.ion_binary.specs.Lane.{HandsOn}
+use Rattle.ion_binary.proofs.Below.{length, named_item, left, HandsOn}
 use Rattle.ion_binary.proofs.reader.BinReaderRawReader.feed.Given as goal
 
 abbrev pub invariant-runs : goal.invariant-runs

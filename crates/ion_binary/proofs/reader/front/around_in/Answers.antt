@@ -1,4 +1,4 @@
-use Rattle.std.proofs.Common.{◌∙◌, sym}
+use Rattle.ion_binary.proofs.Below.{◌∙◌, sym}
 use Rattle.ion_binary.proofs.Handing.{around_last, around_top}
 use Rattle.ion_binary.proofs.reader.front.around_in.Goals as goal
 

@@ -1,7 +1,4 @@
-use Rattle.std.proofs.Common.{arith}
-use Rattle.ion_binary.specs.Lane.{frame_in}
-use Rattle.ion_binary.specs.Reading.{region_of}
-use Rattle.ion_binary.specs.Wrappers.{innermost}
+use Rattle.ion_binary.proofs.Below.{arith, frame_in, region_of, innermost}
 use Rattle.ion_binary.proofs.Handing.{front_noted}
 use Rattle.ion_binary.proofs.ShownParts.{if_some}
 use Rattle.ion_binary.proofs.reader.front.noted_front.Goals as goal

@@ -1,4 +1,4 @@
-use Rattle.std.proofs.Common.{◌≡◌, ◌∙◌, Some, sym, subst}
+use Rattle.ion_binary.proofs.Below.{◌≡◌, ◌∙◌, Some, sym, subst}
 use Rattle.ion_binary.proofs.reader.front.noted_text.Goals as goal
 
 pub returns : goal.returns

@@ -1,8 +1,6 @@
-use Rattle.std.proofs.Common.{◌≡◌, sym, Some, refl, subst}
+use Rattle.ion_binary.proofs.Below.{◌≡◌, sym, Some, refl, subst, Level, ShowsField, kind_around, innermost}
 use Rattle.ion_value.specs.declared.ion_type.Kind.TheVariants as kind
-use Rattle.ion_binary.specs.declared.reader.front.Level.{Level}
-use Rattle.ion_binary.specs.Lane.{ShowsField, frame_of, kind_around}
-use Rattle.ion_binary.specs.Wrappers.{innermost}
+use Rattle.ion_binary.specs.Lane.{frame_of}
 use Rattle.ion_binary.proofs.Handing.{shows_named}
 use Rattle.ion_binary.proofs.reader.front.shown_field.Goals as goal
 

@@ -1,7 +1,4 @@
-use Rattle.ion_binary.proofs.Below.{◌≡◌, ◌+◌, ◌∙◌, Ok, get_or, ap, sym, arith, common_steps}
-use Rattle.ion_binary.specs.declared.reader.front.ShownNote.{ShownNote}
-use Rattle.ion_binary.specs.Descriptor.{wrapper}
-use Rattle.ion_binary.specs.Shapes.{as_shape}
+use Rattle.ion_binary.proofs.Below.{◌≡◌, ◌+◌, ◌∙◌, Ok, get_or, ap, sym, arith, common_steps, ShownNote, wrapper, as_shape}
 use Rattle.ion_binary.proofs.ScannedParts.{ends-reaches}
 use Rattle.ion_binary.proofs.ShownParts.{shows_note}
 use Rattle.ion_binary.proofs.TypedValueCode.{shape_read}

@@ -1,5 +1,4 @@
-use Rattle.std.proofs.Common.{◌≡◌, ◌+◌, ◌-◌, take, drop, refl, ap, arith}
-use Rattle.ion_binary.specs.Scanned.{rest_at}
+use Rattle.ion_binary.proofs.Below.{◌≡◌, ◌+◌, ◌-◌, take, drop, refl, ap, arith, rest_at}
 use Rattle.ion_binary.proofs.ShownParts.{rest_body, rest_none}
 use Rattle.ion_binary.proofs.reader.lane.scalar_after.Goals as goal
 

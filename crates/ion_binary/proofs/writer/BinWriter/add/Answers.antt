@@ -1,10 +1,4 @@
-use Rattle.ion_binary.proofs.Below.{◌≡◌, Ok, Option, Some, Result, ◌<◌, ℕ, List, Bool, true, false, not, None, refl, ap, sym, subst, ◌∙◌, arith, common_steps, Fault, Reason, ValueLimit, item_of, raw_head, Head, PlacedItem, SymbolAt, map_head, user_item, user_symbol_at}
-use Rattle.ion_binary.specs.declared.headers.HeaderPlace.{HeaderPlace}
-use Rattle.ion_binary.specs.Canonical.{id_in}
-use Rattle.ion_binary.specs.Held.{Held, moved_headers, moved_octets, size_of, with_names}
-use Rattle.ion_binary.specs.ItemOctets.{head_name, user_head}
-use Rattle.ion_binary.specs.Writer.{added, held_in}
-use Rattle.ion_binary.specs.Writing.{first_over, item_symbols}
+use Rattle.ion_binary.proofs.Below.{◌≡◌, Ok, Option, Some, Result, ◌<◌, ℕ, List, Bool, true, false, not, None, refl, ap, sym, subst, ◌∙◌, arith, common_steps, Fault, Reason, ValueLimit, item_of, raw_head, Head, PlacedItem, SymbolAt, map_head, user_item, user_symbol_at, HeaderPlace, id_in, Held, moved_headers, moved_octets, size_of, with_names, head_name, user_head, added, held_in, first_over, item_symbols}
 use Rattle.ion_binary.proofs.WriterSteps.{front-name, front-octets, front-over, front-place, front-refused, headers-moved, may-follow, not-refused, octets-moved, refused-long, same-why}
 use Rattle.ion_binary.proofs.WriterTaken.{front-can-step, front-taken, fronted, refused-taken, taken-stepped}
 use Rattle.ion_binary.proofs.writer.BinWriter.add.Goals as goal

@@ -1,8 +1,4 @@
-use Rattle.ion_binary.proofs.Below.{List, ℕ, ◌∙◌, ap, map, arith, PlacedItem, user_symbol_at}
-use Rattle.ion_binary.specs.Canonical.{id_in}
-use Rattle.ion_binary.specs.Held.{counted_ids}
-use Rattle.ion_binary.specs.Opening.{both_octets}
-use Rattle.ion_binary.specs.Plain.{as_item, with_note}
+use Rattle.ion_binary.proofs.Below.{List, ℕ, ◌∙◌, ap, map, arith, PlacedItem, user_symbol_at, id_in, counted_ids, both_octets, as_item, with_note}
 use Rattle.ion_binary.proofs.HeldMoves.{counted-are}
 use Rattle.ion_binary.proofs.PlainAdded.{member-noted}
 use Rattle.ion_binary.proofs.writer.BinWriter.add_pair.Goals as goal

@@ -1,5 +1,4 @@
-use Rattle.ion_binary.proofs.Below.{Option, subst, sym, TextAt}
-use Rattle.ion_binary.specs.Plain.{TakesPlain, as_item, as_pair, with_note}
+use Rattle.ion_binary.proofs.Below.{Option, subst, sym, TextAt, TakesPlain, as_item, as_pair, with_note}
 use Rattle.ion_binary.proofs.PlainAdded.{adds-taken}
 use Rattle.ion_binary.proofs.writer.BinWriter.add_plain.Goals as goal
 

@@ -1,7 +1,4 @@
-use Rattle.ion_binary.proofs.Below.{◌++◌, List, ℕ, refl, take, PlacedItem}
-use Rattle.ion_binary.specs.Canonical.{id_in}
-use Rattle.ion_binary.specs.ItemOctets.{head_octets, user_head}
-use Rattle.ion_binary.specs.Plain.{as_item}
+use Rattle.ion_binary.proofs.Below.{◌++◌, List, ℕ, refl, take, PlacedItem, id_in, head_octets, user_head, as_item}
 use Rattle.ion_binary.proofs.PlainAdded.{adds-taken, member-plain}
 use Rattle.ion_binary.proofs.writer.BinWriter.add_scalar.Goals as goal
 

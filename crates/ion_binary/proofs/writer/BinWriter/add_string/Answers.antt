@@ -1,8 +1,4 @@
-use Rattle.ion_binary.proofs.Below.{◌≡◌, ℕ, List, refl, subst, sym, Head, PlacedItem, SymbolAt, map_head, user_symbol_at}
-use Rattle.ion_binary.specs.Canonical.{headed, id_in}
-use Rattle.ion_binary.specs.ItemOctets.{head_octets}
-use Rattle.ion_binary.specs.Plain.{HaveIds, IsWhole, as_item}
-use Rattle.ion_binary.specs.Writing.{head_symbols}
+use Rattle.ion_binary.proofs.Below.{◌≡◌, ℕ, List, refl, subst, sym, Head, PlacedItem, SymbolAt, map_head, user_symbol_at, headed, id_in, head_octets, HaveIds, IsWhole, as_item, head_symbols}
 use Rattle.ion_binary.proofs.PlainAdded.{adds-taken, member-plain}
 use Rattle.ion_binary.proofs.writer.BinWriter.add_string.Goals as goal
 

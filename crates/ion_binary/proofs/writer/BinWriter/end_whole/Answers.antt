@@ -1,7 +1,4 @@
-use Rattle.ion_binary.proofs.Below.{◌≡◌, List, ℕ, length, ap, ◌∙◌, arith, common_steps}
-use Rattle.ion_binary.specs.Canonical.{header}
-use Rattle.ion_binary.specs.Late.{Content}
-use Rattle.ion_binary.specs.Plain.{as_item}
+use Rattle.ion_binary.proofs.Below.{◌≡◌, List, ℕ, length, ap, ◌∙◌, arith, common_steps, header, Content, as_item}
 use Rattle.ion_binary.proofs.PlainAdded.{both-put, plain-ended}
 use Rattle.ion_binary.proofs.writer.BinWriter.end_whole.Goals as goal
 

@@ -1,5 +1,4 @@
-use Rattle.ion_binary.proofs.Below.{◌≡◌, [], ◌≢◌, length, inl, inr, true, refl, ap, sym, ◌∙◌, arith, common_steps, Output}
-use Rattle.ion_binary.specs.Writer.{held_in}
+use Rattle.ion_binary.proofs.Below.{◌≡◌, [], ◌≢◌, length, inl, inr, true, refl, ap, sym, ◌∙◌, arith, common_steps, Output, held_in}
 use Rattle.ion_binary.proofs.WriterSteps.{forgotten, kept, same-held}
 use Rattle.ion_binary.proofs.writer.BinWriter.forget.Goals as goal
 use Rattle.ion_binary.proofs.writer.BinWriter.forget.Goals.{else-begins-via-then-begins+else-cost-self, else-begins-via-else-begins}

@@ -1,6 +1,4 @@
-use Rattle.ion_binary.proofs.Below.{List, ℕ, option_map, ap, placed_text}
-use Rattle.ion_binary.specs.declared.writer.fresh.Fresh.{Fresh}
-use Rattle.ion_binary.specs.Plain.{as_item}
+use Rattle.ion_binary.proofs.Below.{List, ℕ, option_map, ap, placed_text, Fresh, as_item}
 use Rattle.ion_binary.proofs.FreshAdded.{fresh-field}
 use Rattle.ion_binary.proofs.writer.BinWriter.fresh_field.Goals as goal
 

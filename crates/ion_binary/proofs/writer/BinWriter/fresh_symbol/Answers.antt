@@ -1,7 +1,5 @@
-use Rattle.ion_binary.proofs.Below.{List, ℕ, ap, ◌∙◌, Sym, raw_head, symbol_of, Head, SymbolAt}
+use Rattle.ion_binary.proofs.Below.{List, ℕ, ap, ◌∙◌, Sym, raw_head, symbol_of, Head, SymbolAt, Fresh, as_item}
 use Rattle.ion_value.specs.Value as value
-use Rattle.ion_binary.specs.declared.writer.fresh.Fresh.{Fresh}
-use Rattle.ion_binary.specs.Plain.{as_item}
 use Rattle.ion_binary.proofs.FreshAdded.{fresh-symbol}
 use Rattle.ion_binary.proofs.writer.BinWriter.fresh_symbol.Goals as goal
 

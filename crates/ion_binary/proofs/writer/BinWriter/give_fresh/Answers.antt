@@ -1,5 +1,4 @@
-use Rattle.ion_binary.proofs.Below.{◌≡◌, ◌+◌, ◌++◌, List, ℕ, length, subst, sym, arith, length-append, common_steps, Grows, PlacedItem}
-use Rattle.ion_binary.specs.Plain.{as_item}
+use Rattle.ion_binary.proofs.Below.{◌≡◌, ◌+◌, ◌++◌, List, ℕ, length, subst, sym, arith, length-append, common_steps, Grows, PlacedItem, as_item}
 use Rattle.ion_binary.proofs.FreshAdded.{fresh-plain}
 use Rattle.ion_binary.proofs.writer.BinWriter.give_fresh.Goals as goal
 

@@ -1,9 +1,5 @@
-use Rattle.ion_binary.proofs.Below.{List, ℕ, subst, sym, ◌≡◌, IfSome, raw_head, symbol_at}
+use Rattle.ion_binary.proofs.Below.{List, ℕ, subst, sym, ◌≡◌, IfSome, raw_head, symbol_at, id_in, head_name, user_head, HaveIds, head_symbols}
 use Rattle.ion_value.specs.declared.item.Head.{Head}
-use Rattle.ion_binary.specs.Canonical.{id_in}
-use Rattle.ion_binary.specs.ItemOctets.{head_name, user_head}
-use Rattle.ion_binary.specs.Plain.{HaveIds}
-use Rattle.ion_binary.specs.Writing.{head_symbols}
 use Rattle.ion_binary.proofs.PlainAdded.{kept-alone}
 use Rattle.ion_binary.proofs.writer.BinWriter.name_of.Goals as goal
 

@@ -1,5 +1,4 @@
-use Rattle.ion_binary.proofs.Below.{[], false, refl, ap, Output}
-use Rattle.ion_binary.specs.Late.{Content}
+use Rattle.ion_binary.proofs.Below.{[], false, refl, ap, Output, Content}
 use Rattle.ion_binary.proofs.WriterSteps.{same-held}
 use Rattle.ion_binary.proofs.writer.BinWriter.new.Goals as goal
 

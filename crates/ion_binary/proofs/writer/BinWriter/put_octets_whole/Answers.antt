@@ -1,6 +1,4 @@
-use Rattle.std.proofs.Common.{◌≤◌, List, ℕ, length, refl, ap, ◌∙◌, append_assoc, arith}
-use Rattle.ion_binary.specs.Opening.{both_octets}
-use Rattle.ion_binary.specs.Plain.{as_item}
+use Rattle.ion_binary.proofs.Below.{◌≤◌, List, ℕ, length, refl, ap, ◌∙◌, append_assoc, arith, both_octets, as_item}
 use Rattle.ion_binary.proofs.PlainAdded.{both-put}
 use Rattle.ion_binary.proofs.WholePut.{whole-put}
 use Rattle.ion_binary.proofs.writer.BinWriter.put_octets_whole.Goals as goal

@@ -1,9 +1,5 @@
-use Rattle.ion_binary.proofs.Below.{◌≡◌, ◌≤◌, ◌<◌, ◌^◌, ℕ, List, length, Err, refl, ap, sym, subst, arith, rules, common_steps, none-some}
-use Rattle.ion_binary.specs.declared.headers.HeaderPlace.{HeaderPlace}
-use Rattle.ion_binary.specs.Held.{value_put}
-use Rattle.ion_binary.specs.Writer.{PutsOctets, held_in}
+use Rattle.ion_binary.proofs.Below.{◌≡◌, ◌≤◌, ◌<◌, ◌^◌, ℕ, List, length, Err, refl, ap, sym, subst, arith, rules, common_steps, none-some, HeaderPlace, value_put, PutsOctets, held_in, Content}
 use Rattle.ion_binary.proofs.DeclarationOctets.{few-texts}
-use Rattle.ion_binary.specs.Late.{Content}
 use Rattle.ion_binary.proofs.WriterSteps.{none-open, puts-nothing}
 use Rattle.ion_binary.proofs.writer.BinWriter.put_out.Goals as goal
 

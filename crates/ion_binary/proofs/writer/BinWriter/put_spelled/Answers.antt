@@ -1,6 +1,4 @@
-use Rattle.ion_binary.proofs.Below.{◌∷◌, ◌++◌, [], List, ℕ, ap, ◌∙◌, arith, common_steps}
-use Rattle.ion_binary.specs.Canonical.{id_in}
-use Rattle.ion_binary.specs.Opening.{both_octets, noted, noted_by}
+use Rattle.ion_binary.proofs.Below.{◌∷◌, ◌++◌, [], List, ℕ, ap, ◌∙◌, arith, common_steps, id_in, both_octets, noted, noted_by}
 use Rattle.ion_binary.proofs.writer.BinWriter.put_spelled.Goals as goal
 
 pub give_fresh-requires-clause-octets : goal.give_fresh-requires-clause-octets

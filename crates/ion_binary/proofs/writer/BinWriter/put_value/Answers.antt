@@ -1,5 +1,4 @@
-use Rattle.ion_binary.proofs.Below.{◌≡◌, List, ℕ, None, drop, subst, arith, common_steps, put_cut, put_then, IsPut}
-use Rattle.ion_binary.specs.Canonical.{declaration}
+use Rattle.ion_binary.proofs.Below.{◌≡◌, List, ℕ, None, drop, subst, arith, common_steps, put_cut, put_then, IsPut, declaration}
 use Rattle.ion_binary.proofs.WriterSteps.{none-not-some, on-ok-const, puts-octets, since-cost, since-declared}
 use Rattle.ion_binary.proofs.writer.BinWriter.put_value.Goals as goal
 

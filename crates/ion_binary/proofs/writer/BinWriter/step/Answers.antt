@@ -1,6 +1,4 @@
-use Rattle.ion_binary.proofs.Below.{rules, ◌≡◌, ℕ, List, None, Some, Err, Result, subst, ◌∙◌, arith, common_steps, Fault, Refused, Reason, Limits, item_of, PlacedItem, user_item}
-use Rattle.ion_binary.specs.Held.{held_forgotten, held_of}
-use Rattle.ion_binary.specs.Writer.{PutsOctets, held_in, item_refusal}
+use Rattle.ion_binary.proofs.Below.{rules, ◌≡◌, ℕ, List, None, Some, Err, Result, subst, ◌∙◌, arith, common_steps, Fault, Refused, Reason, Limits, item_of, PlacedItem, user_item, held_forgotten, held_of, PutsOctets, held_in, item_refusal}
 use Rattle.ion_binary.proofs.WriterFollows.{adds-are, follows-err, follows-out, forgotten-is, may-add-after}
 use Rattle.ion_binary.proofs.WriterSteps.{puts-none}
 use Rattle.ion_binary.proofs.writer.BinWriter.step.Goals as goal

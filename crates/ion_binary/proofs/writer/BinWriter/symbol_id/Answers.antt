@@ -1,5 +1,4 @@
-use Rattle.ion_binary.proofs.Below.{◌≡◌, List, ℕ, refl, subst, sym, IfSome, Sym, symbol_of, user_symbol}
-use Rattle.ion_binary.specs.Canonical.{id_in, with_symbol}
+use Rattle.ion_binary.proofs.Below.{◌≡◌, List, ℕ, refl, subst, sym, IfSome, Sym, symbol_of, user_symbol, id_in, with_symbol}
 use Rattle.ion_binary.proofs.PlainAdded.{name-is, name-kept}
 use Rattle.ion_binary.proofs.writer.BinWriter.symbol_id.Goals as goal
 

@@ -1,8 +1,4 @@
-use Rattle.ion_binary.proofs.Below.{◌≡◌, List, ℕ, Option, map, option_map, subst, sym, IfSome, TextAt, listed, placed_text, user_symbol_at, field_symbols}
-use Rattle.ion_binary.specs.Canonical.{annotation_octets, field_octets, id_in}
-use Rattle.ion_binary.specs.Held.{counted_ids}
-use Rattle.ion_binary.specs.Opening.{name_octets}
-use Rattle.ion_binary.specs.Plain.{HaveIds}
+use Rattle.ion_binary.proofs.Below.{◌≡◌, List, ℕ, Option, map, option_map, subst, sym, IfSome, TextAt, listed, placed_text, user_symbol_at, field_symbols, annotation_octets, field_octets, id_in, counted_ids, name_octets, HaveIds}
 use Rattle.ion_binary.proofs.PlainAdded.{kept-alone, name-kept, name-octets-are, note-octets-are}
 use Rattle.ion_binary.proofs.writer.BinWriter.text_id.Goals as goal
 

@@ -1,5 +1,4 @@
-use Rattle.ion_binary.proofs.Below.{◌∙◌, arith, common_steps, item_of, PlacedItem}
-use Rattle.ion_binary.specs.Writing.{written_after}
+use Rattle.ion_binary.proofs.Below.{◌∙◌, arith, common_steps, item_of, PlacedItem, written_after}
 use Rattle.ion_binary.proofs.WriterFollows.{may-come, stands-after}
 use Rattle.ion_binary.proofs.writer.BinWriterValueWriter.item.Goals as goal
 

@@ -1,10 +1,6 @@
-use Rattle.ion_binary.proofs.Below.{◌≡◌, true, arith, ◌∙◌, Bool, ap, sym, subst, common_steps, raw_head, placed_item, PlacedItem}
+use Rattle.ion_binary.proofs.Below.{◌≡◌, true, arith, ◌∙◌, Bool, ap, sym, subst, common_steps, raw_head, placed_item, PlacedItem, TakesPlain, as_item, as_pair, ComesAt, written_after, SingleItem}
 use Rattle.ion_value.specs.Value as value
 use Rattle.ion_binary.specs.Opening.{MayCome}
-use Rattle.ion_binary.specs.Plain.{TakesPlain, as_item, as_pair}
-use Rattle.ion_binary.specs.Writer.{ComesAt}
-use Rattle.ion_binary.specs.Writing.{written_after}
-use Rattle.ion_binary.specs.declared.writer.single.SingleItem.{SingleItem}
 use Rattle.ion_binary.proofs.PlainAdded.{ended-single, plain-comes, taken-follows, taken-puts}
 use Rattle.ion_binary.proofs.WriterFollows.{may-come, stands-after}
 use Rattle.ion_binary.proofs.writer.BinWriterValueWriter.take_plain.Goals as goal

@@ -1,6 +1,5 @@
-use Rattle.ion_text_out.proofs.Below.{refl, ap, subst, length, arith, common_steps, value_of, raw_head, symbol_at, Head, SymbolAt}
+use Rattle.ion_text_out.proofs.Below.{refl, ap, subst, length, arith, common_steps, value_of, raw_head, symbol_at, Head, SymbolAt, HasRoom}
 use Rattle.ion_value.specs.Value as value
-use Rattle.ion_text_out.specs.Writing.{HasRoom}
 use Rattle.ion_text_out.proofs.Taken.{begin_taken, end_taken, quoted_taken, scalar_taken, spelled_taken}
 use Rattle.ion_text_out.proofs.Plain.{quoted_body}
 use Rattle.ion_text_out.proofs.writer.LaidOut.take_head.Goals as goal

@@ -1,4 +1,4 @@
-use Rattle.std.proofs.Common.{sym, ◌∙◌}
+use Rattle.ion_text_out.proofs.Below.{sym, ◌∙◌}
 use Rattle.ion_text_out.proofs.Plain.{plain_text, quoted_text}
 use Rattle.ion_text_out.proofs.writer.LaidOut.take_known.Goals as goal
 

@@ -1,6 +1,4 @@
-use Rattle.std.proofs.Common.{◌∙◌}
-use Rattle.ion_text_out.specs.Lane.{symbol_in, symbols_in}
-use Rattle.ion_text_out.specs.Steps.{opened_in}
+use Rattle.ion_text_out.proofs.Below.{◌∙◌, symbol_in, symbols_in, opened_in}
 use Rattle.ion_text_out.proofs.Plain.{item_put, parted}
 use Rattle.ion_text_out.proofs.Taken.{taken_as}
 use Rattle.ion_text_out.proofs.writer.LaidOut.take_spelled.Goals as goal

@@ -1,4 +1,4 @@
-use Rattle.std.proofs.Common.{sym, ◌∙◌}
+use Rattle.ion_text_out.proofs.Below.{sym, ◌∙◌}
 use Rattle.ion_text_out.proofs.Quoted.{shown_between}
 use Rattle.ion_text_out.proofs.writer.LaidOut.take_string.Goals as goal
 

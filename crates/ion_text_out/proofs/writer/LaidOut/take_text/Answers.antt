@@ -1,4 +1,4 @@
-use Rattle.std.proofs.Common.{append-nil}
+use Rattle.ion_text_out.proofs.Below.{append-nil}
 use Rattle.ion_text_out.proofs.writer.LaidOut.take_text.Goals as goal
 
 pub returns : goal.returns

@@ -1,5 +1,4 @@
-use Rattle.ion_text_out.proofs.Below.{not, refl, sym, ap, ◌∙◌, arith, common_steps, and_parts, placed_item}
-use Rattle.ion_text_out.specs.Writing.{shown}
+use Rattle.ion_text_out.proofs.Below.{not, refl, sym, ap, ◌∙◌, arith, common_steps, and_parts, placed_item, shown}
 use Rattle.ion_text_out.proofs.Plain.{adds_here, as_it_stands, as_they_stand, item_put}
 use Rattle.ion_text_out.proofs.WriterSteps.{may_come}
 use Rattle.ion_text_out.proofs.writer.LaidOutValueWriter.take_plain.Goals as goal

@@ -78,9 +78,7 @@ minus_ints : (i : Int) (b : List ℕ) → int_of_bytes true b ≡ Ok i → Body 
 minus_ints i b e = let is = int_of_bytes-IsRead i true b e in negative i b is.sign_is is.magnitude_is is.range
 
 floats : (o : Option Float) (v : Scalar Symbol) (b : List ℕ) → float_of_octets b ≡ o → float_of_body o ≡ Ok v → Body 4 v b
-floats (Some x) v b is e =
-    let same : value.float x ≡ v = cc e in
-    rw (← same) (float x b is)
+floats (Some x) v b is e = let same : value.float x ≡ v = cc e in rw (← same) (float x b is)
 floats None v b is e = absurd (cc e)
 
 strings : (v : Scalar Symbol) (b : List ℕ) → string_of b ≡ Ok v → Body 8 v b
@@ -92,33 +90,30 @@ strings v b e =
 -- each body that is read is one of the grammar, by its type code
 pub read-Body : (t : ℕ) (v : Scalar Symbol) (b : List ℕ) → scalar_of_body t b ≡ Ok v → Body t v b
 unfolding scalar_of_body
-read-Body t v b e =
-    elim (chosen (nat_eq t 2) _ _ _ e) [
-      | inl k ↦ let m = made_of value.int (int_of_bytes false b) v k.1 in rw (eqb-true t 2 k.0, ← m.2) (ints m.0 b m.1)
-      | inr k ↦ elim (chosen (nat_eq t 3) _ _ _ k.1) [
-        | inl k ↦ let m = made_of value.int (int_of_bytes true b) v k.1 in rw (eqb-true t 3 k.0, ← m.2) (minus_ints m.0 b m.1)
-        | inr k ↦ elim (chosen (nat_eq t 4) _ _ _ k.1) [
-          | inl k ↦ rw (eqb-true t 4 k.0) (floats (float_of_octets b) v b refl k.1)
-          | inr k ↦ elim (chosen (nat_eq t 5) _ _ _ k.1) [
-            | inl k ↦
-                let m = made_of value.decimal (decimal_of_bytes b) v k.1 in
-                let read = Read-decimal_of_bytes m.0 b m.1 in
-                rw (eqb-true t 5 k.0, ← m.2) (decimal m.0 b read.body read.range)
-            | inr k ↦ elim (chosen (nat_eq t 6) _ _ _ k.1) [
-              | inl k ↦
-                  let m = made_of value.timestamp (timestamp_of_bytes b) v k.1 in
-                  rw (eqb-true t 6 k.0, ← m.2) (timestamp m.0 b (timestamp_of_bytes-body m.0 b m.1))
-              | inr k ↦ elim (chosen (nat_eq t 7) _ _ _ k.1) [
-                | inl k ↦ let same : value.symbol (Id (raw_id (uint b))) ≡ v = cc (k.1) in rw (eqb-true t 7 k.0, ← same) (symbol b)
-                | inr k ↦ elim (chosen (nat_eq t 8) _ _ _ k.1) [
-                  | inl k ↦ rw (eqb-true t 8 k.0) (strings v b k.1)
-                  | inr k ↦ elim (chosen (nat_eq t 9) _ _ _ k.1) [
-                    | inl k ↦ let same : value.clob b ≡ v = cc (k.1) in rw (eqb-true t 9 k.0, ← same) (clob b)
-                    | inr k ↦ elim (chosen (nat_eq t 10) _ _ _ k.1) [
-                      | inl k ↦ let same : value.blob b ≡ v = cc (k.1) in rw (eqb-true t 10 k.0, ← same) (blob b)
-                      | inr k ↦ absurd (cc (k.1))
-                    ]
-                  ]
+read-Body t v b e = elim (chosen (nat_eq t 2) _ _ _ e) [
+  | inl k ↦ let m = made_of value.int (int_of_bytes false b) v k.1 in rw (eqb-true t 2 k.0, ← m.2) (ints m.0 b m.1)
+  | inr k ↦ elim (chosen (nat_eq t 3) _ _ _ k.1) [
+    | inl k ↦ let m = made_of value.int (int_of_bytes true b) v k.1 in rw (eqb-true t 3 k.0, ← m.2) (minus_ints m.0 b m.1)
+    | inr k ↦ elim (chosen (nat_eq t 4) _ _ _ k.1) [
+      | inl k ↦ rw (eqb-true t 4 k.0) (floats (float_of_octets b) v b refl k.1)
+      | inr k ↦ elim (chosen (nat_eq t 5) _ _ _ k.1) [
+        | inl k ↦
+            let m = made_of value.decimal (decimal_of_bytes b) v k.1 in
+            let read = Read-decimal_of_bytes m.0 b m.1 in
+            rw (eqb-true t 5 k.0, ← m.2) (decimal m.0 b read.body read.range)
+        | inr k ↦ elim (chosen (nat_eq t 6) _ _ _ k.1) [
+          | inl k ↦
+              let m = made_of value.timestamp (timestamp_of_bytes b) v k.1 in
+              rw (eqb-true t 6 k.0, ← m.2) (timestamp m.0 b (timestamp_of_bytes-body m.0 b m.1))
+          | inr k ↦ elim (chosen (nat_eq t 7) _ _ _ k.1) [
+            | inl k ↦ let same : value.symbol (Id (raw_id (uint b))) ≡ v = cc (k.1) in rw (eqb-true t 7 k.0, ← same) (symbol b)
+            | inr k ↦ elim (chosen (nat_eq t 8) _ _ _ k.1) [
+              | inl k ↦ rw (eqb-true t 8 k.0) (strings v b k.1)
+              | inr k ↦ elim (chosen (nat_eq t 9) _ _ _ k.1) [
+                | inl k ↦ let same : value.clob b ≡ v = cc (k.1) in rw (eqb-true t 9 k.0, ← same) (clob b)
+                | inr k ↦ elim (chosen (nat_eq t 10) _ _ _ k.1) [
+                  | inl k ↦ let same : value.blob b ≡ v = cc (k.1) in rw (eqb-true t 10 k.0, ← same) (blob b)
+                  | inr k ↦ absurd (cc (k.1))
                 ]
               ]
             ]
@@ -126,6 +121,8 @@ read-Body t v b e =
         ]
       ]
     ]
+  ]
+]
 
 -- the bodies that the grammar has are read, and no others are
 pub bodies : Bodies

@@ -36,8 +36,7 @@ own-extends t f annotations ms =
 
 -- a container that begins among others, and its whole members
 after_opened : (m : ℕ) (t u : List (List ℕ)) (n : ℕ) (due : Bool) (c : Unclosed) (cs : List Unclosed) (out : List ℕ) (top p : ℕ) (f : Option UserSymbol)
-    (annotations : List UserSymbol) (k : Kind) (ms : UserMembers) (rest : List UserItem)
-    → Extends (own_texts t f annotations ms) u
+    (annotations : List UserSymbol) (k : Kind) (ms : UserMembers) (rest : List UserItem) → Extends (own_texts t f annotations ms) u
     → after_all m (written t n due (c ∷ cs) out) (begin_item top f annotations p k ∷ (member_items top ms ++ rest))
     ≡ after_all m (written (own_texts t f annotations ms) n due (opened_with (id_in u) f annotations k (members_octets (id_in u) ms) ∷ c ∷ cs) out) rest
 after_opened m t u n due c cs out top p f annotations k ms rest e =
@@ -49,8 +48,7 @@ after_opened m t u n due c cs out top p f annotations k ms rest e =
 -- open containers, each with its whole members
 after_nest : (m : ℕ) (t u : List (List ℕ)) (out : List ℕ) (top : ℕ) (nest : Nest UserSymbol ℕ) (rest : List UserItem)
     → (let kept = texts_kept (is_over m t) t in
-    Extends (nest_texts kept nest) u
-    → after_all m (nothing_open t out) (nest_items top nest ++ rest)
+    Extends (nest_texts kept nest) u → after_all m (nothing_open t out) (nest_items top nest ++ rest)
     ≡ after_all m (written (nest_texts kept nest) (length kept) (is_over m t) (innermost (id_in u) nest ∷ around_it (id_in u) nest) out) rest)
 after_nest m t u out top (outermost annotations p k ms) rest e =
     let over : Bool = is_over m t in
@@ -72,8 +70,7 @@ after_nest m t u out top (inner around f annotations p k ms) rest e =
 pub after_open_path : (m : ℕ) (u : List (List ℕ)) (tops : List (Top UserSymbol ℕ)) (first : ℕ) (nest : Nest UserSymbol ℕ)
     → (let t = texts_after m [] tops in
     let kept = texts_kept (is_over m t) t in
-    Extends (nest_texts kept nest) u
-    → after_all m at_begin (path_items (opened tops first nest))
+    Extends (nest_texts kept nest) u → after_all m at_begin (path_items (opened tops first nest))
     ≡ written (nest_texts kept nest) (length kept) (is_over m t) (innermost (id_in u) nest ∷ around_it (id_in u) nest) (binary m tops))
 after_open_path m u tops first nest e =
     ap (λ (is : List UserItem). after_all m at_begin (top_items tops ++ is)) (sym (append-nil (nest_items first nest)))
@@ -137,8 +134,7 @@ SizeIs last tops after i b =
 
 -- where nothing is open
 closed-top : (over : Bool) (depth last : ℕ) (t : List (List ℕ)) (out : List ℕ) (tops : List (Top UserSymbol ℕ)) (f : Option UserSymbol) (annotations : List UserSymbol)
-    (p top : ℕ) (h : Head UserSymbol)
-    → Fits depth [] (an_item f annotations p top h) → is_marker h ≡ false
+    (p top : ℕ) (h : Head UserSymbol) → Fits depth [] (an_item f annotations p top h) → is_marker h ≡ false
     → SizeIs last tops (closed tops) (an_item f annotations p top h) (written (texts_kept over t) (length (texts_kept over t)) over [] out)
 closed-top over depth last t out tops None annotations p top (value.whole body) fits none =
     let ids : UserSymbol → ℕ = id_in (with_symbols (texts_kept over t) (item_symbols (an_item None annotations p top (value.whole body)))) in

@@ -73,8 +73,7 @@ value_step limits frames top p f b q annotations n v w x rest field place annota
     let parts : (b ++ (w ++ x)) ++ rest ≡ b ++ (w ++ (x ++ rest)) = append_assoc b (w ++ x) rest ∙ ap (λ l. b ++ l) (append_assoc w x rest) in
     let read = value_at-spelled limits frames (top_of frames top p) f q annotations n v w x rest annotated limit holds fits found in
     rw parts at (step-member limits frames top p (b ++ (w ++ x)) rest (step_for frames (top_of frames top p) f annotations (q + length w) v (cursor_at (q + length w + length x) rest)) (omega arith)
-    (Within-before frames (p + length (b ++ (w ++ x))) (q + length w + n) within (omega arith))
-    (rw parts
+    (Within-before frames (p + length (b ++ (w ++ x))) (q + length w + n) within (omega arith)) (rw parts
     (member_at-spelled limits frames top p f b (w ++ (x ++ rest)) (Ok (step_for frames (top_of frames top p) f annotations (q + length w) v (cursor_at (q + length w + length x) rest))) field
     (Holds-before (region_of frames) (p + length b) (q + length w + n) holds (omega arith)) (rw (← place) read))))
 
@@ -242,9 +241,7 @@ module _ (bodies : Bodies) (limits : Rules) where
   -- the bytes of a path are read to where it stands: its frames are open, and its items are read
   pub Spells-reads : (path : Path SymbolAt ℕ) (frames : List Frame) (b : List ℕ) (spells : Spells path frames b) → SpellsFit limits spells
       → (rest : List ℕ) → (top : ℕ) × IsTopIn path frames top × Reads limits (start (b ++ rest)) (path_items path) (state frames top (cursor_at (length b) rest))
-  Spells-reads _ _ _ (Spells.top ts b tops) fits rest =
-      let whole = Tops-reads ts b tops fits rest in
-      (whole.0, refl, whole.1)
+  Spells-reads _ _ _ (Spells.top ts b tops) fits rest = let whole = Tops-reads ts b tops fits rest in (whole.0, refl, whole.1)
   Spells-reads _ _ _ (Spells.inside path frames f annotations k ms n b x w header c spells field annotated is_header inside short within) fits rest =
       let l1 : length (b ++ x) ≡ length b + length x = length-append b x in
       let l2 : length (w ++ header) ≡ length w + length header = length-append w header in

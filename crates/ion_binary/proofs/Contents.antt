@@ -96,39 +96,36 @@ costed-is hs xs v e l = subst (λ (c : Content). IsCosted c) e (content-costed h
 
 -- something grew
 pub grown-moved : (old new : Content) (m n : Counts) (k most : ℕ) → IsCosted new → Grows m n k → new.cost ≡ old.cost + k → old.cost ≤ m.held → old.cost + k ≤ most → Moved old new m n most None
-grown-moved old new m n k most costed g cost held room =
-    record {
-      costed = costed;
-      memory = record { memory = λ e. absurd (Prim.cc e); counted = λ e. g.refused };
-      alone = λ f e. absurd (Prim.cc e);
-      charges = record { held = omega (arith, g.held, cost); share = omega (arith, cost, room); peak = omega (arith, g.held, g.peak, held, room); rises = omega (arith, g.peak) };
-    }
+grown-moved old new m n k most costed g cost held room = record {
+  costed = costed;
+  memory = record { memory = λ e. absurd (Prim.cc e); counted = λ e. g.refused };
+  alone = λ f e. absurd (Prim.cc e);
+  charges = record { held = omega (arith, g.held, cost); share = omega (arith, cost, room); peak = omega (arith, g.held, g.peak, held, room); rises = omega (arith, g.peak) };
+}
 
 -- memory was refused
 pub refused-moved : (old new : Content) (m n : Counts) (most : ℕ) (f : Fault) → IsCosted new → IsRefused m n → new.cost ≡ old.cost → old.cost ≤ most → f ≡ Memory → Moved old new m n most (Some f)
-refused-moved old new m n most f costed r cost room is =
-    record {
-      costed = costed;
-      memory = record { memory = λ e. omega (arith, r.refused); counted = λ e. absurd (e (ap (λ (g : Fault). let x : Option Fault = Some g in x) is)) };
-      alone = λ g e. let same : f ≡ g = Prim.cc e in sym same ∙ is;
-      charges = record { held = omega (arith, r.held, cost); share = omega (arith, cost, room); peak = omega (arith, r.peak); rises = omega (arith, r.peak) };
-    }
+refused-moved old new m n most f costed r cost room is = record {
+  costed = costed;
+  memory = record { memory = λ e. omega (arith, r.refused); counted = λ e. absurd (e (ap (λ (g : Fault). let x : Option Fault = Some g in x) is)) };
+  alone = λ g e. let same : f ≡ g = Prim.cc e in sym same ∙ is;
+  charges = record { held = omega (arith, r.held, cost); share = omega (arith, cost, room); peak = omega (arith, r.peak); rises = omega (arith, r.peak) };
+}
 
 -- something grew, and more was given back
 pub settled-moved : (old new : Content) (m n o : Counts) (more less most : ℕ) → IsCosted new → Grows m n more → Shrinks n o less → old.cost + more ≡ new.cost + less
     → old.cost ≤ m.held → old.cost + more ≤ most → Moved old new m o most None
-settled-moved old new m n o more less most costed g s cost held room =
-    record {
-      costed = costed;
-      memory = record { memory = λ e. absurd (Prim.cc e); counted = λ e. s.refused ∙ g.refused };
-      alone = λ f e. absurd (Prim.cc e);
-      charges = record {
-        held = omega (arith, g.held, s.held, cost);
-        share = omega (arith, cost, room);
-        peak = omega (arith, g.held, g.peak, s.peak, held, room);
-        rises = omega (arith, g.peak, s.peak);
-      };
-    }
+settled-moved old new m n o more less most costed g s cost held room = record {
+  costed = costed;
+  memory = record { memory = λ e. absurd (Prim.cc e); counted = λ e. s.refused ∙ g.refused };
+  alone = λ f e. absurd (Prim.cc e);
+  charges = record {
+    held = omega (arith, g.held, s.held, cost);
+    share = omega (arith, cost, room);
+    peak = omega (arith, g.held, g.peak, s.peak, held, room);
+    rises = omega (arith, g.peak, s.peak);
+  };
+}
 
 -- a cap that is higher holds too
 pub moved-more : (old new : Content) (m n : Counts) (least most : ℕ) (fault : Option Fault) → Moved old new m n least fault → least ≤ most → Moved old new m n most fault

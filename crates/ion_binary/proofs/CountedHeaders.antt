@@ -27,36 +27,34 @@ module _ (ns : List ℕ) (n : ℕ) (hs : List HeaderPlace) (c : ℕ) (r : AreRea
   is-count = omega (arith, five, r.five)
 
   raised-descend : (b d : ℕ) → b < d → get_or (raised ns c) d 0 ≤ get_or (raised ns c) b 0
-  raised-descend b d lt =
-      elim (set-at ns c d (get_or ns c 0 + 1) is-count) [
-        | inl e ↦ elim (set-at ns c b (get_or ns c 0 + 1) is-count) [
-          | inl f ↦ absurd (omega (arith, e.0, f.0, lt))
-          | inr f ↦ let s = strict b (omega (arith, e.0, lt)) in omega (arith, e.1, f.1, s)
-        ]
-        | inr e ↦ elim (set-at ns c b (get_or ns c 0 + 1) is-count) [
-          | inl f ↦
-              let same : get_or ns b 0 ≡ get_or ns c 0 = ap (λ i. get_or ns i 0) f.0 in
-              let s = r.descend b d lt in
-              omega (arith, e.1, f.1, s, same)
-          | inr f ↦ let s = r.descend b d lt in omega (arith, e.1, f.1, s)
-        ]
-      ]
+  raised-descend b d lt = elim (set-at ns c d (get_or ns c 0 + 1) is-count) [
+    | inl e ↦ elim (set-at ns c b (get_or ns c 0 + 1) is-count) [
+      | inl f ↦ absurd (omega (arith, e.0, f.0, lt))
+      | inr f ↦ let s = strict b (omega (arith, e.0, lt)) in omega (arith, e.1, f.1, s)
+    ]
+    | inr e ↦ elim (set-at ns c b (get_or ns c 0 + 1) is-count) [
+      | inl f ↦
+          let same : get_or ns b 0 ≡ get_or ns c 0 = ap (λ i. get_or ns i 0) f.0 in
+          let s = r.descend b d lt in
+          omega (arith, e.1, f.1, s, same)
+      | inr f ↦ let s = r.descend b d lt in omega (arith, e.1, f.1, s)
+    ]
+  ]
 
   raised-reached : (d k : ℕ) → get_or thresholds c 0 ≤ content_around ns n hs (get_or ns c 0) → get_or (raised ns c) d 0 ≡ suc k
       → get_or thresholds d 0 ≤ content_around (raised ns c) n hs k
-  raised-reached d k long is =
-      elim (set-at ns c d (get_or ns c 0 + 1) is-count) [
-        | inl e ↦
-            let here : k ≡ get_or ns c 0 = omega (arith, e.1, is) in
-            let more = content-more ns n hs c (get_or ns c 0) is-count in
-            let t : get_or thresholds d 0 ≡ get_or thresholds c 0 = ap (λ i. get_or thresholds i 0) e.0 in
-            let x : content_around (raised ns c) n hs k ≡ content_around (raised ns c) n hs (get_or ns c 0) = ap (content_around (raised ns c) n hs) here in
-            omega (arith, long, more, t, x)
-        | inr e ↦
-            let s = r.reached d k (sym e.1 ∙ is) in
-            let more = content-more ns n hs c k is-count in
-            omega (arith, s, more)
-      ]
+  raised-reached d k long is = elim (set-at ns c d (get_or ns c 0 + 1) is-count) [
+    | inl e ↦
+        let here : k ≡ get_or ns c 0 = omega (arith, e.1, is) in
+        let more = content-more ns n hs c (get_or ns c 0) is-count in
+        let t : get_or thresholds d 0 ≡ get_or thresholds c 0 = ap (λ i. get_or thresholds i 0) e.0 in
+        let x : content_around (raised ns c) n hs k ≡ content_around (raised ns c) n hs (get_or ns c 0) = ap (content_around (raised ns c) n hs) here in
+        omega (arith, long, more, t, x)
+    | inr e ↦
+        let s = r.reached d k (sym e.1 ∙ is) in
+        let more = content-more ns n hs c k is-count in
+        omega (arith, s, more)
+  ]
 
   pub raise-reached : get_or ns c 0 < length hs → get_or thresholds c 0 ≤ content_around ns n hs (get_or ns c 0) → AreReached (raised ns c) n hs
   raise-reached below long = record {
@@ -67,25 +65,23 @@ module _ (ns : List ℕ) (n : ℕ) (hs : List HeaderPlace) (c : ℕ) (r : AreRea
   }
 
   pub raise-settled : AreSettledTo c ns n hs → AreSettledTo c (raised ns c) n hs
-  raise-settled s d lt small =
-      elim (set-at ns c d (get_or ns c 0 + 1) is-count) [
-        | inl e ↦ absurd (omega (arith, e.0, lt))
-        | inr e ↦
-            let few : get_or ns c 0 ≤ get_or ns d 0 = let h = strict d lt in omega (arith, h) in
-            let same = content-same ns n hs c (get_or ns d 0) is-count few in
-            let x : content_around (raised ns c) n hs (get_or (raised ns c) d 0) ≡ content_around (raised ns c) n hs (get_or ns d 0) = ap (content_around (raised ns c) n hs) e.1 in
-            let before = s d lt (omega (arith, small, e.1)) in
-            omega (arith, x, same, before)
-      ]
+  raise-settled s d lt small = elim (set-at ns c d (get_or ns c 0 + 1) is-count) [
+    | inl e ↦ absurd (omega (arith, e.0, lt))
+    | inr e ↦
+        let few : get_or ns c 0 ≤ get_or ns d 0 = let h = strict d lt in omega (arith, h) in
+        let same = content-same ns n hs c (get_or ns d 0) is-count few in
+        let x : content_around (raised ns c) n hs (get_or (raised ns c) d 0) ≡ content_around (raised ns c) n hs (get_or ns d 0) = ap (content_around (raised ns c) n hs) e.1 in
+        let before = s d lt (omega (arith, small, e.1)) in
+        omega (arith, x, same, before)
+  ]
 
 -- each count is below those before it, where it is below the last of them
 pub strictly-below : (ns : List ℕ) (n : ℕ) (hs : List HeaderPlace) (c : ℕ) → AreReached ns n hs → get_or ns c 0 < most_at ns (length hs) c → (b : ℕ) → b < c → get_or ns c 0 < get_or ns b 0
 strictly-below ns n hs zero r few b lt = absurd (omega (arith, lt))
-strictly-below ns n hs (suc c) r few b lt =
-    elim (cases_lt b c) [
-      | inl less ↦ let d = r.descend b c less in omega (arith, d, few)
-      | inr more ↦ let e : b ≡ c = omega (arith, lt, more) in let same : get_or ns b 0 ≡ get_or ns c 0 = ap (λ i. get_or ns i 0) e in omega (arith, same, few)
-    ]
+strictly-below ns n hs (suc c) r few b lt = elim (cases_lt b c) [
+  | inl less ↦ let d = r.descend b c less in omega (arith, d, few)
+  | inr more ↦ let e : b ≡ c = omega (arith, lt, more) in let same : get_or ns b 0 ≡ get_or ns c 0 = ap (λ i. get_or ns i 0) e in omega (arith, same, few)
+]
 
 pub most-within : (ns : List ℕ) (n : ℕ) (hs : List HeaderPlace) (c : ℕ) → AreReached ns n hs → most_at ns (length hs) c ≤ length hs
 most-within ns n hs zero r = omega arith
@@ -141,8 +137,7 @@ sizes-step ns total k lt = let e = beyond-step ns k in omega (arith, e, lt)
 settled-at : (ns : List ℕ) (n total count t m : ℕ) (hs : List HeaderPlace) (f : ℕ → ℕ)
     → m ≡ sizes_from ns total (length hs) → length hs ≤ total
     → ((k : ℕ) → k < length hs → f k ≡ (n - place_around hs k) + sizes_from ns total (suc k))
-    → ((k : ℕ) → count ≡ suc k → t ≤ f k) → (count < total → f count < t)
-    → IsSettledAt count t (contents ns n (map place_of_header hs) m)
+    → ((k : ℕ) → count ≡ suc k → t ≤ f k) → (count < total → f count < t) → IsSettledAt count t (contents ns n (map place_of_header hs) m)
 settled-at ns n total count t m [] f e le is low high = tt
 settled-at ns n total count t m (h ∷ hs) f e le is low high =
     let more : m + counted_size ns (length (map place_of_header hs)) ≡ sizes_from ns total (length hs) =
@@ -347,6 +342,5 @@ around-outermost (y ∷ ys) x =
 pub around-reverse : (hs : List HeaderPlace) (k : ℕ) (d : HeaderPlace) → k < length hs → (get_or hs k d).place ≡ place_around (reverse hs) k
 around-reverse [] k d h = absurd (omega (arith, h))
 around-reverse (x ∷ hs) zero d h = sym (ap (λ (ys : List HeaderPlace). place_around ys 0) (reverse-append (x ∷ []) hs) ∙ around-outermost (reverse hs) x)
-around-reverse (x ∷ hs) (suc k) d h =
-    around-reverse hs k d (omega (arith, h))
+around-reverse (x ∷ hs) (suc k) d h = around-reverse hs k d (omega (arith, h))
     ∙ sym (ap (λ (ys : List HeaderPlace). place_around ys (suc k)) (reverse-append (x ∷ []) hs) ∙ around-last (reverse hs) x k)

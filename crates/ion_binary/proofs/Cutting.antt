@@ -46,8 +46,7 @@ module _ (limits : Rules) where
         let place : s.cursor.place ≡ length y = stands.place ∙ sym (ap length whole) in
         ap (λ (frames : List Frame). read (record { frames = frames; top = s.top; cursor = cuts.at s.cursor.place (s.cursor.rest ++ z) })) none_open
         ∙ ap (λ (rest : List ℕ). read (top_state s.top s.cursor.place (rest ++ z))) none_left
-        ∙ ap (λ (p : ℕ). read (top_state s.top p z)) place
-        ∙ top-alike s.top 0 (length y) z
+        ∙ ap (λ (p : ℕ). read (top_state s.top p z)) place ∙ top-alike s.top 0 (length y) z
 
     next-cut : (path : Path SymbolAt ℕ) (s : State) (x w : Step State) → StepGrows z x w → At y path s → Follows y path s.frames s.cursor x → step limits (extend_state z s) ≡ w
         → ((t : State) (next : Path SymbolAt ℕ) (others : List PlacedItem) → Leaves x t → At y next t → read t ≡ items_then others Finished → read (extend_state z t) ≡ items_then others beyond)
@@ -78,8 +77,7 @@ module _ (limits : Rules) where
 
 pub whole-values-are-cut : WholeValuesAreCut
 unfolding reading
-whole-values-are-cut limits y z items e =
-    reads-cut limits y z (suc (size (start y))) (closed []) (start y) items (omega arith)
+whole-values-are-cut limits y z items e = reads-cut limits y z (suc (size (start y))) (closed []) (start y) items (omega arith)
     (record { before = []; split = refl; place = refl; spells = Spells.top [] [] Tops.nothing }, tt) e
 
 -- ---- more bytes
@@ -95,8 +93,7 @@ module _ (limits : Rules) (more : List ℕ) where
 
   reads-on : (n : ℕ) (s : State) → size s < n → GoesOnAs (read limits s) (read limits (extend_state more s))
   reads-on zero s less = absurd (omega (arith, less))
-  reads-on (suc n) s less =
-      subst₂ (λ (r t : Reading). GoesOnAs r t) (sym (in-turn limits s)) (sym (in-turn limits (extend_state more s)))
+  reads-on (suc n) s less = subst₂ (λ (r t : Reading). GoesOnAs r t) (sym (in-turn limits s)) (sym (in-turn limits (extend_state more s)))
       (next-on (step limits s) (step limits (extend_state more s)) (one_step-Grows limits more s)
       (λ t leaves. let falls : size t < size s = step-shrinks limits s t leaves in reads-on n t (omega (arith, less, falls))))
 

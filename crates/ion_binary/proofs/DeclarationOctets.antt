@@ -5,16 +5,14 @@ use Rattle.ion_value.specs.Value as value
 -- ---- a header and what stands after it
 
 pub headed-opening : (code : ℕ) (inside rest : List ℕ) → headed code (inside ++ rest) ≡ opening code inside (length rest) ++ rest
-headed-opening code inside rest =
-    ap (λ (n : ℕ). header code n ++ (inside ++ rest)) (length-append inside rest)
+headed-opening code inside rest = ap (λ (n : ℕ). header code n ++ (inside ++ rest)) (length-append inside rest)
     ∙ sym (append_assoc (header code (length inside + length rest)) inside rest)
 
 -- ---- the strings
 
 strings-of_members : (ids : UserSymbol → ℕ) (before : Members UserSymbol ⊤) (texts : List (List ℕ)) → members_octets ids (string_members before texts) ≡ members_octets ids before ++ strings_octets texts
 strings-of_members ids before [] = sym (append-nil (members_octets ids before))
-strings-of_members ids before (t ∷ ts) =
-    strings-of_members ids (member before None [] tt (scalar (value.string t))) ts
+strings-of_members ids before (t ∷ ts) = strings-of_members ids (member before None [] tt (scalar (value.string t))) ts
     ∙ append_assoc (members_octets ids before) (headed 8 t) (strings_octets ts)
 
 -- a place with a text is among them
@@ -30,9 +28,7 @@ drop-got (u ∷ us) zero t e = let same : u ≡ t = cc e in ap (λ (x : List ℕ
 drop-got (u ∷ us) (suc i) t e = drop-got us i t e
 
 drop-next : (texts : List (List ℕ)) (i : ℕ) (t : List ℕ) → slice_get texts i ≡ Some t → drop i texts ≡ t ∷ drop (i + 1) texts
-drop-next texts i t e =
-    let more : suc i ≡ i + 1 = omega arith in
-    drop-got texts i t e ∙ ap (λ (k : ℕ). t ∷ drop k texts) more
+drop-next texts i t e = let more : suc i ≡ i + 1 = omega arith in drop-got texts i t e ∙ ap (λ (k : ℕ). t ∷ drop k texts) more
 
 drop-past : (texts : List (List ℕ)) (i : ℕ) → slice_get texts i ≡ None → drop i texts ≡ []
 drop-past [] zero e = refl
@@ -101,12 +97,9 @@ some-declared : (t : List ℕ) (ts : List (List ℕ)) → declaration (t ∷ ts)
 some-declared t ts =
     let strings : List ℕ = members_octets (id_in []) (string_members nothing (t ∷ ts)) in
     let i : UserSymbol → ℕ = id_in [] in
-    by-ids t ts
-    ∙ (ap (λ (n : ℕ). declared_by n (i (Known (codes "$ion_symbol_table"))) (i (Known (codes "symbols"))) strings) imports-id
+    by-ids t ts ∙ (ap (λ (n : ℕ). declared_by n (i (Known (codes "$ion_symbol_table"))) (i (Known (codes "symbols"))) strings) imports-id
     ∙ (ap (λ (n : ℕ). declared_by 6 n (i (Known (codes "symbols"))) strings) table-id
-    ∙ (ap (λ (n : ℕ). declared_by 6 3 n strings) symbols-id
-    ∙ (by-numbers strings
-    ∙ (in-front strings
+    ∙ (ap (λ (n : ℕ). declared_by 6 3 n strings) symbols-id ∙ (by-numbers strings ∙ (in-front strings
     ∙ ap (λ (s : List ℕ). declaration_front (length s) ++ s) (strings-of_members (id_in []) nothing (t ∷ ts)))))))
 
 pub declaration-none : (texts : List (List ℕ)) → is_none_left texts ≡ true → declaration texts ≡ []

@@ -106,8 +106,7 @@ module _ (limits : Rules) (y z : List ℕ) where
       let left : s.cursor.rest ≡ [] = none-left s.cursor.rest (ap (λ (t : State). t.cursor.rest) e ∙ is) in
       let closed_here : s.frames ≡ [] = ap (λ (t : State). t.frames) e ∙ none in
       inl (ap ending_of (in-turn limits s ∙ ap (next_reading (read limits)) (no-more s closed_here left)))
-  done s _ (later t u leaves comes) e =
-      subst Done (sym (in-turn limits s))
+  done s _ (later t u leaves comes) e = subst Done (sym (in-turn limits s))
       (step-done (step limits s) (step limits (extend_state z s)) u (one_step-Grows limits z s) (subst (λ (t : State). Leaves (step limits t) u) (sym e) leaves) (λ s leaves same. done s u comes same))
 
   -- ---- and it is not cut short
@@ -131,8 +130,7 @@ module _ (limits : Rules) (y z : List ℕ) where
       stands = stood (closed []) (start (y ++ z)) comes (record { before = []; split = refl; place = refl; spells = Spells.top [] [] Tops.nothing }, tt)
 
       permitted : ArePermitted limits (path_items (closed stands.tops))
-      permitted =
-          front-permitted limits (path_items (closed stands.tops)) (items_of stands.rest)
+      permitted = front-permitted limits (path_items (closed stands.tops)) (items_of stands.rest)
           (subst (ArePermitted limits) (ap items_of stands.read_is ∙ items_of-items_then stands.items stands.rest ∙ ap (λ (l : List PlacedItem). l ++ items_of stands.rest) (sym stands.all))
           (read-permitted limits (y ++ z)))
 

@@ -434,8 +434,7 @@ module _ (far : ℕ) where
 
     step_in-moved : (frames : List Frame) (top : ℕ) (c : Cursor) → step_in limits (map frame_moved frames) (top + far) (moved c) ≡ step_moved (step_in limits frames top c)
     step_in-moved [] top c = top_step-moved top c c.rest
-    step_in-moved (f ∷ frames) top c =
-        either (nat_le (f.end + far) (c.place + far)) (nat_le f.end c.place) _ _ (le-moved f.end c.place)
+    step_in-moved (f ∷ frames) top c = either (nat_le (f.end + far) (c.place + far)) (nat_le f.end c.place) _ _ (le-moved f.end c.place)
         (step_of-moved (member_at limits (f ∷ frames) top c) (member_at limits (map frame_moved (f ∷ frames)) (top + far) (moved c)) (member-moved (f ∷ frames) top c))
       where
         either : (b d : Bool) (x y : Step State) → b ≡ d → y ≡ step_moved x → (if b then step_moved (ending frames top c) else y) ≡ step_moved (if d then ending frames top c else x)
@@ -456,15 +455,12 @@ module _ (far : ℕ) where
 
     read-moved : (n : ℕ) (s : State) → size s < n → read limits (state_moved s) ≡ further far (read limits s)
     read-moved zero s less = absurd (omega (arith, less))
-    read-moved (suc n) s less =
-        in-turn limits (state_moved s)
-        ∙ ap (next_reading (read limits)) (step-moved s)
+    read-moved (suc n) s less = in-turn limits (state_moved s) ∙ ap (next_reading (read limits)) (step-moved s)
         ∙ turn-moved (step limits s) (λ t leaves. let falls : size t < size s = step-shrinks limits s t leaves in read-moved n t (omega (arith, less, falls)))
         ∙ sym (ap (further far) (in-turn limits s))
 
 pub nothing-hangs-on-places : NothingHangsOnPlaces
-nothing-hangs-on-places limits place far rest =
-    top-alike limits 0 (0 + far) (place + far) rest
+nothing-hangs-on-places limits place far rest = top-alike limits 0 (0 + far) (place + far) rest
     ∙ read-moved far limits (suc (size (start_at (cuts.at place rest)))) (start_at (cuts.at place rest)) (omega arith)
 
 pub parts-are-read : PartsAreRead

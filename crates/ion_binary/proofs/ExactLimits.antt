@@ -43,8 +43,7 @@ bare_at-free a v c = then_blames Free (refuse (a.wrapped && falls_short a.region
 
 nop_pad_at-free : (a : Around) (length_code : ℕ) (c : Cursor) → Blames Free (nop_pad_at a length_code c)
 unfolding nop_pad_at
-nop_pad_at-free a length_code c =
-    bind_blames Free (length_at length_code a.region c) _ (length_at-free length_code a.region c) (λ n _.
+nop_pad_at-free a length_code c = bind_blames Free (length_at length_code a.region c) _ (length_at-free length_code a.region c) (λ n _.
     then_blames Free (refuse (passes a.region n.1.place n.0) Overrun) _ (refuse_free _ Overrun refl)
     (then_blames Free (refuse (nat_lt (length n.1.rest) n.0) Truncated) _ (refuse_free _ Truncated refl) (record { so = tt })))
 
@@ -56,8 +55,7 @@ marker_rest-free (x ∷ y ∷ z ∷ rest) = refuse_free _ BadVersion refl
 
 marker_at-free : (r : Region) (c : Cursor) → Blames Free (marker_at r c)
 unfolding marker_at
-marker_at-free r c =
-    then_blames Free (refuse (not (is_top r)) BadDescriptor) _ (refuse_free _ BadDescriptor refl)
+marker_at-free r c = then_blames Free (refuse (not (is_top r)) BadDescriptor) _ (refuse_free _ BadDescriptor refl)
     (then_blames Free (marker_rest c.rest) _ (marker_rest-free c.rest) (record { so = tt }))
 
 module _ (limits : Rules) where
@@ -169,8 +167,7 @@ begin s r c x d h took = record {
 
 wrapper_at-free : (r : Region) (length_code : ℕ) (c : Cursor) → Blames Free (wrapper_at r length_code c)
 unfolding wrapper_at
-wrapper_at-free r length_code c =
-    bind_blames Free (length_at length_code r c) _ (length_at-free length_code r c) (λ n _.
+wrapper_at-free r length_code c = bind_blames Free (length_at length_code r c) _ (length_at-free length_code r c) (λ n _.
     bind_blames Free (var_uint_at (Some (n.1.place + n.0)) n.1) _ (var_uint_at-free (Some (n.1.place + n.0)) n.1) (λ ids _.
     then_blames Free (refuse (passes r n.1.place n.0) Overrun) _ (refuse_free _ Overrun refl)
     (then_blames Free (refuse (nat_lt n.0 3 || nat_eq ids.0 0 || nat_le (n.1.place + n.0) (ids.1.place + ids.0)) BadAnnotation) _ (refuse_free _ BadAnnotation refl) (record { so = tt }))))
@@ -245,8 +242,7 @@ module _ (limits : Rules) where
       by_test most end count c few i octets took spells false e rest =
           bind_blames (PlacedLimited (OfIds limits end count c)) (ids_at most limits end (count + 1) i.1) _
           (blames_more (PlacedLimited (OfIds limits end (count + 1) i.1)) (PlacedLimited (OfIds limits end count c)) _ (rest (ltb-false _ _ e))
-          (λ fault p is. OfIds-more end count c i.0 octets i.1 fault.1 fault.0 took spells (p is)))
-          (λ others _. record { so = tt })
+          (λ fault p is. OfIds-more end count c i.0 octets i.1 fault.1 fault.0 took spells (p is))) (λ others _. record { so = tt })
 
 field_at-free : (frames : List Frame) (c : Cursor) → Blames Free (field_at frames c)
 field_at-free [] c = record { so = tt }
@@ -278,8 +274,7 @@ module _ (limits : Rules) (now : State) where
 
   typed-limited : (a : Around) (s : Cursor) (b : ℕ) (c : Cursor) → a.depth ≡ length frames → Begins now s → Took a.region s (b ∷ []) c
       → Blames L (part s.place (typed_value_at limits a b c))
-  typed-limited a s b c deep begins first =
-      part_limited PassesAt s.place (typed_value_at limits a b c)
+  typed-limited a s b c deep begins first = part_limited PassesAt s.place (typed_value_at limits a b c)
       (blames_more (Limited (TypedPass limits a b c)) (Limited (PassesAt s.place)) (typed_value_at limits a b c) (typed_value_at-limited limits a b c)
       (λ why p is. typed-passes a s b c why deep begins first (p is)))
 
@@ -414,15 +409,13 @@ module _ (limits : Rules) (now : State) where
 
   inner_at-leads : (top : ℕ) (f : Option SymbolAt) (annotations : List SymbolAt) (end : ℕ) (c : Cursor) → Leads (inner_at limits frames top f annotations end c)
   unfolding inner_at
-  inner_at-leads top f annotations end c =
-      bind-leads (part c.place (octet_at (Some end) c)) _ (λ b.
+  inner_at-leads top f annotations end c = bind-leads (part c.place (octet_at (Some end) c)) _ (λ b.
       bind-leads (part c.place (typed_value_at limits (record { wrapped = true; region = Some end; depth = length frames }) b.0 b.1)) _
       (λ v. step_for-leads top f annotations c.place v.0 v.1))
 
   annotated_at-leads : (top : ℕ) (f : Option SymbolAt) (place length_code : ℕ) (c : Cursor) → Leads (annotated_at limits frames top f place length_code c)
   unfolding annotated_at
-  annotated_at-leads top f place length_code c =
-      bind-leads (part place (wrapper_at (region_of frames) length_code c)) _ (λ w.
+  annotated_at-leads top f place length_code c = bind-leads (part place (wrapper_at (region_of frames) length_code c)) _ (λ w.
       bind-leads (ids_at w.0.ids limits w.0.ids 0 w.1) _ (λ annotations. inner_at-leads top f annotations.0 w.0.end annotations.1))
 
   choice-leads : (m : Option ℕ) (top : ℕ) (f : Option SymbolAt) (place b : ℕ) (c : Cursor)
@@ -432,8 +425,7 @@ module _ (limits : Rules) (now : State) where
 
   member_at-leads : (top : ℕ) (c : Cursor) → Leads (member_at limits frames top c)
   unfolding member_at value_at
-  member_at-leads top c =
-      bind-leads (part c.place (field_at frames c)) _ (λ f.
+  member_at-leads top c = bind-leads (part c.place (field_at frames c)) _ (λ f.
       bind-leads (part f.1.place (octet_at (region_of frames) f.1)) _
       (λ b. choice-leads (wrapper_length (shape_of b.0)) (top_of frames top c.place) f.0 f.1.place b.0 b.1))
 
@@ -505,8 +497,7 @@ module _ (bodies : Bodies) (limits : Rules) (bytes : List ℕ) (reason : Reason)
       let items : path_items follows.0 ≡ path_items path ++ item ∷ [] = follows.2 in
       let opened : Level follows.0 after =
       ap (λ (l : List PlacedItem). length (open_after_all [] l)) items ∙ ap length (open_after_all-append [] (path_items path) (item ∷ []))
-      ∙ right (open_after_all [] (path_items path)) level
-      in
+      ∙ right (open_after_all [] (path_items path)) level in
       h follows.0 after follows.1 opened e
       (read ∙ sym (items_then-append (path_items path) (item ∷ []) (later after)) ∙ ap (λ (l : List PlacedItem). items_then l (later after)) (sym items))
   next-exact path s (GoesOn after) later at level right follows h e read = h path after follows (level ∙ right) e read

@@ -16,8 +16,7 @@ octet_at-free r c = if_blames Free (is_at_end r c.place) (Err reason.Overrun) (f
 var_at-free : (most : ℕ) (r : Region) (c : Cursor) → Blames Free (var_at most r c)
 unfolding var_at
 var_at-free zero r c = fault_free reason.BadVar refl
-var_at-free (suc most) r c =
-    bind_blames Free (octet_at r c) _ (octet_at-free r c) (λ b _. if_blames Free (nat_lt b.0 128) _ _
+var_at-free (suc most) r c = bind_blames Free (octet_at r c) _ (octet_at-free r c) (λ b _. if_blames Free (nat_lt b.0 128) _ _
     (bind_blames Free (var_at most r b.1) _ (var_at-free most r b.1) (λ v _. record { so = tt })) (record { so = tt }))
 
 pub var_uint_at-free : (r : Region) (c : Cursor) → Blames Free (var_uint_at r c)
@@ -31,8 +30,7 @@ length_at-free length_code r c = if_blames Free (nat_eq length_code 14) (var_uin
 -- ---- bodies
 
 int-free : (negative : Bool) (body : List ℕ) → Blames Free (int_of_bytes negative body)
-int-free negative body =
-    if_blames Free (nat_le (2 ^ 128) (uint body)) _ _ (fault_free reason.Range refl)
+int-free negative body = if_blames Free (nat_le (2 ^ 128) (uint body)) _ _ (fault_free reason.Range refl)
     (if_blames Free (negative && (uint body == 0)) _ _ (fault_free reason.BadNumber refl) (record { so = tt }))
 
 decimal_cut-free : (o : Option (List ℕ × List ℕ)) → Blames Free (decimal_of_cut o)
@@ -75,13 +73,11 @@ float-free None = fault_free reason.BadDescriptor refl
 
 pub scalar_of_body-free : (t : ℕ) (body : List ℕ) → Blames Free (scalar_of_body t body)
 unfolding scalar_of_body
-scalar_of_body-free t body =
-    if_blames Free (nat_eq t 2) _ _ (value-free _ _ (int-free false body))
+scalar_of_body-free t body = if_blames Free (nat_eq t 2) _ _ (value-free _ _ (int-free false body))
     (if_blames Free (nat_eq t 3) _ _ (value-free _ _ (int-free true body))
     (if_blames Free (nat_eq t 4) _ _ (float-free (float_of_octets body))
     (if_blames Free (nat_eq t 5) _ _ (value-free _ _ (decimal-free body))
-    (if_blames Free (nat_eq t 6) _ _ (value-free _ _ (timestamp-free body))
-    (if_blames Free (nat_eq t 7) _ _ (record { so = tt })
+    (if_blames Free (nat_eq t 6) _ _ (value-free _ _ (timestamp-free body)) (if_blames Free (nat_eq t 7) _ _ (record { so = tt })
     (if_blames Free (nat_eq t 8) _ _ (if_blames Free (is_utf8 body) _ _ (record { so = tt }) (fault_free reason.BadText refl))
     (if_blames Free (nat_eq t 9) _ _ (record { so = tt })
     (if_blames Free (nat_eq t 10) _ _ (record { so = tt }) (fault_free reason.BadDescriptor refl)))))))))

@@ -18,9 +18,7 @@ with-one texts t = record { more = t ∷ []; is = refl }
 
 -- the text that is new has the next id
 next-id : (texts : List (List ℕ)) (t : List ℕ) (id : ℕ) → known_id texts t ≡ None → id ≡ 10 + length texts → Some id ≡ known_id (texts ++ t ∷ []) t
-next-id texts t id new is =
-    let e : id ≡ length texts + 10 = omega (arith, is) in
-    ap (λ n. Some n) e ∙ sym (known-new texts t new)
+next-id texts t id new is = let e : id ≡ length texts + 10 = omega (arith, is) in ap (λ n. Some n) e ∙ sym (known-new texts t new)
 
 -- symbols that have ids keep them
 have-known : (texts : List (List ℕ)) (ss : List SymbolAt) → HaveIds texts ss → AreKnown texts (map user_symbol_at ss)
@@ -131,8 +129,7 @@ fresh-symbol texts item fresh place is new known name symbol =
       head = subst H (sym is) (known-kept more t fresh.symbol id, tt);
       name = name ∙ sym (field-stays texts t item.field known);
       symbol = subst S (sym is) (known-is more t fresh.symbol id);
-      one = λ notes.
-          subst O (sym is)
+      one = λ notes. subst O (sym is)
           (ap (λ (ss : List SymbolAt). with_symbols texts (map user_symbol_at ss)) (sym (append_assoc f item.annotations (s ∷ [])))
           ∙ one-new texts (f ++ item.annotations) t place [] (have-append texts f item.annotations known notes) new tt);
     }
@@ -160,8 +157,7 @@ have-all texts item fresh f notes =
 -- its octets are those of a member
 fresh-member : (texts : List (List ℕ)) (item : PlacedItem) (fresh : Fresh) (note : ℕ) (x : List ℕ) → IsFresh texts item fresh → HaveIds texts item.annotations
     → counted_ids (name_octets note) ≡ annotation_octets (id_in texts) (user_item item).annotations
-    → x ≡ head_octets (id_in (texts ++ fresh.text.now ∷ [])) (user_item item).head
-    → noted fresh.name note x
+    → x ≡ head_octets (id_in (texts ++ fresh.text.now ∷ [])) (user_item item).head → noted fresh.name note x
     ≡ member_octets (id_in (texts ++ fresh.text.now ∷ [])) (user_item item).field (user_item item).annotations (head_octets (id_in (texts ++ fresh.text.now ∷ [])) (user_item item).head)
 fresh-member texts item fresh note x f notes en ex =
     let ids : UserSymbol → ℕ = id_in (texts ++ fresh.text.now ∷ []) in
@@ -173,8 +169,7 @@ fresh-member texts item fresh note x f notes en ex =
 fresh-added : (h : Held) (item : PlacedItem) (fresh : Fresh) (note : ℕ) (x os : List ℕ) (ts : List (List ℕ)) → IsFresh h.texts item fresh → HaveIds h.texts item.annotations → IsWhole item.head
     → counted_ids (name_octets note) ≡ annotation_octets (id_in h.texts) (user_item item).annotations
     → x ≡ head_octets (id_in (h.texts ++ fresh.text.now ∷ [])) (user_item item).head
-    → os ≡ h.octets ++ noted fresh.name note x → ts ≡ h.texts ++ fresh.text.now ∷ []
-    → record h { octets = os; texts = ts } ≡ added h item
+    → os ≡ h.octets ++ noted fresh.name note x → ts ≡ h.texts ++ fresh.text.now ∷ [] → record h { octets = os; texts = ts } ≡ added h item
 fresh-added h item fresh note x os ts f notes whole en ex eo et =
     let more : List (List ℕ) = h.texts ++ fresh.text.now ∷ [] in
     let known : HaveIds more (item_symbols item) = have-all h.texts item fresh f notes in
@@ -207,12 +202,9 @@ declined w before item can =
 -- the item was added with its text, if the call says so
 pub fresh-plain : {A : Type 0} (w : BinWriter A) (s : Output) (os : Content) (before after : Counts) (item : PlacedItem) (result : Bool) (fresh : Fresh) (note : ℕ) (y : List ℕ)
     → CanPutFresh w before item fresh note → AreFresh w.symbols.texts item fresh note y
-    → (result ≡ true → known_id w.symbols.texts fresh.text.now ≡ None)
-    → (result ≡ true → s.texts ≡ w.symbols.texts ++ fresh.text.now ∷ [])
-    → (result ≡ true → os ≡ appended w.open_value.octets y)
-    → (result ≡ true → texts_cost s.texts ≤ w.symbols.limit)
-    → (result ≡ true → Grows before after (16 + (length fresh.text.now + length y)))
-    → s.limit ≡ w.symbols.limit
+    → (result ≡ true → known_id w.symbols.texts fresh.text.now ≡ None) → (result ≡ true → s.texts ≡ w.symbols.texts ++ fresh.text.now ∷ [])
+    → (result ≡ true → os ≡ appended w.open_value.octets y) → (result ≡ true → texts_cost s.texts ≤ w.symbols.limit)
+    → (result ≡ true → Grows before after (16 + (length fresh.text.now + length y))) → s.limit ≡ w.symbols.limit
     → (result ≡ false → (s ≡ w.symbols) × (os ≡ w.open_value.octets) × (after ≡ before))
     → length w.open_value.octets.all + (length y + 6 * length w.open_value.headers) ≤ w.limits.value
     → AddsPlain w (record w { symbols = s; open_value = record w.open_value { octets = os } }) before after item result
@@ -270,6 +262,5 @@ fresh-plain {A} w s os before after item true fresh note y c spelled new texts o
 fresh-plain {A} w s os before after item false fresh note y c spelled new texts octets within grows limit declines room =
     let d = declines refl in
     let P : Output → Content → Counts → Type 0 = λ u zs m. AddsPlain {A = A} w (record w { symbols = u; open_value = record w.open_value { octets = zs } }) before m item false in
-    subst (λ (u : Output). P u os after) (sym d.0)
-    (subst (λ (zs : Content). P w.symbols zs after) (sym d.1)
+    subst (λ (u : Output). P u os after) (sym d.0) (subst (λ (zs : Content). P w.symbols zs after) (sym d.1)
     (subst (λ (m : Counts). P w.symbols w.open_value.octets m) (sym d.2) (declined w before item c.can_take)))

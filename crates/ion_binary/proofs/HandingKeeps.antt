@@ -8,12 +8,7 @@ use Rattle.ion_binary.specs.declared.reader.front.Around.{Around}
 charges-beside : (a b : Counts) (own k l share most : ℕ) → own ≤ share → own + k ≤ a.held → Charges a b k l most → Charges a b (own + k) (own + l) (share + most)
 charges-beside a b own k l share most fits there x =
     let held = x.held in let peak = x.peak in let few = x.share in
-    record {
-      held = omega (arith, held);
-      share = omega (arith, few, fits);
-      peak = omega (arith, peak, fits, there);
-      rises = x.rises;
-    }
+    record { held = omega (arith, held); share = omega (arith, few, fits); peak = omega (arith, peak, fits, there); rises = x.rises }
 
 -- or one that took 16 more before
 charges-opened : (a b c : Counts) (own k l share most : ℕ) → own + 16 ≤ share → k ≤ most → own + k ≤ a.held → Grows a b 16 → Charges b c k l most → Charges a c (own + k) (own + 16 + l) (share + most)

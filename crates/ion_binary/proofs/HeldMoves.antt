@@ -57,8 +57,7 @@ no-wrapper-off (c ∷ cs) codes =
     ap (λ (b : Bool). if b then hs else header_at (length (unheaded cs) + (length c.field + length c.annotations)) c.code ∷ hs)
     (ne_eqb c.code 14 (λ e. absurd (omega (arith, e, codes.0))))
 
-closed-by : (field notes body : List ℕ) (t : ℕ) (cs : List Unclosed) → HaveCodes cs
-    → (let base = unheaded cs in
+closed-by : (field notes body : List ℕ) (t : ℕ) (cs : List Unclosed) → HaveCodes cs → (let base = unheaded cs in
     closed_in (base ++ (field ++ (notes ++ body))) (header_at (length base + (length field + length notes)) t ∷ (wrapper_headers notes (length base + length field) ++ headers_of cs))
     ≡ base ++ (field ++ wrapped notes (headed t body)))
 closed-by field [] body t cs codes =
@@ -101,13 +100,11 @@ wrapper-headers-are ids (s ∷ ss) place =
 
 module _ (o field : List ℕ) (ids : UserSymbol → ℕ) (ss : List UserSymbol) where
   front-taken : take (length o + length field) (o ++ (field ++ id_octets ids ss)) ≡ o ++ field
-  front-taken =
-      ap (take (length o + length field)) (sym (append_assoc o field (id_octets ids ss)))
+  front-taken = ap (take (length o + length field)) (sym (append_assoc o field (id_octets ids ss)))
       ∙ take-seam (length o + length field) (o ++ field) (id_octets ids ss) (sym (length-append o field))
 
   front-dropped : drop (length o + length field) (o ++ (field ++ id_octets ids ss)) ≡ id_octets ids ss
-  front-dropped =
-      ap (drop (length o + length field)) (sym (append_assoc o field (id_octets ids ss)))
+  front-dropped = ap (drop (length o + length field)) (sym (append_assoc o field (id_octets ids ss)))
       ∙ drop-seam (length o + length field) (o ++ field) (id_octets ids ss) (sym (length-append o field))
 
   pub whole-is : (x : List ℕ) → whole_at (length o + length field) (o ++ (field ++ id_octets ids ss)) x ≡ o ++ (field ++ wrapped (annotation_octets ids ss) x)
@@ -117,13 +114,11 @@ module _ (o field : List ℕ) (ids : UserSymbol → ℕ) (ss : List UserSymbol) 
       ∙ (ap (λ (a : List ℕ). (o ++ field) ++ wrapped a x) (counted-are ids ss) ∙ append_assoc o field (wrapped (annotation_octets ids ss) x)))
 
   pub begun-is : begun_at (length o + length field) (o ++ (field ++ id_octets ids ss)) ≡ o ++ (field ++ annotation_octets ids ss)
-  begun-is =
-      ap (λ (a : List ℕ). a ++ counted_ids (drop (length o + length field) (o ++ (field ++ id_octets ids ss)))) front-taken
+  begun-is = ap (λ (a : List ℕ). a ++ counted_ids (drop (length o + length field) (o ++ (field ++ id_octets ids ss)))) front-taken
       ∙ (ap (λ (a : List ℕ). (o ++ field) ++ counted_ids a) front-dropped
       ∙ (ap (λ (a : List ℕ). (o ++ field) ++ a) (counted-are ids ss) ∙ append_assoc o field (annotation_octets ids ss)))
 
-  pub headers-begun : (k : Kind) (hs : List HeaderPlace)
-      → begun_headers (length o + length field) (o ++ (field ++ id_octets ids ss)) k hs
+  pub headers-begun : (k : Kind) (hs : List HeaderPlace) → begun_headers (length o + length field) (o ++ (field ++ id_octets ids ss)) k hs
       ≡ header_at (length o + (length field + length (annotation_octets ids ss))) (type_code k) ∷ (wrapper_headers (annotation_octets ids ss) (length o + length field) ++ hs)
   headers-begun k hs =
       ap (λ (a : List ℕ). header_at (length a) (type_code k) ∷ (wrapper_headers (drop (length o + length field) (o ++ (field ++ id_octets ids ss))) (length o + length field) ++ hs)) begun-is
@@ -136,8 +131,7 @@ module _ (o field : List ℕ) (ids : UserSymbol → ℕ) (ss : List UserSymbol) 
 -- ---- octets of a whole value
 
 more-octets : (c : Unclosed) (cs : List Unclosed) (x : List ℕ) → unheaded (c ∷ cs) ++ x ≡ unheaded ((record c { body = c.body ++ x }) ∷ cs)
-more-octets c cs x =
-    append_assoc (unheaded cs) (c.field ++ (c.annotations ++ c.body)) x
+more-octets c cs x = append_assoc (unheaded cs) (c.field ++ (c.annotations ++ c.body)) x
     ∙ ap (λ (y : List ℕ). unheaded cs ++ y) (append_assoc c.field (c.annotations ++ c.body) x ∙ ap (λ (y : List ℕ). c.field ++ y) (append_assoc c.annotations c.body x))
 
 -- what is held apart from the open containers
@@ -160,13 +154,11 @@ places-by (a ∷ more) place hs ps e = ap (λ (qs : List ℕ). place ∷ qs) e
 
 pub places-are : (cs : List Unclosed) → map place_of_header (headers_of cs) ≡ header_places cs
 places-are [] = refl
-places-are (c ∷ cs) =
-    ap (λ (ps : List ℕ). (length (unheaded cs) + (length c.field + length c.annotations)) ∷ ps)
+places-are (c ∷ cs) = ap (λ (ps : List ℕ). (length (unheaded cs) + (length c.field + length c.annotations)) ∷ ps)
     (places-by c.annotations (length (unheaded cs) + length c.field) (headers_of cs) (header_places cs) (places-are cs))
 
 size-is : (cs : List Unclosed) (x : List ℕ) → size_of (unheaded cs ++ x) (headers_of cs) ≡ length (all_closed cs x)
-size-is cs x =
-    ap (λ n. closed_length n (map place_of_header (headers_of cs))) (length-append (unheaded cs) x)
+size-is cs x = ap (λ n. closed_length n (map place_of_header (headers_of cs))) (length-append (unheaded cs) x)
     ∙ (ap (closed_length (length (unheaded cs) + length x)) (places-are cs) ∙ closed_size_by_places cs x)
 
 -- ---- an item
@@ -190,12 +182,10 @@ moved-value w cs x octets hs e f = record {
 moved-begin : (w : Written) (c : Unclosed) (cs : List Unclosed) (octets : List ℕ) (hs : List HeaderPlace) → octets ≡ unheaded (c ∷ cs) → hs ≡ headers_of (c ∷ cs)
     → IsMoved w octets hs (record w { open_containers = c ∷ cs }) [] (length (all_closed (c ∷ cs) []))
 moved-begin w c cs octets hs e f = record {
-  held =
-      ap (λ (o : List ℕ). value_held (held_of w) hs o) e
+  held = ap (λ (o : List ℕ). value_held (held_of w) hs o) e
       ∙ ap (λ (gs : List HeaderPlace). value_held (held_of w) gs (unheaded (c ∷ cs))) f;
   is_put = ap (λ (gs : List HeaderPlace). value_put (held_of w) gs octets) f;
-  is_size =
-      ap (λ (o : List ℕ). size_of o hs) (e ∙ sym (append-nil (unheaded (c ∷ cs))))
+  is_size = ap (λ (o : List ℕ). size_of o hs) (e ∙ sym (append-nil (unheaded (c ∷ cs))))
       ∙ (ap (size_of (unheaded (c ∷ cs) ++ [])) f ∙ size-is (c ∷ cs) []);
 }
 
@@ -271,8 +261,7 @@ forgetting-open w [] false = refl
 forgetting-open w (c ∷ cs) over = refl
 
 with_ids-moves : (limit : ℕ) (w : Written) (i : Item UserSymbol ℕ) → held_with_ids limit (held_of w) i ≡ held_of (with_ids_given limit w i)
-with_ids-moves limit w i =
-    ap (λ (b : Held). with_names b i)
+with_ids-moves limit w i = ap (λ (b : Held). with_names b i)
     (forgetting-moves w w.open_containers (not (is_marker i.head) && is_over limit w.texts))
 
 -- ---- all
@@ -294,8 +283,4 @@ what_is_held_moves limit depth w i codes come =
     let P : List Unclosed → Type 0 = λ cs. HaveCodes cs × MayCome depth (with_open n cs) i in
     let here : P n.open_containers = subst P (sym same) (codes, record { kinds = come.kinds; level = come.level; fits = come.fits; value = come.value }) in
     let m = head-moved depth n n.open_containers (id_in n.texts) i i.head here.0 here.1 in
-    record {
-      held = ap (moved_by i) e ∙ m.held;
-      puts = ap (put_by i) e ∙ m.is_put;
-      size = ap (size_by i) e ∙ m.is_size;
-    }
+    record { held = ap (moved_by i) e ∙ m.held; puts = ap (put_by i) e ∙ m.is_put; size = ap (size_by i) e ∙ m.is_size }

@@ -94,8 +94,7 @@ known_ext t u Unknown e h = tt
 
 pub id_ext : (t u : List (List ℕ)) (s : UserSymbol) → Extends t u → IsKnown t s → id_in u s ≡ id_in t s
 unfolding id_in
-id_ext t u (Known x) e h =
-    ap (λ o. unwrap_or o 0) (ap (λ w. known_id w x) e.is ∙ (known_more t e.more x h.0 h.1 ∙ sym h.1))
+id_ext t u (Known x) e h = ap (λ o. unwrap_or o 0) (ap (λ w. known_id w x) e.is ∙ (known_more t e.more x h.0 h.1 ∙ sym h.1))
 id_ext t u Unknown e h = refl
 
 -- all of these have ids that stay
@@ -120,8 +119,7 @@ known_right texts (s ∷ ss) rest h = known_right texts ss rest h.1
 
 pub id_octets-same : (t u : List (List ℕ)) (ss : List UserSymbol) → Extends t u → AreKnown t ss → id_octets (id_in u) ss ≡ id_octets (id_in t) ss
 id_octets-same t u [] e h = refl
-id_octets-same t u (s ∷ ss) e h =
-    ap (λ n. var_uint_octets n ++ id_octets (id_in u) ss) (id_ext t u s e h.0)
+id_octets-same t u (s ∷ ss) e h = ap (λ n. var_uint_octets n ++ id_octets (id_in u) ss) (id_ext t u s e h.0)
     ∙ ap (λ b. var_uint_octets (id_in t s) ++ b) (id_octets-same t u ss e h.1)
 
 pub annotation_octets-same : (t u : List (List ℕ)) (ss : List UserSymbol) → Extends t u → AreKnown t ss → annotation_octets (id_in u) ss ≡ annotation_octets (id_in t) ss

@@ -156,13 +156,11 @@ module _ (offset end gap : ℕ) (octets new x : List ℕ) (order : offset ≤ en
       let before : List ℕ = take (offset + gap - length x) octets in
       let tail : List ℕ = x ++ (body ++ rest) in
       let long : length (take end octets) ≡ end = length-take-le end octets (omega (arith, within)) in
-      let first : take offset new ≡ take offset v =
-      ap (λ (os : List ℕ). take offset os) moved
+      let first : take offset new ≡ take offset v = ap (λ (os : List ℕ). take offset os) moved
       ∙ (take-append-le offset before tail (let f = front in omega (arith, f, short))
       ∙ (take-take offset (offset + gap - length x) octets (omega (arith, short))
       ∙ (sym (take-take offset end octets order) ∙ sym (take-append-le offset (take end octets) rest (omega (arith, long, order)))))) in
-      let after : drop offset v ≡ body ++ rest =
-      drop-append-le offset (take end octets) rest (omega (arith, long, order))
+      let after : drop offset v ≡ body ++ rest = drop-append-le offset (take end octets) rest (omega (arith, long, order))
       ∙ ap (λ (os : List ℕ). os ++ rest) (ap (λ k. drop offset (take k octets)) (omega (arith, order)) ∙ drop-take offset (end - offset) octets) in
       let second : drop (offset + (gap - length x)) new ≡ tail =
       ap (λ (os : List ℕ). drop (offset + (gap - length x)) os) moved ∙ drop_at before tail (offset + (gap - length x)) (let f = front in omega (arith, f, short)) in

@@ -39,8 +39,7 @@ waited-missing (Err f) k offset h b a p q xs v w e ok more err = err.1 ∙ (e �
 
 pub waited-all : (r : Result (Unit {0}) Fault) (k offset : ℕ) (h : LateHeader) (b a : Entries LateHeader) (xs : List ℕ) (v : Content) → Waits k offset h b.items xs v
     → OnOk r (a.items ≡ insert b.items k h) → OnOk r (spread a.items xs ≡ put_at offset (late_octets h) v.all)
-waited-all (Ok t) k offset h b a xs v w ok =
-    ap (λ (gs : List LateHeader). spread gs xs) ok
+waited-all (Ok t) k offset h b a xs v w ok = ap (λ (gs : List LateHeader). spread gs xs) ok
     ∙ (spread-insert k (length xs) h b.items xs w.late w.fits (omega arith)
     ∙ (ap (λ (j : ℕ). put_at j (late_octets h) (spread b.items xs)) w.at ∙ ap (λ (c : Content). put_at offset (late_octets h) c.all) w.view))
 waited-all (Err f) k offset h b a xs v w ok = tt
@@ -81,9 +80,7 @@ waited-moved (Err f) k offset most h b a p q xs v m n w few held ok err grows me
 
 pub inserted-all : (r : Result (Unit {0}) Fault) (hs : List LateHeader) (xs ys b : List ℕ) (there offset : ℕ) (v : Content) → content hs xs ≡ v → AreLate there hs → there ≤ length xs
     → there + missing_of hs ≡ offset → OnOk r (ys ≡ put_at there b xs) → OnOk r (spread hs ys ≡ put_at offset b v.all)
-inserted-all (Ok t) hs xs ys b there offset v view l le at ok =
-    ap (λ (os : List ℕ). spread hs os) ok
-    ∙ (spread-put hs there b xs l le
+inserted-all (Ok t) hs xs ys b there offset v view l le at ok = ap (λ (os : List ℕ). spread hs os) ok ∙ (spread-put hs there b xs l le
     ∙ (ap (λ (j : ℕ). put_at j b (spread hs xs)) at ∙ ap (λ (c : Content). put_at offset b c.all) view))
 inserted-all (Err f) hs xs ys b there offset v view l le at ok = tt
 

@@ -71,10 +71,7 @@ popped-stepped limits v w m n o most fault can shrinks few moved short late room
     let sr = shrinks.refused in
     record {
       within = record { octets = short; headers = late; costed = moved.costed; room = beside };
-      memory = record {
-        memory = λ e. let r = moved.memory.memory e in omega (arith, r, sr);
-        counted = λ e. moved.memory.counted e ∙ sr;
-      };
+      memory = record { memory = λ e. let r = moved.memory.memory e in omega (arith, r, sr); counted = λ e. moved.memory.counted e ∙ sr };
       alone = moved.alone;
       charges = record {
         held = omega (arith, held, shrinks.held, few);

@@ -170,8 +170,7 @@ module _ (limits wide : Rules) (within : AreWithin limits wide) where
 
   value_at-Cut : (frames : List Frame) (top : ℕ) (f : Option SymbolAt) (c : Cursor) → Cut (IsPlaced limits wide) (value_at limits frames top f c) (value_at wide frames top f c)
   unfolding value_at
-  value_at-Cut frames top f c =
-      bind-Cut (IsPlaced limits wide) _ _ _ _ (same _) (λ b.
+  value_at-Cut frames top f c = bind-Cut (IsPlaced limits wide) _ _ _ _ (same _) (λ b.
       by_wrapper-Cut (wrapper_length (shape_of b.0)) _ _ _ _ (λ length_code. annotated_at-Cut frames top f c.place length_code b.1) (plain_at-Cut frames top f c.place b.0 b.1))
 
   member_at-Cut : (frames : List Frame) (top : ℕ) (c : Cursor) → Cut (IsPlaced limits wide) (member_at limits frames top c) (member_at wide frames top c)

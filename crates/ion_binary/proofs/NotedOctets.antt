@@ -12,7 +12,5 @@ named-short id some few = sym (named-octets id some ∙ var-one id few)
 -- what stands before a value in its wrapper, after its field
 pub notes-front : (front d before x : List ℕ) (n : ℕ) → before ≡ wrapper_octets (length d) n → length x ≡ n
     → ((front ++ before) ++ d) ++ x ≡ front ++ wrapped (counted_ids d) x
-notes-front front d before x n eb long =
-    append_assoc (front ++ before) d x
-    ∙ (append_assoc front before (d ++ x)
+notes-front front d before x n eb long = append_assoc (front ++ before) d x ∙ (append_assoc front before (d ++ x)
     ∙ ap (λ (y : List ℕ). front ++ y) (ap (λ (y : List ℕ). y ++ (d ++ x)) (eb ∙ ap (wrapper_octets (length d)) (sym long)) ∙ wrapper-around d x))

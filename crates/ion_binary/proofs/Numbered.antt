@@ -357,8 +357,7 @@ users-head value.end = refl
 users-head value.marker = refl
 
 pub users-item : (i : PlacedItem) → users (item_symbols i) ≡ item_symbols (user_item i)
-users-item i =
-    users-append (field_symbols i.field) (i.annotations ++ head_symbols i.head)
+users-item i = users-append (field_symbols i.field) (i.annotations ++ head_symbols i.head)
     ∙ ap₂ (λ (x y : List UserSymbol). x ++ y) (users-field i.field)
     (users-append i.annotations (head_symbols i.head) ∙ ap (λ (x : List UserSymbol). users i.annotations ++ x) (users-head i.head))
 
@@ -398,8 +397,7 @@ is-front most t0 t1 t2 t3 i x y z there front w =
 
 pub front-is : (most : ℕ) (t0 t1 t2 t3 : List (List ℕ)) (i : PlacedItem) (f : Option SymbolAt) (annotations : List SymbolAt) (h : Head SymbolAt) (x y z : List ℕ) (there : Bool) (front : Front)
     → f ≡ i.field → annotations ≡ i.annotations → h ≡ i.head → Fronted most t0 t1 t2 t3 f annotations h x y z there front → IsFront most (id_in t3) x z (user_item i) front
-front-is most t0 t1 t2 t3 i f annotations h x y z there front e1 e2 e3 w =
-    is-front most t0 t1 t2 t3 i x y z there front
+front-is most t0 t1 t2 t3 i f annotations h x y z there front e1 e2 e3 w = is-front most t0 t1 t2 t3 i x y z there front
     (subst (λ (g : Option SymbolAt). Fronted most t0 t1 t2 t3 g i.annotations i.head x y z there front) e1
     (subst (λ (l : List SymbolAt). Fronted most t0 t1 t2 t3 f l i.head x y z there front) e2
     (subst (λ (k : Head SymbolAt). Fronted most t0 t1 t2 t3 f annotations k x y z there front) e3 w)))
@@ -407,7 +405,6 @@ front-is most t0 t1 t2 t3 i f annotations h x y z there front e1 e2 e3 w =
 -- the symbols of an item by its parts
 pub item-symbols : (i : PlacedItem) (f : Option SymbolAt) (annotations : List SymbolAt) (h : Head SymbolAt) → f ≡ i.field → annotations ≡ i.annotations → h ≡ i.head
     → field_symbols f ++ (annotations ++ head_symbols h) ≡ item_symbols i
-item-symbols i f annotations h e1 e2 e3 =
-    ap (λ (g : Option SymbolAt). field_symbols g ++ (annotations ++ head_symbols h)) e1
+item-symbols i f annotations h e1 e2 e3 = ap (λ (g : Option SymbolAt). field_symbols g ++ (annotations ++ head_symbols h)) e1
     ∙ (ap (λ (l : List SymbolAt). field_symbols i.field ++ (l ++ head_symbols h)) e2
     ∙ ap (λ (k : Head SymbolAt). field_symbols i.field ++ (i.annotations ++ head_symbols k)) e3)

@@ -21,17 +21,16 @@ coefficient-short true n small = signed-short true n 16 (omega arith)
 
 decimal-short : (d : Decimal) → IsDecimal d → length (decimal_body d) ≤ 22
 unfolding decimal_body
-decimal-short d range =
-    elim (cases_Bool (is_nothing d)) [
-      | inl none ↦ rw none (omega arith)
-      | inr some ↦
-          let e : List ℕ = exponent_octets d.exponent in
-          let c : List ℕ = coefficient_octets d.negative d.coefficient in
-          let exponent : length e ≤ 5 = (exponent_octets-short d.exponent range.exponent).0 in
-          let coefficient : length c ≤ 17 = coefficient-short d.negative d.coefficient range.coefficient in
-          let whole : length (e ++ c) ≤ 22 = omega (arith, length-append e c) in
-          rw some whole
-    ]
+decimal-short d range = elim (cases_Bool (is_nothing d)) [
+  | inl none ↦ rw none (omega arith)
+  | inr some ↦
+      let e : List ℕ = exponent_octets d.exponent in
+      let c : List ℕ = coefficient_octets d.negative d.coefficient in
+      let exponent : length e ≤ 5 = (exponent_octets-short d.exponent range.exponent).0 in
+      let coefficient : length c ≤ 17 = coefficient-short d.negative d.coefficient range.coefficient in
+      let whole : length (e ++ c) ≤ 22 = omega (arith, length-append e c) in
+      rw some whole
+]
 
 -- ---- timestamps
 

@@ -148,8 +148,7 @@ pub whole-octets : (place : ℕ) (o x : List ℕ) → place ≤ length o
     → (take place o ++ (wrapper_octets (length o - place) (length x) ++ drop place o)) ++ x ≡ whole_at place o x
 whole-octets place o x le =
     let w : List ℕ = wrapper_octets (length o - place) (length x) in
-    append_assoc (take place o) (w ++ drop place o) x
-    ∙ (ap (λ (y : List ℕ). take place o ++ y) (append_assoc w (drop place o) x)
+    append_assoc (take place o) (w ++ drop place o) x ∙ (ap (λ (y : List ℕ). take place o ++ y) (append_assoc w (drop place o) x)
     ∙ (ap (λ n. take place o ++ (wrapper_octets n (length x) ++ (drop place o ++ x))) (sym (length-drop place o))
     ∙ ap (λ (y : List ℕ). take place o ++ y) (wrapper-around (drop place o) x)))
 
@@ -224,14 +223,13 @@ begun-few (a ∷ d) place hs = omega arith
 
 -- no octet goes away as a container begins
 pub begun-more : (place : ℕ) (o : List ℕ) → place ≤ length o → length o ≤ length (begun_at place o)
-begun-more place o le =
-    elim (cases_lt place (length o)) [
-      | inl less ↦ let l = begun-length place o less in omega (arith, l)
-      | inr all ↦
-          let a : length (begun_at place o) ≡ length (take place o) + length (counted_ids (drop place o)) = length-append (take place o) (counted_ids (drop place o)) in
-          let t : length (take place o) ≡ place = length-take-le place o le in
-          omega (arith, a, t, all)
-    ]
+begun-more place o le = elim (cases_lt place (length o)) [
+  | inl less ↦ let l = begun-length place o less in omega (arith, l)
+  | inr all ↦
+      let a : length (begun_at place o) ≡ length (take place o) + length (counted_ids (drop place o)) = length-append (take place o) (counted_ids (drop place o)) in
+      let t : length (take place o) ≡ place = length-take-le place o le in
+      omega (arith, a, t, all)
+]
 
 -- ---- octets come where there is surely room for all headers
 

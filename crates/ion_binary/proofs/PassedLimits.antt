@@ -18,15 +18,9 @@ use Rattle.ion_binary.proofs.WrapperSound.{wrapper_at-taken, ids_at-taken, field
 same-var : (a b x y : List ℕ) → IsVar a → IsVar b → a ++ x ≡ b ++ y → (a ≡ b) × (x ≡ y)
 same-var [] b x y ends other e = absurd ends
 same-var (n ∷ a) [] x y ends other e = absurd other
-same-var (n ∷ []) (m ∷ []) x y ends other e =
-    let first : n ≡ m = cc e in
-    (ap (λ (n : ℕ). n ∷ []) first, cc e)
-same-var (n ∷ []) (m ∷ k ∷ b) x y ends other e =
-    let first : n ≡ m = cc e in
-    absurd (omega (arith, first, ends, other.0))
-same-var (n ∷ k ∷ a) (m ∷ []) x y ends other e =
-    let first : n ≡ m = cc e in
-    absurd (omega (arith, first, ends.0, other))
+same-var (n ∷ []) (m ∷ []) x y ends other e = let first : n ≡ m = cc e in (ap (λ (n : ℕ). n ∷ []) first, cc e)
+same-var (n ∷ []) (m ∷ k ∷ b) x y ends other e = let first : n ≡ m = cc e in absurd (omega (arith, first, ends, other.0))
+same-var (n ∷ k ∷ a) (m ∷ []) x y ends other e = let first : n ≡ m = cc e in absurd (omega (arith, first, ends.0, other))
 same-var (n ∷ k ∷ a) (m ∷ j ∷ b) x y ends other e =
     let first : n ≡ m = cc e in
     let rest : (k ∷ a) ++ x ≡ (j ∷ b) ++ y = cc e in
@@ -34,9 +28,7 @@ same-var (n ∷ k ∷ a) (m ∷ j ∷ b) x y ends other e =
     (ap (λ (i : ℕ). i ∷ k ∷ a) first ∙ ap (λ (l : List ℕ). m ∷ l) more.0, more.1)
 
 same-number : (n m : ℕ) (a b x y : List ℕ) → VarUInt n a → VarUInt m b → a ++ x ≡ b ++ y → (n ≡ m) × (x ≡ y)
-same-number n m a b x y v w e =
-    let same = same-var a b x y v.ends w.ends e in
-    (v.value ∙ ap var_uint same.0 ∙ sym w.value, same.1)
+same-number n m a b x y v w e = let same = same-var a b x y v.ends w.ends e in (v.value ∙ ap var_uint same.0 ∙ sym w.value, same.1)
 
 same-descriptor : (t n m : ℕ) (a b x y : List ℕ) → Descriptor t n a → Descriptor t m b → a ++ x ≡ b ++ y → (n ≡ m) × (x ≡ y)
 same-descriptor t n m _ _ x y (Descriptor.short lt) (Descriptor.short less) e =
@@ -116,8 +108,7 @@ module _ (limits : Rules) where
       let same : t ≡ u = omega (arith, e, small, is, lt) in
       let tail : len.octets ++ m.0.1.rest ≡ octets ++ rest = sym len.took.parts ∙ here in
       let all : ((16 * u + other) ∷ len.octets) ++ m.0.1.rest ≡ (b ∷ octets) ++ rest =
-      ap (λ (l : List ℕ). (16 * u + other) ∷ l) tail ∙ ap (λ (i : ℕ). i ∷ (octets ++ rest)) (sym is)
-      in
+      ap (λ (l : List ℕ). (16 * u + other) ∷ l) tail ∙ ap (λ (i : ℕ). i ∷ (octets ++ rest)) (sym is) in
       let number = same-descriptor u m.0.0 n ((16 * u + other) ∷ len.octets) (b ∷ octets) m.0.1.rest rest len.spells (subst (λ (t : ℕ). Descriptor t n (b ∷ octets)) same d) all in
       body_at-long a u m.0.0 m.0.1 y (omega (arith, long, number.0)) m.2
 
@@ -215,8 +206,7 @@ ids-refused limits (suc most) end count q annotations ids id octets rest c y bef
         → limits.scalar < 16 * (count + length annotations + 1) → (i : ℕ × Cursor) (taken : List ℕ) → c.rest ≡ taken ++ i.1.rest → i.1.place ≡ c.place + length taken → VarUInt i.0 taken
         → 16 * (count + 1) ≤ limits.scalar
         → ((q : ℕ) (annotations : List SymbolAt) (ids : List ℕ) → Ids q annotations ids → i.1.rest ≡ ids ++ (octets ++ rest) → i.1.place + length ids + length octets ≤ end
-        → limits.scalar < 16 * (count + 1 + length annotations + 1) → ⊥)
-        → ⊥
+        → limits.scalar < 16 * (count + 1 + length annotations + 1) → ⊥) → ⊥
     after _ _ _ (Ids.nothing q) here within above i taken parts place number few more = omega (arith, above, few)
     after _ _ _ (Ids.then q n b d annotations first ids) here within above i taken parts place number few more =
         let same = same-var taken b i.1.rest (d ++ (octets ++ rest)) number.ends first.ends (sym parts ∙ here ∙ append_assoc b d (octets ++ rest)) in
@@ -231,8 +221,7 @@ module _ (limits : Rules) (frames : List Frame) where
   wrapper-after code whole n c w head len tail small d spells here h =
       let t = wrapper_at-taken (region_of frames) code c w small h in
       let all : ((16 * 14 + code) ∷ t.head) ++ (t.len ++ w.1.rest) ≡ head ++ (len ++ tail) =
-      ap (λ (l : List ℕ). (16 * 14 + code) ∷ l) (sym (append_assoc t.head t.len w.1.rest) ∙ sym t.took.parts) ∙ here
-      in
+      ap (λ (l : List ℕ). (16 * 14 + code) ∷ l) (sym (append_assoc t.head t.len w.1.rest) ∙ sym t.took.parts) ∙ here in
       let lengths = same-descriptor 14 (length t.len + t.ids_length + t.rest_length) whole ((16 * 14 + code) ∷ t.head) head (t.len ++ w.1.rest) (len ++ tail) t.descriptor d all in
       let number = same-number t.ids_length n t.len len w.1.rest tail t.spells spells lengths.1 in
       (number.1, omega (arith, t.ids_end, number.0))
@@ -272,8 +261,7 @@ module _ (limits : Rules) (frames : List Frame) where
       let headed = Descriptor-headed 14 whole head d in
       let all : b ∷ c.rest ≡ (16 * 14 + headed.length_code) ∷ (headed.more ++ (len ++ tail)) = here ∙ ap (λ (l : List ℕ). l ++ (len ++ tail)) headed.is in
       let first : b ≡ 16 * 14 + headed.length_code = cc all in
-      let some : wrapper_length (shape_of b) ≡ Some headed.length_code =
-      ap (λ (b : ℕ). wrapper_length (shape_of b)) first
+      let some : wrapper_length (shape_of b) ≡ Some headed.length_code = ap (λ (b : ℕ). wrapper_length (shape_of b)) first
       ∙ ap wrapper_length (shape_of-parts 14 headed.length_code (omega (arith, headed.small)) ∙ wrapper_shape-long headed.length_code headed.small (kept-long headed.length_code whole headed.more headed.kept long))
       in
       let none : None ≡ Some headed.length_code = sym is ∙ some in
@@ -358,8 +346,7 @@ next-stops : (limits : Rules) (s : State) (top place : ℕ) (x : List ℕ) → 0
 unfolding step
 next-stops limits s top place x some n refuses =
     let long : length s.cursor.rest ≡ length n.name + (length x + length n.rest) =
-    ap length n.split ∙ length-append n.name (x ++ n.rest) ∙ ap (λ (k : ℕ). length n.name + k) (length-append x n.rest)
-    in
+    ap length n.split ∙ length-append n.name (x ++ n.rest) ∙ ap (λ (k : ℕ). length n.name + k) (length-append x n.rest) in
     step_in-stops limits s.frames top s.cursor n.inside (omega (arith, long, some)) (λ y h.
     member-refused limits s.frames top s.cursor n.field n.name (x ++ n.rest) y n.field_is n.split (λ top f d here. refuses top f d y here) h)
 
@@ -410,22 +397,20 @@ module _ (shrinks : Shrinking) (limits wide : Rules) (within : AreWithin limits 
   reads-end : (s t : State) (items : List PlacedItem) → Reads wide s items t → IsStop (step limits t) → EndsAtFault (read_from limits s)
   unfolding read_from
   reads-end _ t _ (Reads.nothing s) stop = stop-ends s stop
-  reads-end _ t _ (Reads.gives s u v item items e more) stop =
-      elim (cut-step limits wide _ _ (step-Cut limits wide within s)) [
-        | inl same ↦ (
-            let rest = reads-end u t items more stop in
-            let one : read_from limits s ≡ More item (read_from limits u) = reading_by-step (step limits) size (shrinks limits) s ∙ ap (next_reading (reading_by (step limits) size)) (same ∙ e) in
-            (rest.0, rest.1, ap ending_of one ∙ rest.2))
-        | inr now ↦ stop-ends s now
-      ]
-  reads-end _ t _ (Reads.goes_on s u v items e more) stop =
-      elim (cut-step limits wide _ _ (step-Cut limits wide within s)) [
-        | inl same ↦ (
-            let rest = reads-end u t items more stop in
-            let one : read_from limits s ≡ read_from limits u = reading_by-step (step limits) size (shrinks limits) s ∙ ap (next_reading (reading_by (step limits) size)) (same ∙ e) in
-            (rest.0, rest.1, ap ending_of one ∙ rest.2))
-        | inr now ↦ stop-ends s now
-      ]
+  reads-end _ t _ (Reads.gives s u v item items e more) stop = elim (cut-step limits wide _ _ (step-Cut limits wide within s)) [
+    | inl same ↦ (
+        let rest = reads-end u t items more stop in
+        let one : read_from limits s ≡ More item (read_from limits u) = reading_by-step (step limits) size (shrinks limits) s ∙ ap (next_reading (reading_by (step limits) size)) (same ∙ e) in
+        (rest.0, rest.1, ap ending_of one ∙ rest.2))
+    | inr now ↦ stop-ends s now
+  ]
+  reads-end _ t _ (Reads.goes_on s u v items e more) stop = elim (cut-step limits wide _ _ (step-Cut limits wide within s)) [
+    | inl same ↦ (
+        let rest = reads-end u t items more stop in
+        let one : read_from limits s ≡ read_from limits u = reading_by-step (step limits) size (shrinks limits) s ∙ ap (next_reading (reading_by (step limits) size)) (same ∙ e) in
+        (rest.0, rest.1, ap ending_of one ∙ rest.2))
+    | inr now ↦ stop-ends s now
+  ]
 
 -- where a limit is passed after a path, a reading stops
 passed-ends : Bodies → Shrinking → (limits : Rules) (bytes : List ℕ) (path : Path SymbolAt ℕ) (s : State) (reason : Reason) (place : ℕ) → At bytes path s
@@ -439,8 +424,7 @@ passed-ends bodies shrinks limits bytes path s reason place at passes =
     (Spells-allowed wide path s.frames spelled.before spelled.spells (omega (arith, short)) (omega (arith, short)) (all-permitted wide refl (path_items path))) s.cursor.rest in
     let stop = passed-stops limits s there.0 place reason passes in
     let here : IsStop (step limits (state s.frames there.0 (cursor_at (length spelled.before) s.cursor.rest))) =
-    subst (λ (q : ℕ). IsStop (step limits (state s.frames there.0 (cursor_at q s.cursor.rest)))) spelled.place stop
-    in
+    subst (λ (q : ℕ). IsStop (step limits (state s.frames there.0 (cursor_at q s.cursor.rest)))) spelled.place stop in
     let ends = reads-end shrinks limits wide within (start (spelled.before ++ s.cursor.rest)) _ (path_items path) there.2 here in (
       ends.0,
       ends.1,

@@ -22,14 +22,12 @@ wrapped-length [] x = refl
 wrapped-length (a ∷ more) x = headed-length 14 ((a ∷ more) ++ x) ∙ ap (λ n. header_size n + n) (length-append (a ∷ more) x)
 
 closed-length : (c : Unclosed) (x : List ℕ) → length (closed_with c x) ≡ closed_size c (length x)
-closed-length c x =
-    length-append c.field (wrapped c.annotations (headed c.code x))
+closed-length c x = length-append c.field (wrapped c.annotations (headed c.code x))
     ∙ ap (λ n. length c.field + n) (wrapped-length c.annotations (headed c.code x) ∙ ap (wrapped_size c.annotations) (headed-length c.code x))
 
 all-length : (cs : List Unclosed) (x : List ℕ) → length (all_closed cs x) ≡ all_size cs (length x)
 all-length [] x = refl
-all-length (c ∷ cs) x =
-    all-length cs (closed_with c (c.body ++ x))
+all-length (c ∷ cs) x = all-length cs (closed_with c (c.body ++ x))
     ∙ ap (all_size cs) (closed-length c (c.body ++ x) ∙ ap (closed_size c) (length-append c.body x))
 
 -- ---- by places
@@ -67,8 +65,7 @@ one-more (a ∷ more) cs g b n m l around e =
     ∙ (around (g + (k + (b + n))) ((m + h) + x) e ∙ ap (all_size cs) (wrapped-sum g k b n m h x)))
 
 unheaded-length : (c : Unclosed) (cs : List Unclosed) → length (unheaded (c ∷ cs)) ≡ length (unheaded cs) + (length c.field + (length c.annotations + length c.body))
-unheaded-length c cs =
-    length-append (unheaded cs) (c.field ++ (c.annotations ++ c.body))
+unheaded-length c cs = length-append (unheaded cs) (c.field ++ (c.annotations ++ c.body))
     ∙ ap (λ i. length (unheaded cs) + i) (length-append c.field (c.annotations ++ c.body) ∙ ap (λ i. length c.field + i) (length-append c.annotations c.body))
 
 around-it : (f g k b n l u : ℕ) → u ≡ f + (g + (k + b)) → l ≡ u + n → l ≡ f + (g + (k + (b + n)))
@@ -79,16 +76,14 @@ nothing-open l n m e = omega (arith, e)
 
 sized : (cs : List Unclosed) (l : ℕ) → IsSized cs l
 sized [] l n m e = nothing-open l n m e
-sized (c ∷ cs) l n m e =
-    one-more c.annotations cs (length c.field) (length c.body) n m l (sized cs l)
+sized (c ∷ cs) l n m e = one-more c.annotations cs (length c.field) (length c.body) n m l (sized cs l)
     (around-it (length (unheaded cs)) (length c.field) (length c.annotations) (length c.body) n l (length (unheaded (c ∷ cs))) (unheaded-length c cs) e)
 
 no-more : (n : ℕ) → n + 0 ≡ n
 no-more n = omega arith
 
 pub closed_size_by_places : ClosedSizeByPlaces
-closed_size_by_places cs x =
-    sized cs (length (unheaded cs) + length x) (length x) 0 refl
+closed_size_by_places cs x = sized cs (length (unheaded cs) + length x) (length x) 0 refl
     ∙ (ap (all_size cs) (no-more (length x)) ∙ sym (all-length cs x))
 
 -- ---- by counts
@@ -155,11 +150,10 @@ IsCountOf n t (x ∷ xs) = ((length xs < n → t ≤ x) × (n ≤ length xs → 
 
 low : (x n t : ℕ) (xs : List ℕ) → AllByRecursion (λ y. x ≤ y) xs → IsSettledAt n t xs → n < length xs → x < t
 low x n t [] a s h = absurd (omega (arith, h))
-low x n t (y ∷ ys) a s h =
-    elim (cases_lt n (length ys)) [
-      | inl more ↦ low x n t ys a.1 s.1.1 more
-      | inr few ↦ let e : length ys ≡ n = omega (arith, h, few) in omega (arith, a.0, s.1.0 e)
-    ]
+low x n t (y ∷ ys) a s h = elim (cases_lt n (length ys)) [
+  | inl more ↦ low x n t ys a.1 s.1.1 more
+  | inr few ↦ let e : length ys ≡ n = omega (arith, h, few) in omega (arith, a.0, s.1.0 e)
+]
 
 all-counted : (b n t : ℕ) (xs : List ℕ) → AllByRecursion (λ y. b ≤ y) xs → Ascend xs → IsSettledAt n t xs → (length xs < n → t ≤ b) → IsCountOf n t xs
 all-counted b n t [] a u s f = tt
@@ -272,20 +266,19 @@ size-5 x l h =
     (ap suc (var-long x 4 (omega (arith, l)) (omega (arith, h))))
 
 pub size-reached : (x : ℕ) → x < 2 ^ 35 → IsReached x
-size-reached x h =
-    elim (cases_lt x 14) [
-      | inl a ↦ size-0 x a
-      | inr a ↦ elim (cases_lt x 128) [
-        | inl b ↦ size-1 x a b
-        | inr b ↦ elim (cases_lt x 16384) [
-          | inl c ↦ size-2 x b c
-          | inr c ↦ elim (cases_lt x 2097152) [
-            | inl d ↦ size-3 x c d
-            | inr d ↦ elim (cases_lt x 268435456) [ inl e ↦ size-4 x d e | inr e ↦ size-5 x e h ]
-          ]
-        ]
+size-reached x h = elim (cases_lt x 14) [
+  | inl a ↦ size-0 x a
+  | inr a ↦ elim (cases_lt x 128) [
+    | inl b ↦ size-1 x a b
+    | inr b ↦ elim (cases_lt x 16384) [
+      | inl c ↦ size-2 x b c
+      | inr c ↦ elim (cases_lt x 2097152) [
+        | inl d ↦ size-3 x c d
+        | inr d ↦ elim (cases_lt x 268435456) [ inl e ↦ size-4 x d e | inr e ↦ size-5 x e h ]
       ]
     ]
+  ]
+]
 
 -- six octets at most
 reached-few : (ts : List ℕ) (x : ℕ) → reached ts x ≤ 1 + length ts

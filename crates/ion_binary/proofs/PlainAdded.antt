@@ -25,9 +25,7 @@ pub adds-taken : {A O : Type 0} (old new : BinWriter A) (before after : Counts) 
     → AddsPlain old new before after item result → TakesPlain old new before after sink sink item result
 adds-taken old new before after sink item result p = record {
   held = λ e. held-inside (held_in new) new.open_value.headers refl (p.inside e) ∙ ap (λ (h : Held). value_held h h.headers h.octets) (p.held e);
-  puts = λ e.
-      sym
-      (ap (λ (x : List ℕ). sink.pending ++ x)
+  puts = λ e. sym (ap (λ (x : List ℕ). sink.pending ++ x)
       (ap (λ (h : Held). value_put h h.headers h.octets) (sym (p.held e)) ∙ put-inside (held_in new) new.open_value.headers new.open_value.octets.all (p.inside e))
       ∙ append-nil sink.pending);
   is_open = p.is_open;
@@ -170,8 +168,7 @@ member-noted {A} w v before after item result name notes x c some whole kf ka kh
     let octets : noted_by name notes x ≡ member_octets (id_in texts) (user_item item).field (user_item item).annotations (head_octets (id_in texts) (user_item item).head) =
     ap (λ (y : List ℕ). y ++ wrapped (counted_ids notes) x) ef
     ∙ ap (λ (y : List ℕ). field_octets (id_in texts) (user_item item).field ++ y) (ap (λ (y : List ℕ). wrapped y x) ea ∙ ap (wrapped (annotation_octets (id_in texts) (user_item item).annotations)) eh) in
-    plain-added w v before after item result c known (inl some) (λ e. omega (arith, long, some))
-    (λ e.
+    plain-added w v before after item result c known (inl some) (λ e. omega (arith, long, some)) (λ e.
     ap (λ (hs : List HeaderPlace). record (held_in w) { octets = v.octets.all; headers = hs }) a.headers
     ∙ scalar-added (held_in w) item v.octets.all known whole (a.octets e ∙ ap (λ (y : List ℕ). w.open_value.octets.all ++ y) octets))
     a.is_open a.declines a.stepped
@@ -229,8 +226,7 @@ module _ (texts : List (List ℕ)) (o : Option TextAt) (one : TextAt) (t : List 
       let a : List ℕ = var_uint_octets (id_in texts (Known one.text.now)) in
       let b : List ℕ = var_uint_octets (id_in texts (Known t)) in
       let P : Option TextAt → Type 0 = λ n. x ++ y ≡ id_octets (id_in texts) (map user_symbol_at (listed (option_map placed_text n) ++ after ∷ [])) in
-      subst P (sym there)
-      (ap (λ (z : List ℕ). z ++ y) (ex ∙ ap var_uint_octets (known-is texts one.text.now first ef))
+      subst P (sym there) (ap (λ (z : List ℕ). z ++ y) (ex ∙ ap var_uint_octets (known-is texts one.text.now first ef))
       ∙ ap (λ (z : List ℕ). a ++ z) (ey ∙ (ap var_uint_octets (known-is texts t second es) ∙ sym (append-nil b))))
 
 -- ---- containers begin and end
@@ -285,8 +281,7 @@ ended-single w item may head =
 module _ {A O : Type 0} (old new : BinWriter A) (before after : Counts) (sink put : Outgoing O) (s : Written) (item : PlacedItem)
     (p : TakesPlain old new before after sink put item true) (comes : ComesAt old s item) where
   taken-begun : held_in old ≡ held_forgotten old.limits.symbols (held_of s) (user_item item).head
-  taken-begun =
-      sym (kept old.limits.symbols (held_in old) old.open_value.headers (p.keeps refl))
+  taken-begun = sym (kept old.limits.symbols (held_in old) old.open_value.headers (p.keeps refl))
       ∙ forgotten-is old.limits.symbols s (held_in old) (user_item item).head comes.0.held comes.1.value
 
   taken-passes : refused_at old.limits s item ≡ None
@@ -304,9 +299,7 @@ module _ {A O : Type 0} (old new : BinWriter A) (before after : Counts) (sink pu
   }
 
   pub taken-puts : put.pending ≡ sink.pending ++ adds_at old.limits s item
-  taken-puts =
-      p.puts refl
-      ∙ ap (λ (x : List ℕ). sink.pending ++ x)
+  taken-puts = p.puts refl ∙ ap (λ (x : List ℕ). sink.pending ++ x)
       (put-then old.limits.symbols old.limits.depth s item (held_in old) taken-begun comes.0.codes comes.1
       ∙ ap (λ (r : Option (Reason × ℕ)). unless_refused r (item_puts old.limits.symbols s (user_item item))) (sym taken-passes))
 

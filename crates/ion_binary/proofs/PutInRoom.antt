@@ -21,22 +21,19 @@ room-stepped limits v w m n x true can same longer grows declines room kept =
       within = record { octets = omega (arith, long, sum, room); headers = omega (arith, few, late, before); costed = costed; room = omega (arith, few, late, can.within.room, kept) };
       memory = record { memory = λ e. absurd (Prim.cc e); counted = λ e. g.refused };
       alone = λ f e. absurd (Prim.cc e);
-      charges =
-          record {
-            held = omega (arith, g.held, cost, few);
-            share = omega (arith, costed.most, long, sum, few, late, room, before);
-            peak = omega (arith, g.held, g.peak, cost, costed.most, long, sum, few, late, held, room, before);
-            rises = omega (arith, g.peak);
-          };
+      charges = record {
+        held = omega (arith, g.held, cost, few);
+        share = omega (arith, costed.most, long, sum, few, late, room, before);
+        peak = omega (arith, g.held, g.peak, cost, costed.most, long, sum, few, late, held, room, before);
+        rises = omega (arith, g.peak);
+      };
     }
 room-stepped {A} limits v w m n x false can same longer grows declines room kept =
     let d = declines refl in
     let few : length w.headers ≡ length v.headers = ap (λ (hs : List HeaderPlace). length hs) same in
     let short = can.within.octets in
     let After : Content → Counts → Type 0 = λ c o. Stepped {A = A} limits v (record w { octets = c }) m o None in
-    subst (After w.octets) (sym d.1)
-    (subst (λ (c : Content). After c m) (sym d.0)
-    (record {
+    subst (After w.octets) (sym d.1) (subst (λ (c : Content). After c m) (sym d.0) (record {
       within = record { octets = short; headers = omega (arith, few, can.within.headers); costed = can.within.costed; room = omega (arith, few, can.within.room, kept) };
       memory = record { memory = λ e. absurd (Prim.cc e); counted = λ e. refl };
       alone = λ f e. absurd (Prim.cc e);
@@ -100,13 +97,12 @@ begun-stepped limits v w m n x can longer more g room deep kept =
       };
       memory = record { memory = λ e. absurd (Prim.cc e); counted = λ e. g.refused };
       alone = λ f e. absurd (Prim.cc e);
-      charges =
-          record {
-            held = omega (arith, g.held, cost, more);
-            share = omega (arith, costed.most, long, sum, more, late, room, deep);
-            peak = omega (arith, g.held, g.peak, cost, costed.most, long, sum, more, late, held, room, deep);
-            rises = omega (arith, g.peak);
-          };
+      charges = record {
+        held = omega (arith, g.held, cost, more);
+        share = omega (arith, costed.most, long, sum, more, late, room, deep);
+        peak = omega (arith, g.held, g.peak, cost, costed.most, long, sum, more, late, held, room, deep);
+        rises = omega (arith, g.peak);
+      };
     }
 
 -- none begins where a call declines
@@ -114,8 +110,7 @@ pub begun-not : {A : Type 0} {limits : Limits} {v : OpenValue A} {y : Content} {
     → (hs ≡ v.headers) × ((y ≡ v.octets) × (n ≡ m)) → Begins limits x kind v (record v { octets = y; headers = hs }) m n false
 begun-not {A} {limits} {v} {y} {hs} {m} {n} {x} {kind} can same =
     let B : List HeaderPlace → Content → Counts → Type 0 = λ gs c o. Begins {A = A} limits x kind v (record v { octets = c; headers = gs }) m o false in
-    subst (λ (gs : List HeaderPlace). B gs y n) (sym same.0)
-    (subst (λ (c : Content). B v.headers c n) (sym same.1.0)
+    subst (λ (gs : List HeaderPlace). B gs y n) (sym same.0) (subst (λ (c : Content). B v.headers c n) (sym same.1.0)
     (subst (λ (o : Counts). B v.headers v.octets o) (sym same.1.1) (not-begun {A = A} {x = x} can)))
 
 -- octets that are the same

@@ -102,8 +102,7 @@ read_by-parts limits a (Shape.nop_pad length_code) c within none =
     bind-parts limits (length_at length_code a.region c) (λ n. found_by limits a (Shape.nop_pad length_code) n.1.place n.0) (λ n. refuse (passes a.region n.1.place n.0) Overrun >> pad_at n.0 n.1)
     (λ n. then-bind (refuse (passes a.region n.1.place n.0) Overrun) (Ok (found.NopPad n.0)) (λ f. rest_at limits f n.1))
 read_by-parts limits a (Shape.wrapper length_code) c within none = absurd (cc none)
-read_by-parts limits a (Shape.body type_code length_code) c within none =
-    scalar-parts limits a type_code length_code c
+read_by-parts limits a (Shape.body type_code length_code) c within none = scalar-parts limits a type_code length_code c
 read_by-parts limits a (Shape.container k length_code) c within none =
     bind-parts limits (length_at length_code a.region c) (λ n. begun limits a k n.1.place n.0) (λ n. begin_at limits a k n.0 n.1) (λ n. begin-parts limits a k n.0 n.1)
 read_by-parts limits a Shape.sorted c within none =

@@ -69,10 +69,8 @@ module _ (limits : Rules) where
       (either-fine (nat_eq t 3) _ _ (with-fine value.int (int_of_bytes true body) (λ x place. tt))
       (either-fine (nat_eq t 5) _ _ (with-fine value.decimal (decimal_of_bytes body) (λ x place. tt))
       (either-fine (nat_eq t 6) _ _ (with-fine value.timestamp (timestamp_of_bytes body) (λ x place. tt))
-      (either-fine (nat_eq t 7) _ _ (λ place. tt)
-      (either-fine (nat_eq t 8) _ _ (string-fine (is_utf8 body) body)
-      (either-fine (nat_eq t 9) _ _ (λ place. tt)
-      (either-fine (nat_eq t 10) _ _ (λ place. tt) tt))))))))
+      (either-fine (nat_eq t 7) _ _ (λ place. tt) (either-fine (nat_eq t 8) _ _ (string-fine (is_utf8 body) body)
+      (either-fine (nat_eq t 9) _ _ (λ place. tt) (either-fine (nat_eq t 10) _ _ (λ place. tt) tt))))))))
 
   -- where floats are read, each scalar is
   any-fine : limits.floats ≡ true → (o : Result (Scalar Symbol) Reason) → IfOk o Fine
@@ -103,9 +101,7 @@ module _ (limits : Rules) where
 
   sized-fine : (a : Around) (t n : ℕ) (c : Cursor) → IfOk (scalar_of_body t (take n c.rest)) Fine → IfOk (body_at limits a t n c) FinePart
   unfolding body_at
-  sized-fine a t n c h =
-      if-next FinePart (fits a c.place n) _
-      (if-passed FinePart (nat_lt limits.scalar n) reason.ScalarLimit _
+  sized-fine a t n c h = if-next FinePart (fits a c.place n) _ (if-passed FinePart (nat_lt limits.scalar n) reason.ScalarLimit _
       (λ _. if-passed FinePart (nat_lt (length c.rest) n) reason.Truncated _
       (λ _. if-then Fine FinePart (scalar_of_body t (take n c.rest)) _ h (λ v k. k))))
 

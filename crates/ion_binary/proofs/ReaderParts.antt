@@ -199,15 +199,14 @@ stepped-cleared device item ended old new notes a b c result none less s =
       limits = s.limits;
       done = s.done;
       failed = s.failed;
-      causes =
-          record {
-            memory = λ e. let m = s.causes.memory e in omega (arith, m, refused);
-            counted = λ k. s.causes.counted k ∙ refused;
-            device = s.causes.device;
-            steady = s.causes.steady;
-            limit = s.causes.limit;
-            no_writes = s.causes.no_writes;
-          };
+      causes = record {
+        memory = λ e. let m = s.causes.memory e in omega (arith, m, refused);
+        counted = λ k. s.causes.counted k ∙ refused;
+        device = s.causes.device;
+        steady = s.causes.steady;
+        limit = s.causes.limit;
+        no_writes = s.causes.no_writes;
+      };
       charges = record {
         held = omega (arith, held, gone, none);
         share = x.share;

@@ -32,15 +32,13 @@ texts-closed m tops first last (outermost annotations p k ms) add more h =
     let kept : List (List ℕ) = texts_left m (texts_after m [] tops) in
     let own : List UserSymbol = annotations ++ [] in
     texts-last m [] tops (tree first annotations p (container k (add ms) last))
-    ∙ (ap (λ (ss : List UserSymbol). with_symbols kept (own ++ ss)) (h ms)
-    ∙ (with_symbols-append kept own (members_symbols ms ++ more)
+    ∙ (ap (λ (ss : List UserSymbol). with_symbols kept (own ++ ss)) (h ms) ∙ (with_symbols-append kept own (members_symbols ms ++ more)
     ∙ with_symbols-append (with_symbols kept own) (members_symbols ms) more))
 texts-closed m tops first last (inner around f annotations p k ms) add more h =
     let t : List (List ℕ) = open_texts m tops around in
     let own : List UserSymbol = field_symbols f ++ (annotations ++ []) in
     texts-closed m tops first last around (λ before. member before f annotations p (container k (add ms) last)) (own ++ members_symbols (add ms)) (λ before. refl)
-    ∙ (ap (λ (ss : List UserSymbol). with_symbols t (own ++ ss)) (h ms)
-    ∙ (with_symbols-append t own (members_symbols ms ++ more)
+    ∙ (ap (λ (ss : List UserSymbol). with_symbols t (own ++ ss)) (h ms) ∙ (with_symbols-append t own (members_symbols ms ++ more)
     ∙ with_symbols-append (with_symbols t own) (members_symbols ms) more))
 
 -- nothing is added
@@ -50,8 +48,7 @@ texts-nest m tops first last nest = texts-closed m tops first last nest (λ ms. 
 
 -- a member more
 texts-member : (m : ℕ) (tops : List (Top UserSymbol ℕ)) (first last : ℕ) (nest : Nest UserSymbol ℕ) (f : Option UserSymbol) (annotations : List UserSymbol)
-    (p : ℕ) (v : Value UserSymbol ℕ)
-    → texts_after m [] (closing last (opened tops first (path.with_member nest f annotations p v)))
+    (p : ℕ) (v : Value UserSymbol ℕ) → texts_after m [] (closing last (opened tops first (path.with_member nest f annotations p v)))
     ≡ with_symbols (open_texts m tops nest) (value_symbols f annotations v)
 texts-member m tops first last (outermost own q k ms) f annotations p v =
     texts-closed m tops first last (outermost own q k ms) (λ before. member before f annotations p v) (value_symbols f annotations v) (λ before. refl)
@@ -62,8 +59,7 @@ texts-member m tops first last (inner around g own q k ms) f annotations p v =
 texts-end : (m : ℕ) (tops : List (Top UserSymbol ℕ)) (first last : ℕ) (nest : Nest UserSymbol ℕ) (p : ℕ)
     → texts_after m [] (closing last (path.with_end tops first nest p)) ≡ open_texts m tops nest
 texts-end m tops first last (outermost own q k ms) p = texts-nest m tops first p (outermost own q k ms)
-texts-end m tops first last (inner around g own q k ms) p =
-    texts-member m tops first last around g own q (container k ms p)
+texts-end m tops first last (inner around g own q k ms) p = texts-member m tops first last around g own q (container k ms p)
     ∙ with_symbols-append (open_texts m tops around) (field_symbols g ++ (own ++ [])) (members_symbols ms)
 
 -- ---- where an item may stand
@@ -73,9 +69,7 @@ abbrev IsNext : Path UserSymbol ℕ → UserItem → Type 0
 IsNext p i = path_items (with_item p i) ≡ path_items p ++ i ∷ []
 
 not-longer : (xs : List UserItem) (i : UserItem) → xs ≡ xs ++ i ∷ [] → ⊥
-not-longer xs i e =
-    let n : length xs ≡ length xs + 1 = ap length e ∙ length-append xs (i ∷ []) in
-    omega (arith, n)
+not-longer xs i e = let n : length xs ≡ length xs + 1 = ap length e ∙ length-append xs (i ∷ []) in omega (arith, n)
 
 top_items-last : (ts : List (Top UserSymbol ℕ)) (t : Top UserSymbol ℕ) → top_items (ts ++ t ∷ []) ≡ top_items ts ++ one_top t
 top_items-last [] t = append-nil (one_top t)
@@ -95,13 +89,11 @@ nest_items-member first (inner around g own q k ms) f annotations p v =
 -- what ends a container is an item without a field and without annotations
 end-items : (tops : List (Top UserSymbol ℕ)) (first : ℕ) (nest : Nest UserSymbol ℕ) (p : ℕ)
     → path_items (path.with_end tops first nest p) ≡ path_items (opened tops first nest) ++ bare_item value.end p first ∷ []
-end-items tops first (outermost annotations q k ms) p =
-    top_items-last tops (tree first annotations q (container k ms p))
+end-items tops first (outermost annotations q k ms) p = top_items-last tops (tree first annotations q (container k ms p))
     ∙ sym (append_assoc (top_items tops) (nest_items first (outermost annotations q k ms)) (bare_item value.end p first ∷ []))
 end-items tops first (inner around f annotations q k ms) p =
     let end : List UserItem = bare_item value.end p first ∷ [] in
-    ap (λ (is : List UserItem). top_items tops ++ is)
-    (nest_items-member first around f annotations q (container k ms p)
+    ap (λ (is : List UserItem). top_items tops ++ is) (nest_items-member first around f annotations q (container k ms p)
     ∙ sym (append_assoc (nest_items first around) (begin_item first f annotations q k ∷ member_items first ms) end))
     ∙ sym (append_assoc (top_items tops) (nest_items first (inner around f annotations q k ms)) end)
 
@@ -149,8 +141,7 @@ refused-first : (limits : Limits) (tops : List (Top UserSymbol ℕ)) (f : Option
     ≡ refused_after limits (closed tops) (placed f annotations p top h)
 refused-first limits tops (Some s) annotations p top (value.whole body) next =
     absurd (has-field (user_symbol_at s) (ap first_field (only-item tops (tree top (map user_symbol_at annotations) p (scalar (map_scalar user_symbol_at body))) (user_item (placed (Some s) annotations p top (value.whole body))) next)))
-refused-first limits tops (Some s) annotations p top (value.begin k) next =
-    absurd (has-field (user_symbol_at s)
+refused-first limits tops (Some s) annotations p top (value.begin k) next = absurd (has-field (user_symbol_at s)
     (ap first_field (append_cancel_left (top_items tops) (begin_item top None (map user_symbol_at annotations) p k ∷ []) (user_item (placed (Some s) annotations p top (value.begin k)) ∷ []) next)))
 refused-first limits tops f annotations p top value.end next = absurd (not-longer (top_items tops) _ next)
 refused-first limits tops (Some s) annotations p top value.marker next =
@@ -177,8 +168,7 @@ refused-first limits tops None annotations p top (value.begin k) next =
     let i : UserItem = user_item item in
     let v : Value UserSymbol ℕ = container k nothing p in
     ap (λ (b : Written). judged limits item (length (all_closed b.open_containers (own_octets (id_in (with_symbols b.texts (item_symbols i))) None i.annotations i.head))) b.texts)
-    (forgotten (is_over m t) t (binary m tops))
-    ∙ ap (λ n. judged limits item n (texts_left m t))
+    (forgotten (is_over m t) t (binary m tops)) ∙ ap (λ n. judged limits item n (texts_left m t))
     (size-first m tops i.annotations p top i.head v (ap (with_symbols (texts_left m t)) (sym (append-nil (i.annotations ++ [])))) (λ ids. refl))
 
 -- ---- an item where containers are open
@@ -218,8 +208,7 @@ not-marker tops first nest f annotations p top value.end next = refl
 not-marker tops first nest f annotations p top value.marker next = absurd (not-longer (path_items (opened tops first nest)) _ next)
 
 refused-inside : (limits : Limits) (tops : List (Top UserSymbol ℕ)) (first : ℕ) (nest : Nest UserSymbol ℕ) (n : ℕ) (due : Bool) (out : List ℕ)
-    (f : Option SymbolAt) (annotations : List SymbolAt) (p top : ℕ) (h : Head SymbolAt)
-    → (let item = placed f annotations p top h in
+    (f : Option SymbolAt) (annotations : List SymbolAt) (p top : ℕ) (h : Head SymbolAt) → (let item = placed f annotations p top h in
     let u = with_symbols (open_texts limits.symbols tops nest) (item_symbols (user_item item)) in
     IsNext (opened tops first nest) (user_item item)
     → refused_at limits (written (open_texts limits.symbols tops nest) n due (innermost (id_in u) nest ∷ around_it (id_in u) nest) out) item

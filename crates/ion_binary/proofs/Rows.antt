@@ -311,8 +311,7 @@ second_annotation_past_limit = refl
 
 -- the declaration of `a`, which is read within two containers and 16 octets, and no fewer of each
 abbrev declared : ℕ → ℕ → Reading
-declared depth scalar =
-    ending_of (read_after (record { depth = depth; scalar = scalar; floats = false })
+declared depth scalar = ending_of (read_after (record { depth = depth; scalar = scalar; floats = false })
     (0xEA ∷ 0x81 ∷ 0x83 ∷ 0xD7 ∷ 0x86 ∷ 0x71 ∷ 0x03 ∷ 0x87 ∷ 0xB2 ∷ 0x81 ∷ 0x61 ∷ []))
 
 declaration_within_limits : declared 2 16 ≡ Finished

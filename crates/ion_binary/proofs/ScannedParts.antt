@@ -136,8 +136,7 @@ module _ (limits : Rules) (a : Around) (end place : ℕ) (octets : List ℕ) (en
 
     module _ (free : (a.wrapped && is_unwrappable b) ≡ false) (s : Shape) (shape : shape_of b ≡ s) where
       part-shape : (more : List ℕ) → part_at limits a (window place octets more) ≡ found_at limits a s (window (place + 1) (sliced octets) more)
-      part-shape more =
-          part_at-octet limits a (window place octets more) (skip 1 (window place octets more)) b (first more)
+      part-shape more = part_at-octet limits a (window place octets more) (skip 1 (window place octets more)) b (first more)
           ∙ (ap (λ t. refuse t BadAnnotation >> found_at limits a (shape_of b) (skip 1 (window place octets more))) free
           ∙ (ap (λ t. found_at limits a t (skip 1 (window place octets more))) shape ∙ ap (found_at limits a s) (sym (window-sliced place octets more (omega (arith, some))))))
 

@@ -67,14 +67,13 @@ module _ (j n : ℕ) (negative : Bool) (small : n < 128 * 256 ^ j) where
   parts = div-add-mod' n place
 
   q-small : top < 128
-  q-small =
-      elim (cases_lt top 128) [
-        | inl less ↦ less
-        | inr more ↦
-            let times : 128 * place ≤ top * place = mul-le-mul_right place more in
-            let e = parts in
-            absurd (omega (arith, times, e, small))
-      ]
+  q-small = elim (cases_lt top 128) [
+    | inl less ↦ less
+    | inr more ↦
+        let times : 128 * place ≤ top * place = mul-le-mul_right place more in
+        let e = parts in
+        absurd (omega (arith, times, e, small))
+  ]
 
   both-parts : both ≡ (top + bit) * place + n % place
   both-parts = let e = parts in let d : (top + bit) * place ≡ top * place + bit * place = add-mul top bit place in omega (arith, e, d)
@@ -104,8 +103,7 @@ module _ (j n : ℕ) (negative : Bool) (small : n < 128 * 256 ^ j) where
         rest = rest;
         is = refl;
         sign = ap (λ (x : ℕ). leb 128 x) both-first ∙ bit-read negative top q-small;
-        magnitude =
-            ap (λ (x : ℕ). x * 256 ^ length rest + number 256 rest) off
+        magnitude = ap (λ (x : ℕ). x * 256 ^ length rest + number 256 rest) off
             ∙ (ap (λ (x : ℕ). top * x + number 256 rest) power ∙ (ap (λ (x : ℕ). top * place + x) spelled ∙ parts));
         below = let b = bit-small negative in let s = q-small in let f = both-first in omega (arith, b, s, f);
         rest_below = Below-from 256 rest (λ i lt. byte-bytes_high_first j both i (omega (arith, lt, long)));
@@ -209,15 +207,13 @@ module _ (n z : ℕ) (negative : Bool) (some : 0 < n) (small : n < 2 ^ 63) (is :
       let p : ℕ = 256 ^ z in
       let v : ℕ = n + h * 256 ^ j in
       let sum : ℕ = moved + (if negative then 2 ^ 63 else 0) in
-      let whole : sum ≡ v * p =
-      ap (λ (x : ℕ). x + (if negative then 2 ^ 63 else 0)) moved-is
+      let whole : sum ≡ v * p = ap (λ (x : ℕ). x + (if negative then 2 ^ 63 else 0)) moved-is
       ∙ (ap (λ (x : ℕ). n * p + x) (sign-moved ∙ sym (mul_assoc h (256 ^ j) p)) ∙ sym (add-mul n (h * 256 ^ j) p)) in
       let k8 : 8 - z ≡ suc j = omega (arith, f) in
       let back : 8 - (8 - z) ≡ z = omega (arith, f) in
       let down : sum / 256 ^ (8 - (8 - z)) ≡ v =
       ap (λ (i : ℕ). sum / 256 ^ i) back ∙ (ap (λ (x : ℕ). x / p) whole ∙ mul-div_cancel v power-some) in
-      ap (λ (os : List ℕ). take (8 - z) os) spelled
-      ∙ (high-part (8 - z) 8 sum (omega arith)
+      ap (λ (os : List ℕ). take (8 - z) os) spelled ∙ (high-part (8 - z) 8 sum (omega arith)
       ∙ (ap (λ (x : ℕ). bytes_high_first (8 - z) x) down
       ∙ (ap (λ (i : ℕ). bytes_high_first i v) k8 ∙ block-coefficient j n negative some within-bits least-octets)))
 

@@ -23,11 +23,10 @@ small-digit b e = grind (arith, nat_tests)
 
 small-digits : (xs : List ℕ) (k : ℕ) → get_or (map digit_value (filter is_digit xs)) k 0 < 10
 small-digits [] k = omega arith
-small-digits (x ∷ xs) k =
-    elim (cases_Bool (is_digit x)) [
-      | inl e ↦ simp e (by k (small-digit x e) (λ k. small-digits xs k))
-      | inr e ↦ simp e (small-digits xs k)
-    ]
+small-digits (x ∷ xs) k = elim (cases_Bool (is_digit x)) [
+  | inl e ↦ simp e (by k (small-digit x e) (λ k. small-digits xs k))
+  | inr e ↦ simp e (small-digits xs k)
+]
   where
     by : (k : ℕ) → digit_value x < 10 → ((k : ℕ) → get_or (map digit_value (filter is_digit xs)) k 0 < 10) → get_or (digit_value x ∷ map digit_value (filter is_digit xs)) k 0 < 10
     by zero h later = h
@@ -35,11 +34,10 @@ small-digits (x ∷ xs) k =
 
 filter-few : (xs : List ℕ) → length (filter is_digit xs) ≤ length xs
 filter-few [] = omega arith
-filter-few (x ∷ xs) =
-    elim (cases_Bool (is_digit x)) [
-      | inl e ↦ simp e (omega (arith, filter-few xs))
-      | inr e ↦ simp e (omega (arith, filter-few xs))
-    ]
+filter-few (x ∷ xs) = elim (cases_Bool (is_digit x)) [
+  | inl e ↦ simp e (omega (arith, filter-few xs))
+  | inr e ↦ simp e (omega (arith, filter-few xs))
+]
 
 spelled-lt : (xs : List ℕ) → spelled xs < 10 ^ length (filter is_digit xs)
 spelled-lt xs = subst (λ (n : ℕ). spelled xs < 10 ^ n) (length-map (filter is_digit xs) digit_value) (number-lt 10 (map digit_value (filter is_digit xs)) (λ k few. small-digits xs k))
@@ -103,19 +101,18 @@ coefficient-short true n small = signed-short true n 10 (omega arith)
 
 decimal-few : (d : Decimal) (run : List ℕ) → IsDecimal d → decimal_of_text run ≡ Ok d → length run ≤ 25 → length (decimal_body d) ≤ 16
 unfolding decimal_body
-decimal-few d run range e few =
-    elim (cases_Bool (is_nothing d)) [
-      | inl none ↦ rw none (omega arith)
-      | inr some ↦
-          let powers : 10 ^ length run ≤ 10 ^ 25 = pow-le-pow_right {n = 10} (omega arith) few in
-          let small : d.coefficient < 10 ^ 25 = omega (arith, coefficient-lt d run e, powers) in
-          let x : List ℕ = exponent_octets d.exponent in
-          let c : List ℕ = coefficient_octets d.negative d.coefficient in
-          let exponent : length x ≤ 5 = (exponent_octets-short d.exponent range.exponent).0 in
-          let coefficient : length c ≤ 11 = coefficient-short d.negative d.coefficient small in
-          let whole : length (x ++ c) ≤ 16 = omega (arith, length-append x c) in
-          rw some whole
-    ]
+decimal-few d run range e few = elim (cases_Bool (is_nothing d)) [
+  | inl none ↦ rw none (omega arith)
+  | inr some ↦
+      let powers : 10 ^ length run ≤ 10 ^ 25 = pow-le-pow_right {n = 10} (omega arith) few in
+      let small : d.coefficient < 10 ^ 25 = omega (arith, coefficient-lt d run e, powers) in
+      let x : List ℕ = exponent_octets d.exponent in
+      let c : List ℕ = coefficient_octets d.negative d.coefficient in
+      let exponent : length x ≤ 5 = (exponent_octets-short d.exponent range.exponent).0 in
+      let coefficient : length c ≤ 11 = coefficient-short d.negative d.coefficient small in
+      let whole : length (x ++ c) ≤ 16 = omega (arith, length-append x c) in
+      rw some whole
+]
 
 -- ---- timestamps
 
@@ -158,8 +155,7 @@ time-few run seconds offset few =
     let own : FewDigits run t = λ n e. let less = seconds-few (length seconds) n e in omega (arith, less, few) in
     either (FewDigits run) (has_seconds_shape seconds && has_offset_shape offset) _ _
     (either (FewDigits run) (nat_lt 38 (length (drop 4 seconds))) _ _ tt
-    (either (FewDigits run) (is_moment t && is_text_offset offset) _ _ (with_utc-few run t (utc_of t) own) tt))
-    tt
+    (either (FewDigits run) (is_moment t && is_text_offset offset) _ _ (with_utc-few run t (utc_of t) own) tt)) tt
 
 date-few : (run : List ℕ) (p : Precision) (t : Timestamp) → t.precision ≡ p → ((n : ℕ) → p ≡ Fraction n → ⊥) → IfOk (date_in_range t) (FewDigits run)
 date-few run p t is none = either (FewDigits run) (is_moment t) _ _ (no-fraction run t p is none) tt

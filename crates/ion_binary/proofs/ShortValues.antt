@@ -8,9 +8,7 @@ header-by n true few = omega arith
 header-by n false few = few
 
 header-short : (t n : ℕ) → n < 2 ^ 63 → length (header t n) ≤ 10
-header-short t n small =
-    let few = header-by n (nat_lt n 14) (var_uint_octets-VarUInt n small).short in
-    omega (arith, few)
+header-short t n small = let few = header-by n (nat_lt n 14) (var_uint_octets-VarUInt n small).short in omega (arith, few)
 
 string-short : (t : List ℕ) → length t < 2 ^ 63 → length (headed 8 t) ≤ 10 + length t
 string-short t small =

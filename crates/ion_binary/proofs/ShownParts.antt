@@ -11,8 +11,7 @@ use Rattle.ion_binary.proofs.VarLoop.{var_from-ends, var_from-goes_on, var_uint_
 
 pub var_one : (octets more : List ℕ) (at here : ℕ) (r : Region) → at < length octets → 128 ≤ get_or octets at 0 → Reaches r (here + (at + 1))
     → var_uint_at r (skip at (window here octets more)) ≡ Ok (get_or octets at 0 % 128, skip (at + 1) (window here octets more))
-var_one octets more at here r h high reaches =
-    var_uint_at-prefix r (skip at (window here octets more))
+var_one octets more at here r h high reaches = var_uint_at-prefix r (skip at (window here octets more))
     ∙ (var_from-ends 9 0 (get_or octets at 0) r _ _ (omega arith) (octet_shown octets more at here r h reaches) high ∙ ap (λ n. Ok (n, skip (at + 1) (window here octets more))) (omega arith))
 
 pub var_two : (octets more : List ℕ) (at here : ℕ) (r : Region) → at + 1 < length octets → get_or octets at 0 < 128 → 128 ≤ get_or octets (at + 1) 0 → Reaches r (here + (at + 2))

@@ -194,16 +194,15 @@ skip-spelled q b rest = ap (cursor_at (q + length b)) (drop_at b rest (length b)
 body_at-spelled : (limits : Rules) (a : Around) (t q : ℕ) (v : Scalar Symbol) (b rest : List ℕ) → scalar_of_body t b ≡ Ok v → Suits a (q + length b) → length b ≤ limits.scalar
     → body_at limits a t (length b) (cursor_at q (b ++ rest)) ≡ Ok (a_scalar v, cursor_at (q + length b) rest)
 unfolding body_at
-body_at-spelled limits a t q v b rest means h limit =
-    rw (
-      passes-not a.region q (length b) h.holds,
-      fills-not a q (length b) h,
-      le-ltb limits.scalar (length b) limit,
-      length-short b rest,
-      take_at b rest (length b) refl,
-      means,
-      drop_at b rest (length b) refl,
-    ) refl
+body_at-spelled limits a t q v b rest means h limit = rw (
+  passes-not a.region q (length b) h.holds,
+  fills-not a q (length b) h,
+  le-ltb limits.scalar (length b) limit,
+  length-short b rest,
+  take_at b rest (length b) refl,
+  means,
+  drop_at b rest (length b) refl,
+) refl
 
 scalar_at-body : (limits : Rules) (a : Around) (t length_code n : ℕ) (c d : Cursor) → length_at length_code a.region c ≡ Ok (n, d) → scalar_at limits a t length_code c ≡ body_at limits a t n d
 unfolding scalar_at
@@ -224,8 +223,7 @@ body-found limits a t q v head b headed shapes codes means h limit =
       more = headed.more ++ b;
       is = ap (λ l. l ++ b) headed.is;
       bare = ap wrapper_length shape ∙ sized.bare;
-      finds = λ rest.
-          rw (append_assoc headed.more b rest, place)
+      finds = λ rest. rw (append_assoc headed.more b rest, place)
           (typed_value_at-shape limits a (16 * t + headed.length_code) sized.shape (cursor_at (q + 1) (headed.more ++ (b ++ rest))) (both_not a.wrapped (is_unwrappable (16 * t + headed.length_code)) (λ w. free)) shape
           ∙ sized.reads a (cursor_at (q + 1) (headed.more ++ (b ++ rest)))
           ∙ scalar_at-body limits a t headed.length_code (length b) (cursor_at (q + 1) (headed.more ++ (b ++ rest))) (cursor_at (q + length head) (b ++ rest))
@@ -264,8 +262,7 @@ IsNopPad-found limits a q _ (IsNopPad.nop_pad head skipped descriptor) free h =
       more = headed.more ++ skipped;
       is = ap (λ l. l ++ skipped) headed.is;
       bare = ap wrapper_length shape;
-      finds = λ rest.
-          rw (append_assoc headed.more skipped rest, place)
+      finds = λ rest. rw (append_assoc headed.more skipped rest, place)
           (typed_value_at-shape limits a (16 * 0 + headed.length_code) (nop_pad headed.length_code) (cursor_at (q + 1) (headed.more ++ (skipped ++ rest))) (ap (λ w. w && is_unwrappable (16 * 0 + headed.length_code)) free) shape
           ∙ read_by_descriptor-nop_pad limits a headed.length_code (length skipped) (cursor_at (q + 1) (headed.more ++ (skipped ++ rest))) (cursor_at (q + length head) (skipped ++ rest))
           (headed.reads a.region q (skipped ++ rest) (Holds-before a.region (q + length head) (q + length head + length skipped) end (omega arith)))

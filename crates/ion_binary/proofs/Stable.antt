@@ -72,8 +72,7 @@ module _ (more : List ℕ) where
   var_at-Grows : (most : ℕ) (r : Region) (c : Cursor) → Grows IsEnd (extend_after more) (var_at most r c) (var_at most r (extend more c))
   unfolding var_at
   var_at-Grows zero r c = err BadVar
-  var_at-Grows (suc most) r c =
-      bind-Grows IsEnd (extend_after more) (extend_after more) _ _ _ _ (octet_at-Grows r c) (λ b.
+  var_at-Grows (suc most) r c = bind-Grows IsEnd (extend_after more) (extend_after more) _ _ _ _ (octet_at-Grows r c) (λ b.
       if-Grows IsEnd (extend_after more) (nat_lt b.0 128) _ _ _ _
       (bind-Grows IsEnd (extend_after more) (extend_after more) _ _ _ _ (var_at-Grows most r b.1) (λ v. ok (b.0 ∷ v.0, v.1)))
       (ok (b.0 ∷ [], b.1)))
@@ -150,8 +149,7 @@ module _ (limits : Rules) (more : List ℕ) where
 
   begin_at-Grows : (a : Around) (k : Kind) (n : ℕ) (c : Cursor) → Grows IsEnd (extend_after more) (begin_at limits a k n c) (begin_at limits a k n (extend more c))
   unfolding begin_at
-  begin_at-Grows a k n c =
-      then-Grows IsEnd (extend_after more) (fits a c.place n) _ _
+  begin_at-Grows a k n c = then-Grows IsEnd (extend_after more) (fits a c.place n) _ _
       (then-Grows IsEnd (extend_after more) (refuse (nat_le limits.depth a.depth) DepthLimit) _ _ (ok (a_container k (c.place + n), c)))
 
   container_at-Grows : (a : Around) (k : Kind) (length_code : ℕ) (c : Cursor)
@@ -162,8 +160,7 @@ module _ (limits : Rules) (more : List ℕ) where
 
   sorted_at-Grows : (a : Around) (c : Cursor) → Grows IsEnd (extend_after more) (sorted_at limits a c) (sorted_at limits a (extend more c))
   unfolding sorted_at
-  sorted_at-Grows a c =
-      bind-Grows IsEnd (extend_after more) (extend_after more) _ _ _ _ (var_uint_at-Grows more a.region c)
+  sorted_at-Grows a c = bind-Grows IsEnd (extend_after more) (extend_after more) _ _ _ _ (var_uint_at-Grows more a.region c)
       (λ n. then-Grows IsEnd (extend_after more) _ _ _ (begin_at-Grows a kind.Struct n.0 n.1))
 
   read_by_descriptor-Grows : (a : Around) (s : Shape) (c : Cursor)
@@ -198,8 +195,7 @@ module _ (limits : Rules) (more : List ℕ) where
   ids_at-Grows : (most end count : ℕ) (c : Cursor) → Grows IsPlacedEnd (extend_after more) (ids_at most limits end count c) (ids_at most limits end count (extend more c))
   unfolding ids_at
   ids_at-Grows zero end count c = ok ([], c)
-  ids_at-Grows (suc most) end count c =
-      if-Grows IsPlacedEnd (extend_after more) (nat_le end c.place) _ _ _ _ (ok ([], c))
+  ids_at-Grows (suc most) end count c = if-Grows IsPlacedEnd (extend_after more) (nat_le end c.place) _ _ _ _ (ok ([], c))
       (bind-Grows IsPlacedEnd (extend_after more) (extend_after more) _ _ _ _ (part-Grows (extend_after more) c.place _ _ (var_uint_at-Grows more (Some end) c)) (λ i.
       then-Grows IsPlacedEnd (extend_after more) _ _ _
       (bind-Grows IsPlacedEnd (extend_after more) (extend_after more) _ _ _ _ (ids_at-Grows most end (count + 1) i.1) (λ others.
@@ -327,8 +323,7 @@ module _ (limits : Rules) (more : List ℕ) where
         → reading_by (step limits) size (extend_state more s) ≡ items_then items (Stopped reason place)
     steps-stable zero s [] e = absurd (cc e)
     steps-stable zero s (item ∷ items) e = absurd (cc e)
-    steps-stable (suc steps) s items e =
-        reading_by-step (step limits) size shrinks (extend_state more s)
+    steps-stable (suc steps) s items e = reading_by-step (step limits) size shrinks (extend_state more s)
         ∙ next-stable (step limits s) (step limits (extend_state more s)) (reading_for (step limits) steps) (reading_by (step limits) size) (one_step-Grows s) (steps-stable steps) items e
 
 -- a reading that stops, and not since the bytes end, stops so whatever bytes follow

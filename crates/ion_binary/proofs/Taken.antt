@@ -74,11 +74,10 @@ not_at_end (Some end) q h = omega (arith, leb-false _ _ h)
 
 pub octet_at-taken : (r : Region) (c : Cursor) (p : ℕ × Cursor) → octet_at r c ≡ Ok p → Took r c (p.0 ∷ []) p.1
 unfolding octet_at
-octet_at-taken r c p h =
-    elim (chosen (is_at_end r c.place) _ _ _ h) [
-      | inl k ↦ not_ok _ _ k.1
-      | inr k ↦ (let o = first_octet-taken c c.rest p refl k.1 in record { parts = o.0; place = o.1; inside = λ _. rw o.1 (not_at_end r c.place k.0) })
-    ]
+octet_at-taken r c p h = elim (chosen (is_at_end r c.place) _ _ _ h) [
+  | inl k ↦ not_ok _ _ k.1
+  | inr k ↦ (let o = first_octet-taken c c.rest p refl k.1 in record { parts = o.0; place = o.1; inside = λ _. rw o.1 (not_at_end r c.place k.0) })
+]
 
 -- ---- VarUInts and lengths
 
@@ -135,15 +134,14 @@ pub record TookLength (t length_code : ℕ) (r : Region) (c : Cursor) (p : ℕ �
 
 pub length_at-taken : (t length_code : ℕ) (r : Region) (c : Cursor) (p : ℕ × Cursor) → length_code < 15 → length_at length_code r c ≡ Ok p → TookLength t length_code r c p
 unfolding length_at
-length_at-taken t length_code r c p lt h =
-    elim (chosen (eqb length_code 14) _ _ _ h) [
-      | inl k ↦ (let v = var_uint_at-taken r c p k.1 in
-          let e : length_code ≡ 14 = eqb-true _ _ k.0 in
-          record { octets = v.octets; took = v.took; spells = rw e (long v.octets v.spells) })
-      | inr k ↦ (
-          let e : (length_code, c) ≡ p = ok_is {E = Reason} _ _ k.1 in
-          subst (λ (q : ℕ × Cursor). TookLength t length_code r c q) e (record { octets = []; took = Took-none r c; spells = short (omega (arith, eqb-false _ _ k.0)) }))
-    ]
+length_at-taken t length_code r c p lt h = elim (chosen (eqb length_code 14) _ _ _ h) [
+  | inl k ↦ (let v = var_uint_at-taken r c p k.1 in
+      let e : length_code ≡ 14 = eqb-true _ _ k.0 in
+      record { octets = v.octets; took = v.took; spells = rw e (long v.octets v.spells) })
+  | inr k ↦ (
+      let e : (length_code, c) ≡ p = ok_is {E = Reason} _ _ k.1 in
+      subst (λ (q : ℕ × Cursor). TookLength t length_code r c q) e (record { octets = []; took = Took-none r c; spells = short (omega (arith, eqb-false _ _ k.0)) }))
+]
 
 -- n octets that are there
 pub skip-taken : (r : Region) (c : Cursor) (n : ℕ) → n ≤ length c.rest → (InRegion r c.place → InRegion r (c.place + n)) → Took r c (take n c.rest) (skip n c)

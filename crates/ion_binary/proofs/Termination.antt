@@ -45,8 +45,7 @@ octet_at-less r c = if-ok (Less ℕ (length c.rest)) (is_at_end r c.place) (Err 
 pub var_at-less : (n : ℕ) (r : Region) (c : Cursor) → OnOk (Less (List ℕ) (length c.rest)) (var_at n r c)
 unfolding var_at
 var_at-less zero r c = tt
-var_at-less (suc n) r c =
-    bind-ok (Less ℕ (length c.rest)) (Less (List ℕ) (length c.rest)) (octet_at r c) _ (octet_at-less r c)
+var_at-less (suc n) r c = bind-ok (Less ℕ (length c.rest)) (Less (List ℕ) (length c.rest)) (octet_at r c) _ (octet_at-less r c)
     (λ b h. if-ok (Less (List ℕ) (length c.rest)) (nat_lt b.0 128) (var_at n r b.1 >>= λ more. Ok (b.0 ∷ more.0, more.1)) (Ok (b.0 ∷ [], b.1))
     (bind-ok (Less (List ℕ) (length b.1.rest)) (Less (List ℕ) (length c.rest)) (var_at n r b.1) _ (var_at-less n r b.1) (λ more k. omega (arith, h, k))) h)
 
@@ -87,8 +86,7 @@ nop_pad_at-stays a length_code c =
 
 body_at-stays : (m : ℕ) (limits : Rules) (a : Around) (type_code n : ℕ) (c : Cursor) → length c.rest ≤ m → Stays m (body_at limits a type_code n c)
 unfolding body_at
-body_at-stays m limits a type_code n c h =
-    then-ok (NoMore TypedValue m) (fits a c.place n) _
+body_at-stays m limits a type_code n c h = then-ok (NoMore TypedValue m) (fits a c.place n) _
     (then-ok (NoMore TypedValue m) (refuse (nat_lt limits.scalar n) ScalarLimit) _
     (then-ok (NoMore TypedValue m) (refuse (nat_lt (length c.rest) n) Truncated) _
     (bind-ok (λ _. Unit {0}) (NoMore TypedValue m) (scalar_of_body type_code (take n c.rest)) (λ v. Ok (a_scalar v, skip n c)) (any (scalar_of_body type_code (take n c.rest))) (λ v _. skipped n m c h))))
@@ -99,14 +97,12 @@ body_at-stays m limits a type_code n c h =
 
 begin_at-stays : (m : ℕ) (limits : Rules) (a : Around) (k : Kind) (n : ℕ) (c : Cursor) → length c.rest ≤ m → Stays m (begin_at limits a k n c)
 unfolding begin_at
-begin_at-stays m limits a k n c h =
-    then-ok (NoMore TypedValue m) (fits a c.place n) _
+begin_at-stays m limits a k n c h = then-ok (NoMore TypedValue m) (fits a c.place n) _
     (then-ok (NoMore TypedValue m) (refuse (nat_le limits.depth a.depth) DepthLimit) (Ok (a_container k (c.place + n), c)) h)
 
 marker_at-stays : (r : Region) (c : Cursor) → Stays (length c.rest) (marker_at r c)
 unfolding marker_at
-marker_at-stays r c =
-    then-ok (NoMore TypedValue (length c.rest)) (refuse (not (is_top r)) BadDescriptor) _
+marker_at-stays r c = then-ok (NoMore TypedValue (length c.rest)) (refuse (not (is_top r)) BadDescriptor) _
     (then-ok (NoMore TypedValue (length c.rest)) (marker_rest c.rest) (Ok (a_marker, skip 3 c)) (skip-no_more 3 c))
 
 read_by_descriptor-stays : (limits : Rules) (a : Around) (s : Shape) (c : Cursor) → Stays (length c.rest) (read_by_descriptor limits a s c)
@@ -125,8 +121,7 @@ read_by_descriptor-stays limits a sorted c =
     bind-ok (Less ℕ (length c.rest)) (NoMore TypedValue (length c.rest)) (var_uint_at a.region c) _ (var_uint_at-less a.region c)
     (λ n h. then-ok (NoMore TypedValue (length c.rest)) (refuse (nat_eq n.0 0) BadDescriptor) _ (begin_at-stays (length c.rest) limits a kind.Struct n.0 n.1 (omega (arith, h))))
 read_by_descriptor-stays limits a marker c = marker_at-stays a.region c
-read_by_descriptor-stays limits a (float length_code) c =
-    then-ok (NoMore TypedValue (length c.rest)) (refuse (not limits.floats) Float) _
+read_by_descriptor-stays limits a (float length_code) c = then-ok (NoMore TypedValue (length c.rest)) (refuse (not limits.floats) Float) _
     (bind-ok (NoMore ℕ (length c.rest)) (NoMore TypedValue (length c.rest)) (length_at length_code a.region c) _ (length_at-no_more length_code a.region c)
     (λ n h. body_at-stays (length c.rest) limits a 4 n.0 n.1 h))
 read_by_descriptor-stays limits a illegal c = tt
@@ -149,8 +144,7 @@ wrapper_at-stays r length_code c =
 ids_at-stays : (n : ℕ) (limits : Rules) (end count : ℕ) (c : Cursor) → OnOk (NoMore (List SymbolAt) (length c.rest)) (ids_at n limits end count c)
 unfolding ids_at
 ids_at-stays zero limits end count c = omega arith
-ids_at-stays (suc n) limits end count c =
-    if-ok (NoMore (List SymbolAt) (length c.rest)) (nat_le end c.place) (Ok ([], c)) _ (omega arith)
+ids_at-stays (suc n) limits end count c = if-ok (NoMore (List SymbolAt) (length c.rest)) (nat_le end c.place) (Ok ([], c)) _ (omega arith)
     (bind-ok (Less ℕ (length c.rest)) (NoMore (List SymbolAt) (length c.rest)) (part c.place (var_uint_at (Some end) c)) _
     (part-ok (Less ℕ (length c.rest)) c.place (var_uint_at (Some end) c) (var_uint_at-less (Some end) c))
     (λ i h. then-ok (NoMore (List SymbolAt) (length c.rest)) (part c.place (refuse (nat_lt limits.scalar (16 * (count + 1))) AnnotationLimit)) _

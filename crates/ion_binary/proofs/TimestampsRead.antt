@@ -79,8 +79,7 @@ whole-says y m d h i s e c none small not_below =
 digits-says : (y m d h i s e c : List ℕ) (n : ℕ) → var_int_negative e ≡ true → var_int_magnitude e ≡ n → digits_after_point e ≤ 38 → int_magnitude c < 10 ^ digits_after_point e
     → (int_negative c ≡ false) ⊎ (int_magnitude c ≡ 0)
     → Says (y ∷ m ∷ d ∷ h ∷ i ∷ s ∷ e ∷ []) c (fields (second_precision (digits_after_point e)) (var_uint y) (var_uint m) (var_uint d) (var_uint h) (var_uint i) (var_uint s) (int_magnitude c))
-digits-says y m d h i s e c zero minus is few small plus =
-    whole-says y m d h i s e c (digits-minus e minus ∙ is) small (inr is)
+digits-says y m d h i s e c zero minus is few small plus = whole-says y m d h i s e c (digits-minus e minus ∙ is) small (inr is)
 digits-says y m d h i s e c (suc n) minus is few small plus =
     let digits_are : digits_after_point e ≡ suc n = digits-minus e minus ∙ is in
     let within : suc n ≤ 38 = rw digits_are at few in
@@ -138,44 +137,41 @@ record OffsetSaid (offset : Option ℤ) (o : List ℕ) : Type 0 where
 
 -- octets that are not minus zero have a plus, or spell no zero
 offset-known : (o : List ℕ) → (var_int_negative o && (var_int_magnitude o == 0)) ≡ false → (var_int_negative o ≡ false) ⊎ (0 < var_int_magnitude o)
-offset-known o h =
-    elim (and_cases (var_int_negative o) (var_int_magnitude o == 0) h) [
-      | inl plus ↦ inl plus
-      | inr some ↦ let ne = eqb-false (var_int_magnitude o) 0 some in inr (omega arith)
-    ]
+offset-known o h = elim (and_cases (var_int_negative o) (var_int_magnitude o == 0) h) [
+  | inl plus ↦ inl plus
+  | inr some ↦ let ne = eqb-false (var_int_magnitude o) 0 some in inr (omega arith)
+]
 
 -- what is read of an offset is what the grammar says of its octets
 offset-said : (o : List ℕ) → var_int_magnitude o ≤ 1439 → OffsetSaid (offset_in o) o
-offset-said o small =
-    elim (cases_Bool (var_int_negative o && (var_int_magnitude o == 0))) [
-      | inl k ↦
-          let tests = and_parts (var_int_negative o) (var_int_magnitude o == 0) k in
-          let same : offset_in o ≡ None = rw k refl in
-          rw same (record { says = unknown o tests.0 (eqb-true (var_int_magnitude o) 0 tests.1); within = tt })
-      | inr k ↦
-          let same : offset_in o ≡ Some (signed (var_int_negative o) (var_int_magnitude o)) = rw k refl in
-          rw same (record { says = known o (offset-known o k); within = signed-within (var_int_negative o) (var_int_magnitude o) small })
-    ]
+offset-said o small = elim (cases_Bool (var_int_negative o && (var_int_magnitude o == 0))) [
+  | inl k ↦
+      let tests = and_parts (var_int_negative o) (var_int_magnitude o == 0) k in
+      let same : offset_in o ≡ None = rw k refl in
+      rw same (record { says = unknown o tests.0 (eqb-true (var_int_magnitude o) 0 tests.1); within = tt })
+  | inr k ↦
+      let same : offset_in o ≡ Some (signed (var_int_negative o) (var_int_magnitude o)) = rw k refl in
+      rw same (record { says = known o (offset-known o k); within = signed-within (var_int_negative o) (var_int_magnitude o) small })
+]
 
 -- ---- the timestamp
 
 -- local time of what the fields say
 in_local_time-body : (o c : List ℕ) (others : List (List ℕ)) (utc t : Timestamp) → IsField o → AllByRecursion IsField others → Says others c utc → IsMoment utc
     → in_local_time o utc ≡ Ok t → TimestampBody t (run (o ∷ others) ++ c)
-in_local_time-body o c others utc t field are says moment e =
-    elim (cases_Bool (is_date utc.precision)) [
-      | inl is_a_date ↦
-          let same : utc ≡ t = cc (rw is_a_date at e) in
-          let none = Says-date others c utc says is_a_date in
-          rw (← same, none, append-none) (date utc o others field are (rw none at says) is_a_date moment)
-      | inr is_a_time ↦
-          let found = let_through (nat_le (var_int_magnitude o) 1439) BadTimestamp (local_of (record utc { offset = offset_in o })) t (rw is_a_time at e) in
-          let offset = offset-said o (leb-true (var_int_magnitude o) 1439 found.0) in
-          let v : Timestamp = record utc { offset = offset_in o } in
-          let v_moment : IsMoment v = record { year = moment.year; date = moment.date; hour = moment.hour; minute = moment.minute; second = moment.second } in
-          let local = rw found.1 at (local-is v v_moment offset.within).moved in
-          time utc t (offset_in o) o c others field are says is_a_time moment offset.says offset.within local.1 local.0
-    ]
+in_local_time-body o c others utc t field are says moment e = elim (cases_Bool (is_date utc.precision)) [
+  | inl is_a_date ↦
+      let same : utc ≡ t = cc (rw is_a_date at e) in
+      let none = Says-date others c utc says is_a_date in
+      rw (← same, none, append-none) (date utc o others field are (rw none at says) is_a_date moment)
+  | inr is_a_time ↦
+      let found = let_through (nat_le (var_int_magnitude o) 1439) BadTimestamp (local_of (record utc { offset = offset_in o })) t (rw is_a_time at e) in
+      let offset = offset-said o (leb-true (var_int_magnitude o) 1439 found.0) in
+      let v : Timestamp = record utc { offset = offset_in o } in
+      let v_moment : IsMoment v = record { year = moment.year; date = moment.date; hour = moment.hour; minute = moment.minute; second = moment.second } in
+      let local = rw found.1 at (local-is v v_moment offset.within).moved in
+      time utc t (offset_in o) o c others field are says is_a_time moment offset.says offset.within local.1 local.0
+]
 
 -- a timestamp in UTC that was not refused
 record InUtc (o : List ℕ) (fits : Bool) (told : Option Timestamp) (t : Timestamp) : Type 0 where

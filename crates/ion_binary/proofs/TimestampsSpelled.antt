@@ -133,10 +133,8 @@ local-found t u m offset h is =
 
 -- the body of a timestamp is read as the timestamp
 pub TimestampBody-read : (t : Timestamp) (b : List ℕ) → TimestampBody t b → timestamp_of_bytes b ≡ Ok t
-TimestampBody-read _ _ (date t o others offset are says is_a_date moment) =
-    ap timestamp_of_bytes (sym (append-none (run (o ∷ others))))
-    ∙ told-read o others [] t offset are (Says-Told o others [] t says) moment
-    ∙ rw is_a_date refl
+TimestampBody-read _ _ (date t o others offset are says is_a_date moment) = ap timestamp_of_bytes (sym (append-none (run (o ∷ others))))
+    ∙ told-read o others [] t offset are (Says-Told o others [] t says) moment ∙ rw is_a_date refl
 TimestampBody-read _ _ (time utc local offset o c others field are says is_a_time moment offset_is within is_moved local_moment) =
     let told = offset-told offset o offset_is within in
     let v : Timestamp = record utc { offset = offset } in

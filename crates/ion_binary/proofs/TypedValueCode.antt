@@ -76,11 +76,10 @@ sized_shapes-are length_code lt =
 -- a descriptor octet has a shape whose length code is below 15, and a type code that has bodies where it is a body's
 pub shape_of-is_of_descriptor : (b : ℕ) → IsOfDescriptor (shape_of b)
 unfolding shape_of
-shape_of-is_of_descriptor b =
-    elim (cases_Bool (eqb (b % 16) 15)) [
-      | inl k ↦ rw k (slice_index_or-all IsOfDescriptor null_shapes (b / 16) Shape.illegal null_shapes-are tt)
-      | inr k ↦ rw k (slice_index_or-all IsOfDescriptor (sized_shapes (b % 16)) (b / 16) Shape.illegal (sized_shapes-are (b % 16) (let n = eqb-false (b % 16) 15 k in omega arith)) tt)
-    ]
+shape_of-is_of_descriptor b = elim (cases_Bool (eqb (b % 16) 15)) [
+  | inl k ↦ rw k (slice_index_or-all IsOfDescriptor null_shapes (b / 16) Shape.illegal null_shapes-are tt)
+  | inr k ↦ rw k (slice_index_or-all IsOfDescriptor (sized_shapes (b % 16)) (b / 16) Shape.illegal (sized_shapes-are (b % 16) (let n = eqb-false (b % 16) 15 k in omega arith)) tt)
+]
 
 -- what the code says of a descriptor
 pub shape_read : (b : ℕ) (s : Shape) → s ≡ shape_of b → IsOfDescriptor s

@@ -42,18 +42,16 @@ bools (suc zero) = refl
 bools (suc (suc length_code)) = tt
 
 structs : (length_code : ℕ) → length_code < 15 → IsShape (208 + length_code) (slice_index_or (sized_shapes length_code) 13 Shape.illegal)
-structs length_code lt =
-    elim (cases_Bool (eqb length_code 1)) [
-      | inl k ↦ rw k (rw (eqb-true length_code 1 k) refl)
-      | inr k ↦ rw k (refl, lt, λ e. eqb-false length_code 1 k (omega arith))
-    ]
+structs length_code lt = elim (cases_Bool (eqb length_code 1)) [
+  | inl k ↦ rw k (rw (eqb-true length_code 1 k) refl)
+  | inr k ↦ rw k (refl, lt, λ e. eqb-false length_code 1 k (omega arith))
+]
 
 wrappers : (length_code : ℕ) → length_code < 15 → IsShape (224 + length_code) (slice_index_or (sized_shapes length_code) 14 Shape.illegal)
-wrappers length_code lt =
-    elim (cases_Bool (eqb length_code 0)) [
-      | inl k ↦ rw k (rw (eqb-true length_code 0 k) refl)
-      | inr k ↦ rw k (elim (cases_Bool (ltb length_code 3)) [ inl m ↦ rw m tt | inr m ↦ rw m (refl, lt) ])
-    ]
+wrappers length_code lt = elim (cases_Bool (eqb length_code 0)) [
+  | inl k ↦ rw k (rw (eqb-true length_code 0 k) refl)
+  | inr k ↦ rw k (elim (cases_Bool (ltb length_code 3)) [ inl m ↦ rw m tt | inr m ↦ rw m (refl, lt) ])
+]
 
 sized : (t length_code : ℕ) → length_code < 15 → IsShape (16 * t + length_code) (slice_index_or (sized_shapes length_code) t Shape.illegal)
 sized zero length_code lt = (refl, lt)
@@ -74,11 +72,10 @@ sized (suc (suc (suc (suc (suc (suc (suc (suc (suc (suc (suc (suc (suc (suc zero
 sized (suc (suc (suc (suc (suc (suc (suc (suc (suc (suc (suc (suc (suc (suc (suc t))))))))))))))) length_code lt = tt
 
 shape_by-is : (t length_code : ℕ) → length_code < 16 → IsShape (16 * t + length_code) (shape_by t length_code)
-shape_by-is t length_code lt =
-    elim (cases_Bool (eqb length_code 15)) [
-      | inl k ↦ rw k (rw (eqb-true length_code 15 k) (nulls t))
-      | inr k ↦ rw k (sized t length_code (omega (arith, eqb-false length_code 15 k)))
-    ]
+shape_by-is t length_code lt = elim (cases_Bool (eqb length_code 15)) [
+  | inl k ↦ rw k (rw (eqb-true length_code 15 k) (nulls t))
+  | inr k ↦ rw k (sized t length_code (omega (arith, eqb-false length_code 15 k)))
+]
 
 -- a descriptor octet has the type code and the length code of its shape
 pub shape_of-is : (b : ℕ) → IsShape b (shape_of b)
@@ -118,8 +115,7 @@ at_end None q n h = tt
 at_end (Some end) q n h = ltb-false _ _ h
 
 fills : (a : Around) (q n : ℕ) → (a.wrapped && falls_short a.region q n) ≡ false → Fills a (q + n)
-fills a q n h w =
-    elim (and_cases _ _ h) [ inl f ↦ absurd (let k = sym w ∙ f in cc k) | inr f ↦ at_end a.region q n f ]
+fills a q n h w = elim (and_cases _ _ h) [ inl f ↦ absurd (let k = sym w ∙ f in cc k) | inr f ↦ at_end a.region q n f ]
 
 -- n octets are within the region, and fill it where they are wrapped
 fits-taken : (a : Around) (q n : ℕ) (x : Unit {0}) → fits a q n ≡ Ok x → InRegion a.region (q + n) × Fills a (q + n)

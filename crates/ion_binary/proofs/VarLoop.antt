@@ -26,8 +26,7 @@ var_at-prefix (suc n) value r c =
     last : ((value : ℕ) (r : Region) (c : Cursor) → (var_at n r c >>= with_prefix value) ≡ var_from n value r c) → (t : Bool) (b : ℕ × Cursor) → nat_lt b.0 128 ≡ t
         → ((if t then (var_at n r b.1 >>= λ more. Ok (b.0 ∷ more.0, more.1)) else Ok (b.0 ∷ [], b.1)) >>= with_prefix value)
         ≡ (if t then var_from n (value * 128 + b.0) r b.1 else Ok (value * 128 + b.0 % 128, b.1))
-    last prefix true b e =
-        bind-bind (var_at n r b.1) _ (with_prefix value)
+    last prefix true b e = bind-bind (var_at n r b.1) _ (with_prefix value)
         ∙ (bind-same (var_at n r b.1) _ (with_prefix (value * 128 + b.0)) (λ more. ap (λ m. Ok (m, more.1)) (pushed value b.0 more.0 (ltb-true b.0 128 e)))
         ∙ prefix (value * 128 + b.0) r b.1)
     last prefix false b e = ap (λ m. Ok (m, b.1)) (omega arith)

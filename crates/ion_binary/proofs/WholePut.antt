@@ -29,8 +29,7 @@ module _ {A : Type 0} (w : BinWriter A) (item : PlacedItem) (x : List ℕ) (sett
   with-value =
       let ids : UserSymbol → ℕ = id_in w.symbols.texts in
       let members : List ℕ → List ℕ = λ y. member_octets ids (user_item item).field (user_item item).annotations y in
-      scalar-added (held_in w) item x known-all whole
-      (is ∙ (bare-octets ids item (head_octets ids (user_item item).head) bare
+      scalar-added (held_in w) item x known-all whole (is ∙ (bare-octets ids item (head_octets ids (user_item item).head) bare
       ∙ ap (λ (y : List ℕ). y ++ members (head_octets ids (user_item item).head)) (sym settled.octets)))
 
   value-held : held_in w ≡ value_held (added (held_in w) item) (added (held_in w) item).headers (added (held_in w) item).octets

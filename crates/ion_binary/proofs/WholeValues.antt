@@ -60,9 +60,7 @@ extends_left t u ss rest e =
     extends_trans (with_symbols t ss) (with_symbols t (ss ++ rest)) u (subst P (sym (with_symbols-append t ss rest)) (extends_all (with_symbols t ss) rest)) e
 
 pub extends_right : (t u : List (List ℕ)) (ss rest : List UserSymbol) → Extends (with_symbols t (ss ++ rest)) u → Extends (with_symbols (with_symbols t ss) rest) u
-extends_right t u ss rest e =
-    let P : List (List ℕ) → Type 0 = λ w. Extends w u in
-    subst P (with_symbols-append t ss rest) e
+extends_right t u ss rest e = let P : List (List ℕ) → Type 0 = λ w. Extends w u in subst P (with_symbols-append t ss rest) e
 
 -- ---- members
 
@@ -90,8 +88,7 @@ mutual
 
   -- members that come whole
   pub after_members : (m : ℕ) (t u : List (List ℕ)) (n : ℕ) (due : Bool) (c : Unclosed) (cs : List Unclosed) (out : List ℕ) (top : ℕ) (ms : Members UserSymbol ℕ)
-      (rest : List UserItem)
-      → Extends (with_symbols t (members_symbols ms)) u
+      (rest : List UserItem) → Extends (with_symbols t (members_symbols ms)) u
       → after_all m (written t n due (c ∷ cs) out) (member_items top ms ++ rest)
       ≡ after_all m (written (with_symbols t (members_symbols ms)) n due (put_in c (members_octets (id_in u) ms) ∷ cs) out) rest
   after_members m t u n due c cs out top nothing rest e =
@@ -125,8 +122,7 @@ pub opens_top : (m : ℕ) (t : List (List ℕ)) (out : List ℕ) (top p : ℕ) (
     ≡ after_all m (written (with_symbols kept (annotations ++ [])) (length kept) (is_over m t)
     (opened_with (id_in (with_symbols kept (annotations ++ []))) None annotations k [] ∷ []) out) rest)
 opens_top m t out top p annotations k rest =
-    let begins : Written → Written = λ b.
-    (let n : Written = record b { texts = with_symbols b.texts (annotations ++ []) } in
+    let begins : Written → Written = λ b. (let n : Written = record b { texts = with_symbols b.texts (annotations ++ []) } in
     with_head n (id_in n.texts) None annotations (value.begin k)) in
     ap (λ (b : Written). after_all m (begins b) rest) (forgotten (is_over m t) t out)
 
@@ -136,8 +132,7 @@ after_top : (m : ℕ) (t : List (List ℕ)) (out : List ℕ) (top p : ℕ) (anno
     after_all m (written t (length t) false [] out) (value_items top None annotations p v ++ rest)
     ≡ after_all m (after_tree (is_over m t) kept all out (member_octets (id_in all) None annotations (value_octets (id_in all) v))) rest)
 after_top m t out top p annotations (scalar v) rest =
-    let begins : Written → Written = λ b.
-    (let n : Written = record b { texts = with_symbols b.texts (annotations ++ scalar_symbols v) } in
+    let begins : Written → Written = λ b. (let n : Written = record b { texts = with_symbols b.texts (annotations ++ scalar_symbols v) } in
     with_head n (id_in n.texts) None annotations (value.whole v)) in
     ap (λ (b : Written). after_all m (begins b) rest) (forgotten (is_over m t) t out)
 after_top m t out top p annotations (container k ms last) rest =

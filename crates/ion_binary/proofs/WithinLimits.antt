@@ -80,9 +80,7 @@ cost-append [] us = omega arith
 cost-append (t ∷ ts) us = let r = cost-append ts us in omega (arith, r)
 
 cost-extends : (t u : List (List ℕ)) → Extends t u → texts_cost t ≤ texts_cost u
-cost-extends t u e =
-    let a : texts_cost u ≡ texts_cost t + texts_cost e.more = ap texts_cost e.is ∙ cost-append t e.more in
-    omega (arith, a)
+cost-extends t u e = let a : texts_cost u ≡ texts_cost t + texts_cost e.more = ap texts_cost e.is ∙ cost-append t e.more in omega (arith, a)
 
 -- ---- when one item is refused
 
@@ -112,8 +110,7 @@ head-users value.end = refl
 head-users value.marker = refl
 
 item-users : (i : PlacedItem) → users_of (item_symbols i) ≡ item_symbols (user_item i)
-item-users i =
-    map-append user_symbol_at (field_symbols i.field) (i.annotations ++ head_symbols i.head)
+item-users i = map-append user_symbol_at (field_symbols i.field) (i.annotations ++ head_symbols i.head)
     ∙ (ap (λ ss. users_of (field_symbols i.field) ++ ss) (map-append user_symbol_at i.annotations (head_symbols i.head))
     ∙ (ap (λ ss. ss ++ (users_of i.annotations ++ users_of (head_symbols i.head))) (field-users i.field)
     ∙ ap (λ ss. field_symbols (option_map user_symbol_at i.field) ++ (users_of i.annotations ++ ss)) (head-users i.head)))
@@ -246,8 +243,7 @@ module _ (limits : Limits) where
 
   -- as it closes
   abbrev Closing : List (List ℕ) → ℕ → Bool → Unclosed → List Unclosed → List ℕ → List UserItem → Type 0
-  Closing t n due c cs out rest =
-      (texts_cost t ≤ limits.symbols) × (length (all_closed cs (closed_with c c.body)) ≤ limits.value)
+  Closing t n due c cs out rest = (texts_cost t ≤ limits.symbols) × (length (all_closed cs (closed_with c c.body)) ≤ limits.value)
       × AllWithin limits (with_value (written t n due (c ∷ cs) out) cs (closed_with c c.body)) rest
 
   end-within : (t : List (List ℕ)) (n : ℕ) (due : Bool) (c : Unclosed) (cs : List Unclosed) (out : List ℕ) (top last : ℕ) (rest : List UserItem)
@@ -275,8 +271,7 @@ module _ (limits : Limits) where
   container-within t v n due c d cs out top ms last rest members =
       let end : UserItem = bare_item value.end last top in
       iff-then (iff-same (λ (is : List UserItem). Within t n due c cs out is) ((member_items top ms ++ end ∷ []) ++ rest) (member_items top ms ++ end ∷ rest)
-      (append_assoc (member_items top ms) (end ∷ []) rest))
-      (iff-then members (end-within v n due d cs out top last rest))
+      (append_assoc (member_items top ms) (end ∷ []) rest)) (iff-then members (end-within v n due d cs out top last rest))
 
   mutual
     value-within : (t u : List (List ℕ)) (n : ℕ) (due : Bool) (c : Unclosed) (cs : List Unclosed) (out : List ℕ) (top p : ℕ) (f : Option UserSymbol)
@@ -288,8 +283,7 @@ module _ (limits : Limits) where
         iff-same (λ (x : List ℕ). Within (with_symbols t (field_symbols f ++ (annotations ++ scalar_symbols v))) n due (put_in c x) cs out rest)
         (member_octets (id_in (with_symbols t (field_symbols f ++ (annotations ++ scalar_symbols v)))) f annotations
         (scalar_octets (id_in (with_symbols t (field_symbols f ++ (annotations ++ scalar_symbols v)))) v))
-        (member_octets (id_in u) f annotations (scalar_octets (id_in u) v))
-        (same_scalar t u f annotations v e)
+        (member_octets (id_in u) f annotations (scalar_octets (id_in u) v)) (same_scalar t u f annotations v e)
     value-within t u n due c cs out top p f annotations (container k ms last) rest e =
         let own : List UserSymbol = field_symbols f ++ (annotations ++ []) in
         let t1 : List (List ℕ) = with_symbols t own in
@@ -303,9 +297,7 @@ module _ (limits : Limits) where
         (with_symbols t1 (members_symbols ms)) (with_symbols t (own ++ members_symbols ms)) (sym (with_symbols-append t own (members_symbols ms)))))
 
     members-within : (t u : List (List ℕ)) (n : ℕ) (due : Bool) (c : Unclosed) (cs : List Unclosed) (out : List ℕ) (top : ℕ) (ms : UserMembers)
-        (rest : List UserItem)
-        → Extends (with_symbols t (members_symbols ms)) u
-        → Within t n due c cs out (member_items top ms ++ rest)
+        (rest : List UserItem) → Extends (with_symbols t (members_symbols ms)) u → Within t n due c cs out (member_items top ms ++ rest)
         ↔ Within (with_symbols t (members_symbols ms)) n due (put_in c (members_octets (id_in u) ms)) cs out rest
     members-within t u n due c cs out top nothing rest e =
         iff-same (λ (b : List ℕ). Within t n due (record c { body = b }) cs out rest) c.body (c.body ++ []) (sym (append-nil c.body))
@@ -318,8 +310,7 @@ module _ (limits : Limits) where
         let one = value-within t1 u n due (put_in c x) cs out top p f annotations v rest (extends_right t u (members_symbols before) own e) in
         iff-then (iff-same (λ (is : List UserItem). Within t n due c cs out is) ((member_items top before ++ value_items top f annotations p v) ++ rest) (member_items top before ++ items)
         (append_assoc (member_items top before) (value_items top f annotations p v) rest))
-        (iff-then (members-within t u n due c cs out top before items (extends_left t u (members_symbols before) own e))
-        (iff-then (
+        (iff-then (members-within t u n due c cs out top before items (extends_left t u (members_symbols before) own e)) (iff-then (
           λ h. one.0 h.2,
           λ h.
               let less = less-within t1 (with_symbols t1 own) (put_in c x) cs y (extends_all t1 own) h.0 h.1 in
@@ -332,8 +323,7 @@ module _ (limits : Limits) where
   -- ---- values at top level
 
   abbrev After : Bool → List (List ℕ) → List ℕ → List ℕ → List UserItem → List (List ℕ) → Type 0
-  After over kept out y rest w =
-      (texts_cost w ≤ limits.symbols) × (length y ≤ limits.value)
+  After over kept out y rest w = (texts_cost w ≤ limits.symbols) × (length y ≤ limits.value)
       × AllWithin limits (nothing_open w (out ++ (marker_if over ++ (declaration (drop (length kept) w) ++ y)))) rest
 
   tree-within : (t : List (List ℕ)) (out : List ℕ) (top p : ℕ) (annotations : List UserSymbol) (v : Value UserSymbol ℕ) (rest : List UserItem)
@@ -371,9 +361,7 @@ module _ (limits : Limits) where
   tops-within : (t : List (List ℕ)) (out : List ℕ) (ts : List (Top UserSymbol ℕ)) → texts_cost t ≤ limits.symbols
       → AllWithin limits (nothing_open t out) (top_items ts) ↔ AreWithin limits t ts
   tops-within t out [] h = (λ a. tt, λ a. tt)
-  tops-within t out (version place ∷ ts) h =
-      let later = tops-within t out ts h in
-      (λ a. later.0 a.2, λ a. (h, omega arith, later.1 a))
+  tops-within t out (version place ∷ ts) h = let later = tops-within t out ts h in (λ a. later.0 a.2, λ a. (h, omega arith, later.1 a))
   tops-within t out (tree first annotations place v ∷ ts) h =
       let kept : List (List ℕ) = texts_left m t in
       let all : List (List ℕ) = with_symbols kept (value_symbols None annotations v) in

@@ -42,8 +42,7 @@ then-beside (Err e) bad w d = refl
 
 -- what is tested after both lengths
 abbrev tested : Region → ℕ × Cursor → ℕ × Cursor → Result (Wrapped × Cursor) Reason
-tested r n ids =
-    refuse (passes r n.1.place n.0) Overrun
+tested r n ids = refuse (passes r n.1.place n.0) Overrun
     >> (refuse (nat_lt n.0 3 || nat_eq ids.0 0 || nat_le (n.1.place + n.0) (ids.1.place + ids.0)) BadAnnotation >> with_cursor ids.1 (record { ids = ids.1.place + ids.0; end = n.1.place + n.0 }))
 
 abbrev by_wrapper_by : Region → ℕ × Cursor → ℕ × Cursor → Result (Wrapped × Cursor) Reason

@@ -83,28 +83,26 @@ some_octets n (x ∷ b) v = omega arith
 -- each id takes an octet, so that no more of them come than places are left
 pub ids_at-taken : (n : ℕ) (limits : Rules) (e count : ℕ) (c : Cursor) (o : List SymbolAt × Cursor) → e ≤ c.place + n → ids_at n limits e count c ≡ Ok o → TookIds e c o
 unfolding ids_at
-ids_at-taken zero limits e count c o fuel h =
-    subst (λ (o : List SymbolAt × Cursor). TookIds e c o) (ok_is {E = Reason × ℕ} ([], c) o h)
+ids_at-taken zero limits e count c o fuel h = subst (λ (o : List SymbolAt × Cursor). TookIds e c o) (ok_is {E = Reason × ℕ} ([], c) o h)
     (record { octets = []; took = Took-none (Some e) c; spells = Ids.nothing c.place; all = omega arith })
-ids_at-taken (suc n) limits e count c o fuel h =
-    elim (chosen (leb e c.place) _ _ _ h) [
-      | inl k ↦ subst (λ (o : List SymbolAt × Cursor). TookIds e c o) (ok_is {E = Reason × ℕ} ([], c) o k.1)
-          (record { octets = []; took = Took-none (Some e) c; spells = Ids.nothing c.place; all = leb-true _ _ k.0 })
-      | inr k ↦ (
-          let i = bind_ok (part c.place (var_uint_at (Some e) c)) _ o k.1 in
-          let v = var_uint_at-taken (Some e) c i.0 (part_ok c.place _ _ i.1) in
-          let m = then_ok (part c.place (refuse (ltb limits.scalar (16 * (count + 1))) AnnotationLimit)) _ o i.2 in
-          let more = bind_ok (ids_at n limits e (count + 1) i.0.1) _ o m.2 in
-          let some = some_octets i.0.0 v.octets v.spells in
-          let rest = ids_at-taken n limits e (count + 1) i.0.1 more.0 (omega (arith, v.took.place)) more.1 in
-          let is : (symbol_id i.0.0 c.place ∷ more.0.0, more.0.1) ≡ o = ok_is {E = Reason × ℕ} _ _ more.2 in
-          subst (λ (o : List SymbolAt × Cursor). TookIds e c o) is (record {
-            octets = v.octets ++ rest.octets;
-            took = Took-then (Some e) c i.0.1 more.0.1 v.octets rest.octets v.took rest.took;
-            spells = Ids.then c.place i.0.0 v.octets rest.octets more.0.0 v.spells (subst (λ (q : ℕ). Ids q more.0.0 rest.octets) v.took.place rest.spells);
-            all = rest.all;
-          }))
-    ]
+ids_at-taken (suc n) limits e count c o fuel h = elim (chosen (leb e c.place) _ _ _ h) [
+  | inl k ↦ subst (λ (o : List SymbolAt × Cursor). TookIds e c o) (ok_is {E = Reason × ℕ} ([], c) o k.1)
+      (record { octets = []; took = Took-none (Some e) c; spells = Ids.nothing c.place; all = leb-true _ _ k.0 })
+  | inr k ↦ (
+      let i = bind_ok (part c.place (var_uint_at (Some e) c)) _ o k.1 in
+      let v = var_uint_at-taken (Some e) c i.0 (part_ok c.place _ _ i.1) in
+      let m = then_ok (part c.place (refuse (ltb limits.scalar (16 * (count + 1))) AnnotationLimit)) _ o i.2 in
+      let more = bind_ok (ids_at n limits e (count + 1) i.0.1) _ o m.2 in
+      let some = some_octets i.0.0 v.octets v.spells in
+      let rest = ids_at-taken n limits e (count + 1) i.0.1 more.0 (omega (arith, v.took.place)) more.1 in
+      let is : (symbol_id i.0.0 c.place ∷ more.0.0, more.0.1) ≡ o = ok_is {E = Reason × ℕ} _ _ more.2 in
+      subst (λ (o : List SymbolAt × Cursor). TookIds e c o) is (record {
+        octets = v.octets ++ rest.octets;
+        took = Took-then (Some e) c i.0.1 more.0.1 v.octets rest.octets v.took rest.took;
+        spells = Ids.then c.place i.0.0 v.octets rest.octets more.0.0 v.spells (subst (λ (q : ℕ). Ids q more.0.0 rest.octets) v.took.place rest.spells);
+        all = rest.all;
+      }))
+]
 
 -- ---- fields
 

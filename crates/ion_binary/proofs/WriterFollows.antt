@@ -183,8 +183,7 @@ may-come limits path item c = record {
 
 pub forgotten-is : (limit : ℕ) (s : Written) (h : Held) (head : Head UserSymbol) → h ≡ held_of s → is_marker head ≡ false
     → texts_forgotten h h.headers (is_over limit h.texts) ≡ held_forgotten limit (held_of s) head
-forgotten-is limit s h head e m =
-    ap (λ (x : Held). texts_forgotten x x.headers (is_over limit x.texts)) e
+forgotten-is limit s h head e m = ap (λ (x : Held). texts_forgotten x x.headers (is_over limit x.texts)) e
     ∙ ap (λ (b : Bool). texts_forgotten (held_of s) (held_of s).headers (not b && is_over limit s.texts)) (sym m)
 
 texts-begun : (limit : ℕ) (s : Written) (head : Head UserSymbol) → (held_forgotten limit (held_of s) head).texts ≡ (begun limit s head).texts
@@ -210,14 +209,12 @@ value-put-same n octets (h ∷ hs) gs = refl
 module _ (limit depth : ℕ) (s : Written) (item : PlacedItem) (b : Held) (e : b ≡ held_forgotten limit (held_of s) (user_item item).head)
     (codes : HaveCodes s.open_containers) (come : MayCome depth s (user_item item)) where
   pub held-after : value_held (added b item) (added b item).headers (added b item).octets ≡ held_of (after limit s (user_item item))
-  held-after =
-      value-held-same (with_names b (user_item item)) (added b item).octets (added b item).headers (added b item).headers
+  held-after = value-held-same (with_names b (user_item item)) (added b item).octets (added b item).headers (added b item).headers
       ∙ (ap (λ (x : Held). value_held (with_names x (user_item item)) (added x item).headers (added x item).octets) e
       ∙ (what_is_held_moves limit depth s (user_item item) codes come).held)
 
   pub put-then : value_put (added b item) (added b item).headers (added b item).octets ≡ item_puts limit s (user_item item)
-  put-then =
-      value-put-same (with_names b (user_item item)) (added b item).octets (added b item).headers (added b item).headers
+  put-then = value-put-same (with_names b (user_item item)) (added b item).octets (added b item).headers (added b item).headers
       ∙ (ap (λ (x : Held). value_put (with_names x (user_item item)) (added x item).headers (added x item).octets) e
       ∙ (what_is_held_moves limit depth s (user_item item) codes come).puts)
 
@@ -258,8 +255,7 @@ follows-err old new s item fault b comes e why = record {
 pub adds-are : {A : Type 0} (old mid : BinWriter A) (s : Written) (item : PlacedItem) (b : Held) → ComesAt old s item
     → b ≡ held_forgotten old.limits.symbols (held_of s) (user_item item).head → held_in mid ≡ added b item → item_refusal old.limits b item ≡ None
     → value_put (held_in mid) mid.open_value.headers mid.open_value.octets.all ≡ adds_at old.limits s item
-adds-are old mid s item b comes e m none =
-    ap (λ (h : Held). value_put h h.headers h.octets) m
+adds-are old mid s item b comes e m none = ap (λ (h : Held). value_put h h.headers h.octets) m
     ∙ (put-then old.limits.symbols old.limits.depth s item b e comes.0.codes comes.1
     ∙ ap (λ (r : Option (Reason × ℕ)). unless_refused r (item_puts old.limits.symbols s (user_item item))) (sym none ∙ refusal-is old.limits s item b e comes.0.codes comes.1))
 

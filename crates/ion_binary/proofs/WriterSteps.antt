@@ -11,8 +11,7 @@ held_by_parts octets hs texts declared due = record { octets = octets; headers =
 
 pub same-held : (o p : List ℕ) (hs gs : List HeaderPlace) (ts us : List (List ℕ)) (d e : ℕ) (b c : Bool) → o ≡ p → hs ≡ gs → ts ≡ us → d ≡ e → b ≡ c
     → held_by_parts o hs ts d b ≡ held_by_parts p gs us e c
-same-held o p hs gs ts us d e b c eo eh et ed eb =
-    ap (λ (x : List ℕ). held_by_parts x hs ts d b) eo
+same-held o p hs gs ts us d e b c eo eh et ed eb = ap (λ (x : List ℕ). held_by_parts x hs ts d b) eo
     ∙ (ap (λ (x : List HeaderPlace). held_by_parts p x ts d b) eh
     ∙ (ap (λ (x : List (List ℕ)). held_by_parts p gs x d b) et ∙ (ap (λ x. held_by_parts p gs us x b) ed ∙ ap (held_by_parts p gs us e) eb)))
 
@@ -55,14 +54,12 @@ same-why T r s p q e = ap (why {T = T}) e
 module _ (limits : Limits) (h : Held) (item : PlacedItem) where
   pub refused-long : first_over limits.symbols h.texts (item_symbols item) ≡ None → limits.value < size_of (added h item).octets (added h item).headers
       → item_refusal limits h item ≡ Some (ValueLimit, item.top)
-  refused-long none over =
-      ap (refused_by limits.value (size_of (added h item).octets (added h item).headers) item.top) none
+  refused-long none over = ap (refused_by limits.value (size_of (added h item).octets (added h item).headers) item.top) none
       ∙ ap (λ (b : Bool). if b then Some (ValueLimit, item.top) else None) (lt-ltb limits.value (size_of (added h item).octets (added h item).headers) over)
 
   pub not-refused : first_over limits.symbols h.texts (item_symbols item) ≡ None → size_of (added h item).octets (added h item).headers ≤ limits.value
       → item_refusal limits h item ≡ None
-  not-refused none fits =
-      ap (refused_by limits.value (size_of (added h item).octets (added h item).headers) item.top) none
+  not-refused none fits = ap (refused_by limits.value (size_of (added h item).octets (added h item).headers) item.top) none
       ∙ ap (λ (b : Bool). if b then Some (ValueLimit, item.top) else None) (le-ltb limits.value (size_of (added h item).octets (added h item).headers) fits)
 
 -- ---- what comes first of an item
@@ -70,8 +67,7 @@ module _ (limits : Limits) (h : Held) (item : PlacedItem) where
 module _ (h : Held) (item : PlacedItem) (texts : List (List ℕ)) (octets : List ℕ) (most : ℕ) (f : Front)
     (e : texts ≡ (with_names h (user_item item)).texts) (front : IsFront most (id_in texts) h.octets octets (user_item item) f) where
   pub front-octets : f.fits ≡ true → octets ≡ with_front (with_names h (user_item item)) (user_item item)
-  front-octets fits =
-      front.there fits
+  front-octets fits = front.there fits
       ∙ ap (λ (ts : List (List ℕ)). h.octets ++ (field_octets (id_in ts) (user_item item).field ++ id_octets (id_in ts) (user_item item).annotations)) e
 
   pub front-place : f.fits ≡ true → f.ids ≡ ids_place (with_names h (user_item item)) (user_item item)
@@ -163,8 +159,7 @@ may-follow {A} limits v h item octets place head eo o front at is may =
     let long : length octets.all ≡ length (with_front n (user_item item)) = ap (λ (os : List ℕ). length os) front in
     let same : length h.octets ≡ length v.octets.all = ap (λ (os : List ℕ). length os) eo in
     let P : Head SymbolAt → Type 0 = λ x. MayFollow {A = A} limits (record v { octets = octets }) place x in
-    subst P (sym is)
-    (may-follow-by limits v octets place item.head item o (omega (arith, at, same)) (omega (arith, at, w, long))
+    subst P (sym is) (may-follow-by limits v octets place item.head item o (omega (arith, at, same)) (omega (arith, at, w, long))
     (λ f bare. front
     ∙ (ap (λ (x : Option SymbolAt). h.octets ++ (field_octets ids (option_map user_symbol_at x) ++ id_octets ids (user_item item).annotations)) f
     ∙ (ap (λ (x : List SymbolAt). h.octets ++ id_octets ids (map user_symbol_at x)) bare ∙ (append-nil h.octets ∙ eo)))) may)

@@ -32,12 +32,8 @@ id_in-lt texts Unknown = omega arith
 -- they fit where those of their symbols do
 given-fit : (most : ℕ) (system p : Option ℕ) → ((m : ℕ) → system ≡ Some m → m < 9) → ((m : ℕ) → p ≡ Some m → m < 2 ^ 30)
     → id_size (option_map (λ place. place + 1) system) ≤ most → length (uint_octets (unwrap_or (or_given (option_map (λ place. place + 1) system) p) 0)) ≤ most
-given-fit most (Some m) p f g h =
-    let few = uint-short (m + 1) (0 ∷ []) (omega (arith, f m refl)) in
-    omega (arith, few, h)
-given-fit most None (Some m) f g h =
-    let few = uint-short (m + 10) (0 ∷ 0 ∷ 0 ∷ 0 ∷ []) (omega (arith, g m refl)) in
-    omega (arith, few, h)
+given-fit most (Some m) p f g h = let few = uint-short (m + 1) (0 ∷ []) (omega (arith, f m refl)) in omega (arith, few, h)
+given-fit most None (Some m) f g h = let few = uint-short (m + 10) (0 ∷ 0 ∷ 0 ∷ 0 ∷ []) (omega (arith, g m refl)) in omega (arith, few, h)
 given-fit most None None f g h = let few = uint-short 0 [] (omega arith) in omega (arith, few)
 
 pub ids-fit : (texts : List (List ℕ)) → length texts ≤ 2 ^ 30 → (limits : Rules) → IdsFit (id_in texts) limits
@@ -58,8 +54,7 @@ declaring-writable texts h = ((tt, (refl, (tt, tt))), (refl, strings-writable no
 
 -- what a declaration says that has these ids
 abbrev said : ℕ → ℕ → ℕ → Members Symbol ⊤ → Value Symbol ⊤
-said imports table symbols strings =
-    container kind.Struct
+said imports table symbols strings = container kind.Struct
     (member (member nothing (Some (Id imports)) [] tt (scalar (value.symbol (Id table)))) (Some (Id symbols)) [] tt (container kind.List strings tt)) tt
 
 abbrev strings_of : List (List ℕ) → Members Symbol ⊤
@@ -82,8 +77,7 @@ said-is texts =
     let strings : Members Symbol ⊤ = strings_of texts in
     let i : UserSymbol → ℕ = id_in [] in
     ap (λ (n : ℕ). said n (i (Known (codes "$ion_symbol_table"))) (i (Known (codes "symbols"))) strings) imports-id
-    ∙ (ap (λ (n : ℕ). said 6 n (i (Known (codes "symbols"))) strings) table-id
-    ∙ ap (λ (n : ℕ). said 6 3 n strings) symbols-id)
+    ∙ (ap (λ (n : ℕ). said 6 n (i (Known (codes "symbols"))) strings) table-id ∙ ap (λ (n : ℕ). said 6 3 n strings) symbols-id)
 
 -- ---- the elements of `symbols`
 
@@ -137,17 +131,13 @@ elements-seen (member before f annotations place (container k ms last)) = ap (λ
 
 strings-elements : (before : Members UserSymbol ⊤) (texts : List (List ℕ)) → bare_elements (string_members before texts) ≡ bare_elements before ++ map (λ t. Some t) texts
 strings-elements before [] = sym (append-nil (bare_elements before))
-strings-elements before (t ∷ ts) =
-    strings-elements (member before None [] tt (scalar (value.string t))) ts
+strings-elements before (t ∷ ts) = strings-elements (member before None [] tt (scalar (value.string t))) ts
     ∙ append_assoc (bare_elements before) (Some t ∷ []) (map (λ u. Some u) ts)
 
 -- members that are these strings
 elements-are : (texts : List (List ℕ)) (ms : Members SymbolAt ℕ) → map_members bare_symbol no_place ms ≡ strings_of texts → elements ms ≡ map (λ t. Some t) texts
-elements-are texts ms e =
-    elements-seen ms
-    ∙ (sym (elements-mapped bare_symbol no_place ms)
-    ∙ (ap (λ (l : Members Symbol ⊤). bare_elements l) e
-    ∙ (elements-mapped (with_id (id_in [])) no_place (string_members nothing texts)
+elements-are texts ms e = elements-seen ms ∙ (sym (elements-mapped bare_symbol no_place ms)
+    ∙ (ap (λ (l : Members Symbol ⊤). bare_elements l) e ∙ (elements-mapped (with_id (id_in [])) no_place (string_members nothing texts)
     ∙ strings-elements nothing texts)))
 
 -- ---- what raw trees are that say this
@@ -277,11 +267,10 @@ none-above old (member before None [] place (scalar (value.timestamp moment))) h
 none-above old (member before None [] place (scalar (value.symbol s))) h above = absurd h
 none-above old (member before None [] place (scalar (value.clob b))) h above = absurd h
 none-above old (member before None [] place (scalar (value.blob b))) h above = absurd h
-none-above old (member before None [] place (scalar (value.string b))) h above =
-    elim above [
-      | inl x ↦ none-above old before h x
-      | inr rest ↦ elim rest [ inl x ↦ x | inr more ↦ elim more [ inl x ↦ x | inr x ↦ x ] ]
-    ]
+none-above old (member before None [] place (scalar (value.string b))) h above = elim above [
+  | inl x ↦ none-above old before h x
+  | inr rest ↦ elim rest [ inl x ↦ x | inr more ↦ elim more [ inl x ↦ x | inr x ↦ x ] ]
+]
 
 -- a declaration with nothing to be refused for leaves what it says
 left-by : (g : Ground) (top : ℕ) (ms : Members SymbolAt ℕ) (u : Table) (r : Result Table (Reason × ℕ)) → declared g top ms ≡ r
@@ -292,14 +281,13 @@ left-by g top ms u (Ok t) e says above costly doubled =
     let v : t ≡ u = cc same in
     let left : Table → Result Table (Reason × ℕ) = λ x. Ok x in
     e ∙ ap left v
-left-by g top ms u (Err why) e says above costly doubled =
-    elim (why_it_is_refused g top ms why.0 why.1 e) [
-      | inl a ↦ absurd (above a.1)
-      | inr rest ↦ elim rest [
-        | inl c ↦ absurd (costly c.1)
-        | inr table ↦ elim table.1 [ inl d ↦ absurd (doubled d) | inr none ↦ absurd (cc (sym none ∙ says)) ]
-      ]
-    ]
+left-by g top ms u (Err why) e says above costly doubled = elim (why_it_is_refused g top ms why.0 why.1 e) [
+  | inl a ↦ absurd (above a.1)
+  | inr rest ↦ elim rest [
+    | inl c ↦ absurd (costly c.1)
+    | inr table ↦ elim table.1 [ inl d ↦ absurd (doubled d) | inr none ↦ absurd (cc (sym none ∙ says)) ]
+  ]
+]
 
 abbrev plain_members : ℕ → ℕ → ℕ → ℕ → ℕ → Members SymbolAt ℕ → ℕ → Members SymbolAt ℕ
 plain_members i p t s q strings last = raw_members (marked_at (Id 6) i) [] p (marked_at (Id 3) t) (marked_at (Id 7) s) [] q strings last
@@ -334,10 +322,8 @@ raw-accepted : (g : Ground) (top : ℕ) (imports table symbols : SymbolAt) (a b 
 raw-accepted g top imports table symbols a b p q last strings i t s na nb h room =
     let left : Symbol → Symbol → Symbol → List SymbolAt → List SymbolAt → Result Table (Reason × ℕ) = λ x y z c d. declared g top
     (raw_members (marked_at x imports.place) c p (marked_at y table.place) (marked_at z symbols.place) d q strings last) in
-    ap (λ (x : Symbol). left x table.symbol symbols.symbol a b) i
-    ∙ (ap (λ (y : Symbol). left (Id 6) y symbols.symbol a b) t
-    ∙ (ap (λ (z : Symbol). left (Id 6) (Id 3) z a b) s
-    ∙ (ap (λ (c : List SymbolAt). left (Id 6) (Id 3) (Id 7) c b) na
+    ap (λ (x : Symbol). left x table.symbol symbols.symbol a b) i ∙ (ap (λ (y : Symbol). left (Id 6) y symbols.symbol a b) t
+    ∙ (ap (λ (z : Symbol). left (Id 6) (Id 3) z a b) s ∙ (ap (λ (c : List SymbolAt). left (Id 6) (Id 3) (Id 7) c b) na
     ∙ (ap (λ (d : List SymbolAt). left (Id 6) (Id 3) (Id 7) [] d) nb
     ∙ plain-accepted g top imports.place p table.place symbols.place q last strings h room))))
 
@@ -381,16 +367,14 @@ what-is-said catalog old texts (s ∷ ss) raw n e =
       is_declaration = ap (declares_table old (s ∷ ss)) raw_is ∙ declares-struct old s ss made whole.last (first-own s ss 3 n);
       leaves = leaves-strings catalog old first.name table.name second.name first.annotations second.annotations first.place second.place list.last list.members first.name_is table.name_is second.name_is
           ∙ ap (λ (l : Slots). Some (record { imports = old.imports; locals = old.locals ++ l })) (elements-are texts list.members list.inside_is);
-      accepted = λ limit top room.
-          (let g : Ground = record { catalog = catalog; limit = limit; old = old } in
+      accepted = λ limit top room. (let g : Ground = record { catalog = catalog; limit = limit; old = old } in
           let Room : Slots → Type 0 = λ l. HasRoom g (with_locals old l) in
           let Strings : Members Symbol ⊤ → Type 0 = λ l. AreStrings l in
           let left : Slots → Result Table (Reason × ℕ) = λ l. Ok (with_locals old l) in
           let are : elements list.members ≡ map (λ t. Some t) texts = elements-are texts list.members list.inside_is in
           raw-accepted g top first.name table.name second.name first.annotations second.annotations first.place second.place list.last list.members first.name_is table.name_is second.name_is
           (no-symbols first.annotations first.bare_annotations) (no-symbols second.annotations second.bare_annotations)
-          (subst Strings (sym list.inside_is) (are-strings nothing texts tt)) (subst Room (sym are) room)
-          ∙ ap left are);
+          (subst Strings (sym list.inside_is) (are-strings nothing texts tt)) (subst Room (sym are) room) ∙ ap left are);
     }
 
 -- what is written of a declaration
@@ -410,9 +394,7 @@ strings-fit limits depth before [] fits texts = fits
 strings-fit limits depth before (t ∷ ts) fits texts = strings-fit limits depth (member before None [] tt (scalar (value.string t))) ts (fits, omega arith, texts.0) texts.1
 
 table-fits : (limits : Rules) → AllowDeclarations limits → IdFits limits (Known (codes "$ion_symbol_table"))
-table-fits limits allow =
-    let one : id_size (system_id (codes "$ion_symbol_table")) ≡ 1 = refl in
-    omega (arith, one, allow.scalar)
+table-fits limits allow = let one : id_size (system_id (codes "$ion_symbol_table")) ≡ 1 = refl in omega (arith, one, allow.scalar)
 
 declaring-fits : (limits : Rules) (texts : List (List ℕ)) → AllowDeclarations limits → TextsFit limits texts → ValueFits limits 0 (declaring texts)
 declaring-fits limits texts allow fits =

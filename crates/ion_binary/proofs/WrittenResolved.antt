@@ -84,8 +84,7 @@ read-stands texts own raw annotations x n e known =
     let same : map bare_symbol (value_symbols None own raw) ≡ map ids (value_symbols None annotations x) =
     sym (value_symbols-map bare_symbol no_place None own raw)
     ∙ (ap (λ (ss : List Symbol). value_symbols None ss (map_value bare_symbol no_place raw)) n
-    ∙ (ap (value_symbols None (map ids annotations)) e ∙ value_symbols-map ids no_place None annotations x))
-    in
+    ∙ (ap (value_symbols None (map ids annotations)) e ∙ value_symbols-map ids no_place None annotations x)) in
     let all = value-stands (table_of texts) None own raw (symbols-stand texts (value_symbols None own raw) (value_symbols None annotations x) same known) in
     (all.1, all.2)
 
@@ -177,8 +176,7 @@ module _ (catalog : List Shared) (limit : ℕ) where
       let before : Sofar (table_of all) (b ++ declared) =
       moved _ _ _ _ (ap table_of (sym new.is)) (ap (λ (n : List (List ℕ)). b ++ declaration n) (sym new_is))
       (with-news kept new.more b new.texts (subst (λ (n : List (List ℕ)). length (declaration n) < 2 ^ 62) new_is short_declaration)
-      (subst (λ (l : List (List ℕ)). texts_cost l ≤ limit) new.is cheap) (subst (λ (l : List (List ℕ)). length l ≤ 2 ^ 30) new.is few) s)
-      in
+      (subst (λ (l : List (List ℕ)). texts_cost l ≤ limit) new.is cheap) (subst (λ (l : List (List ℕ)). length l ≤ 2 ^ 30) new.is few) s) in
       let known : AreKnown all symbols = all_known kept symbols in
       let small : (u : UserSymbol) → id_in all u < 2 ^ 31 = λ u. omega (arith, id_in-lt all u, few) in
       let v = (value-spelled (id_in all) (length (b ++ declared)) annotations x small user.0 short).at in
@@ -206,8 +204,7 @@ module _ (catalog : List Shared) (limits : Limits) where
       let whole : List ℕ = tree_octets over kept all annotations x in
       let one : Sofar catalog limits.symbols (table_of all) ((b ++ marker_if over) ++ octets) =
       with-tree catalog limits.symbols kept annotations x first place (b ++ marker_if over) users.0 short.0 short.1.0 short.1.1.0 within.0
-      (with-marker-if catalog limits.symbols over texts b s)
-      in
+      (with-marker-if catalog limits.symbols over texts b s) in
       let r = stream all (b ++ whole) ts users.1 short.1.1.1 within.2 (moved catalog limits.symbols _ _ _ _ refl (append_assoc b (marker_if over) octets) one) in
       (r.0, moved catalog limits.symbols _ _ _ _ refl (append_assoc b whole (octets_after limits.symbols all ts)) r.1)
 

@@ -157,9 +157,7 @@ value-some ids (container k ms last) = headed-some (type_code k) (members_octets
 
 wrapped-within : (notes x : List ℕ) → length x ≤ length (wrapped notes x)
 wrapped-within [] x = omega arith
-wrapped-within (n ∷ ns) x =
-    let e = length-append (n ∷ ns) x in
-    omega (arith, e, headed-length 14 ((n ∷ ns) ++ x))
+wrapped-within (n ∷ ns) x = let e = length-append (n ∷ ns) x in omega (arith, e, headed-length 14 ((n ∷ ns) ++ x))
 
 -- ---- what stands before a value
 
@@ -269,8 +267,7 @@ not_one ids kind.Sexp ms w = tt
 
 -- a member by its parts
 pub same_member : {S P : Type 0} (b c : Members S P) (f g : Option S) (a d : List S) (p : P) (x y : Value S P) → b ≡ c → f ≡ g → a ≡ d → x ≡ y → member b f a p x ≡ member c g d p y
-same_member b c f g a d p x y h i j k =
-    ap₂ (λ m n. member m n a p x) h i ∙ ap₂ (λ l z. member c g l p z) j k
+same_member b c f g a d p x y h i j k = ap₂ (λ m n. member m n a p x) h i ∙ ap₂ (λ l z. member c g l p z) j k
 
 record MembersAt {P : Type 0} (ids : UserSymbol → ℕ) (k : Kind) (q : ℕ) (ms : Members UserSymbol P) : Type 0 where
   pub raw : Members SymbolAt ℕ

@@ -54,12 +54,8 @@ system-text texts t n h =
 
 known-text-by : (texts : List (List ℕ)) (t : List ℕ) (id : ℕ) (s p : Option ℕ) → position system_texts t ≡ s → position texts t ≡ p
     → or_given (option_map (λ place. place + 1) s) p ≡ Some id → text_at (table_of texts) id ≡ Some t
-known-text-by texts t id (Some n) p a b h =
-    let e : n + 1 ≡ id = cc h in
-    ap (text_at (table_of texts)) (sym e) ∙ system-text texts t n a
-known-text-by texts t id None (Some n) a b h =
-    let e : n + 10 ≡ id = cc h in
-    ap (text_at (table_of texts)) (sym e) ∙ own-text texts t n b
+known-text-by texts t id (Some n) p a b h = let e : n + 1 ≡ id = cc h in ap (text_at (table_of texts)) (sym e) ∙ system-text texts t n a
+known-text-by texts t id None (Some n) a b h = let e : n + 10 ≡ id = cc h in ap (text_at (table_of texts)) (sym e) ∙ own-text texts t n b
 known-text-by texts t id None None a b h = absurd (cc h)
 
 known-text : (texts : List (List ℕ)) (t : List ℕ) (id : ℕ) → known_id texts t ≡ Some id → text_at (table_of texts) id ≡ Some t
@@ -172,8 +168,7 @@ mutual
       let own : Stay f (value_symbols name annotations x) = all-right (Stays f) (members_symbols before) (value_symbols name annotations x) h in
       same_member _ _ _ _ _ _ tt _ _ (stay-members f before (all-left (Stays f) (members_symbols before) (value_symbols name annotations x) h))
       (stay-field f name (own-field f name annotations x own) ∙ sym (option_map_id name))
-      (stay-map f annotations (own-annotations f name annotations x own) ∙ sym (id-map annotations))
-      (stay-value f name annotations x own)
+      (stay-map f annotations (own-annotations f name annotations x own) ∙ sym (id-map annotations)) (stay-value f name annotations x own)
 
   own-field : (f : UserSymbol → UserSymbol) (name : Option UserSymbol) (annotations : List UserSymbol) (x : Value UserSymbol ℕ) → Stay f (value_symbols name annotations x) → Stay f (field_symbols name)
   own-field f name annotations (scalar v) h = all-left (Stays f) (field_symbols name) (annotations ++ scalar_symbols v) h
@@ -201,11 +196,8 @@ joined us vs None = refl
 joined us vs (Some x) = ap (λ y. Some y) (sym (append_assoc us vs x))
 
 leads-then : (catalog : List Shared) (t u w : Table) (a b : List (Top SymbolAt ℕ)) (us vs : List (Top UserSymbol ℕ)) → Leads catalog t a us u → Leads catalog u b vs w → Leads catalog t (a ++ b) (us ++ vs) w
-leads-then catalog t u w a b us vs f g more =
-    ap (user_tops catalog t) (append_assoc a b more)
-    ∙ (f (b ++ more)
-    ∙ (ap (option_map (λ x. us ++ x)) (g more)
-    ∙ joined us vs (user_tops catalog w more)))
+leads-then catalog t u w a b us vs f g more = ap (user_tops catalog t) (append_assoc a b more) ∙ (f (b ++ more)
+    ∙ (ap (option_map (λ x. us ++ x)) (g more) ∙ joined us vs (user_tops catalog w more)))
 
 leads-marker : (catalog : List Shared) (t : Table) (p : ℕ) → Leads catalog t (version p ∷ []) [] system
 leads-marker catalog t p more = sym (option_map_id (user_tops catalog system more))
@@ -295,8 +287,7 @@ declares-none texts (s ∷ ss) (container kind.Struct ms last) (Known y ∷ othe
     let f : s.symbol ∷ map bare_symbol ss ≡ Id (id_in texts (Known y)) ∷ map (with_id (id_in texts)) others = n in
     let first : s.symbol ≡ Id (id_in texts (Known y)) = cc f in
     ap (λ z. declares_table (table_of texts) (marked_at z s.place ∷ ss) (container kind.Struct ms last)) first
-    ∙ (ap (λ o. if is_declaration (word_by_id o) then Some ms else None) (id-text texts y k.0)
-    ∙ ap (λ b. if b then Some ms else None) d)
+    ∙ (ap (λ o. if is_declaration (word_by_id o) then Some ms else None) (id-text texts y k.0) ∙ ap (λ b. if b then Some ms else None) d)
 declares-none texts (s ∷ ss) (container kind.Struct ms last) (Unknown ∷ others) (container kind.Struct ns l) n e k d =
     let f : s.symbol ∷ map bare_symbol ss ≡ Id (id_in texts Unknown) ∷ map (with_id (id_in texts)) others = n in
     let first : s.symbol ≡ Id (id_in texts Unknown) = cc f in
@@ -320,19 +311,12 @@ same-value texts q first place annotations x own h raw k n e =
     let ids : UserSymbol → ℕ = id_in texts in
     let f : UserSymbol → UserSymbol = λ s. seen_in t (Id (ids s)) in
     let stays : Stay f (value_symbols None annotations x) = stay-known texts (value_symbols None annotations x) k in
-    let annotations_are : map (user_at t) own ≡ annotations =
-    sym (map-then (seen_in t) bare_symbol own)
-    ∙ (ap (map (seen_in t)) n
-    ∙ (map-then (seen_in t) (with_id ids) annotations
-    ∙ stay-map f annotations (stay-annotations f annotations x stays)))
-    in
+    let annotations_are : map (user_at t) own ≡ annotations = sym (map-then (seen_in t) bare_symbol own) ∙ (ap (map (seen_in t)) n
+    ∙ (map-then (seen_in t) (with_id ids) annotations ∙ stay-map f annotations (stay-annotations f annotations x stays))) in
     let value_is : map_value (λ (s : UserSymbol). s) no_place (map_value (user_at t) (λ (p : ℕ). p) raw) ≡ map_value (λ (s : UserSymbol). s) no_place x =
     value-then (λ (s : UserSymbol). s) (user_at t) no_place (λ (p : ℕ). p) raw
-    ∙ (sym (value-then (seen_in t) bare_symbol (λ (p : ⊤). p) no_place raw)
-    ∙ (ap (map_value (seen_in t) (λ (p : ⊤). p)) e
-    ∙ (value-then (seen_in t) (with_id ids) (λ (p : ⊤). p) no_place x
-    ∙ stay-value f None annotations x stays)))
-    in
+    ∙ (sym (value-then (seen_in t) bare_symbol (λ (p : ⊤). p) no_place raw) ∙ (ap (map_value (seen_in t) (λ (p : ⊤). p)) e
+    ∙ (value-then (seen_in t) (with_id ids) (λ (p : ⊤). p) no_place x ∙ stay-value f None annotations x stays))) in
     ap₂ (λ (a : List UserSymbol) (y : Value UserSymbol ⊤). tree tt a tt y) annotations_are value_is
 
 -- ---- all values, under limits that they are within where that is wanted
@@ -358,8 +342,7 @@ module _ (limits : Rules) (Wanted : Type 0) where
   }
 
   with-declaration : (catalog : List Shared) (t : Table) (b : List ℕ) (done : List (Top UserSymbol ℕ)) (texts : List (List ℕ)) (d : IsDeclared catalog t (length b) texts)
-      → (Wanted → BinFits limits 0 d.spells) → Sofar catalog t b done
-      → Sofar catalog (with_texts t texts) (b ++ declaration texts) done
+      → (Wanted → BinFits limits 0 d.spells) → Sofar catalog t b done → Sofar catalog (with_texts t texts) (b ++ declaration texts) done
   with-declaration catalog t b done texts d within s = record {
     raw = s.raw ++ tree (length b) d.own d.place d.raw ∷ [];
     users = s.users ++ [];
@@ -415,8 +398,7 @@ module _ (limits : Rules) (Wanted : Type 0) where
       let before : Sofar catalog (table_of all) (b ++ declared) done =
       moved catalog _ _ _ _ _ _ (ap table_of (sym new.is)) (ap (λ (n : List (List ℕ)). b ++ declaration n) (sym new_is)) refl
       (with-news catalog kept new.more b done new.texts (subst (λ (n : List (List ℕ)). length (declaration n) < 2 ^ 62) new_is short_declaration)
-      (λ wanted. let fits = within wanted in new.fits limits fits.2) (λ wanted. let fits = within wanted in new.allowed limits fits.3) s)
-      in
+      (λ wanted. let fits = within wanted in new.fits limits fits.2) (λ wanted. let fits = within wanted in new.allowed limits fits.3) s) in
       let known : AreKnown all symbols = all_known kept symbols in
       let small : (u : UserSymbol) → id_in all u < 2 ^ 31 = λ u. omega (arith, id_in-lt all u, few) in
       let v = value-spelled (id_in all) (length (b ++ declared)) annotations x small user.0 short in

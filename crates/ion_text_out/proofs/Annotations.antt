@@ -6,8 +6,7 @@ next_annotation : (xs : List SymbolAt) (i : ℕ) → annotations_text (take (suc
 next_annotation [] zero = refl
 next_annotation [] (suc i) = refl
 next_annotation (x ∷ xs) zero = append-nil (annotation_text (user_symbol_at x))
-next_annotation (x ∷ xs) (suc i) =
-    ap (λ (l : List ℕ). annotation_text (user_symbol_at x) ++ l) (next_annotation xs i)
+next_annotation (x ∷ xs) (suc i) = ap (λ (l : List ℕ). annotation_text (user_symbol_at x) ++ l) (next_annotation xs i)
     ∙ sym (append_assoc (annotation_text (user_symbol_at x)) (annotations_text (take i xs)) (marked_text (codes "::") (slice_get xs i)))
 
 pub next_annotation-put : {O T : Type 0} {written : O → List ℕ} {observable : O → Type 0} {failures : O → ℕ} {s m u : Outgoing O} {x : T} {result : Result T Fault} (xs : List SymbolAt) (i : ℕ)

@@ -43,8 +43,7 @@ no_part written observable failures s bytes well = as_well (sym encode-nil) (put
 
 -- the next part is put, or a prefix of it
 pub next_part : {O : Type 0} {written : O → List ℕ} {observable : O → Type 0} {failures : O → ℕ} {s m u : Outgoing O} {result : Result (Unit {0}) Fault} (at n : ℕ) (bytes : List ℕ)
-    → at % 3 ≡ 0 → at ≤ length bytes
-    → HasPut {T = Unit {0}} written observable failures s m (Ok _) (encode_of standard (take at bytes))
+    → at % 3 ≡ 0 → at ≤ length bytes → HasPut {T = Unit {0}} written observable failures s m (Ok _) (encode_of standard (take at bytes))
     → HasPut {T = Unit {0}} written observable failures m u result (encode_of standard (take (at + n - at) (drop at bytes)))
     → HasPut {T = Unit {0}} written observable failures s u result (encode_of standard (take (at + n) bytes))
 next_part at n bytes threes within p q =
@@ -61,8 +60,7 @@ part_cut at bytes threes within failed p = as_well (encode_rest at bytes threes 
 
 -- the last part is put, or a prefix of it
 pub last_part : {O : Type 0} {written : O → List ℕ} {observable : O → Type 0} {failures : O → ℕ} {s m u : Outgoing O} {result : Result (Unit {0}) Fault} (at : ℕ) (bytes : List ℕ)
-    → at % 3 ≡ 0 → at ≤ length bytes
-    → HasPut {T = Unit {0}} written observable failures s m (Ok _) (encode_of standard (take at bytes))
+    → at % 3 ≡ 0 → at ≤ length bytes → HasPut {T = Unit {0}} written observable failures s m (Ok _) (encode_of standard (take at bytes))
     → HasPut {T = Unit {0}} written observable failures m u result (encode_of standard (take (length bytes - at) (drop at bytes)))
     → HasPut {T = Unit {0}} written observable failures s u result (encode_of standard bytes)
 last_part at bytes threes within p q =

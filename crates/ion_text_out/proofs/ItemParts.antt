@@ -4,8 +4,7 @@ use Rattle.ion_value.specs.Value as v
 
 head_parts : (layout : Layout) (cs : Open) (name annotations : List ℕ) (h : v.Head SymbolAt)
     → first_text layout cs h ++ (where_value (is_value h) (name ++ (annotations ++ body_text (map_head user_symbol_at h))) ++ last_text cs h) ≡ head_text layout cs (name ++ annotations) (map_head user_symbol_at h)
-head_parts layout cs name annotations (v.whole body) =
-    ap (λ (l : List ℕ). before_item layout cs ++ l)
+head_parts layout cs name annotations (v.whole body) = ap (λ (l : List ℕ). before_item layout cs ++ l)
     (append_assoc name (annotations ++ body_text (map_head user_symbol_at (v.whole body))) (after_value cs)
     ∙ (ap (λ (l : List ℕ). name ++ l) (append_assoc annotations (body_text (map_head user_symbol_at (v.whole body))) (after_value cs))
     ∙ sym (append_assoc name annotations (body_text (map_head user_symbol_at (v.whole body)) ++ after_value cs))))
@@ -20,8 +19,7 @@ name_marked layout None = refl
 name_marked layout (Some at) = refl
 
 pub item_parts : (layout : Layout) (cs : Open) (i : PlacedItem) → first_text layout cs i.head ++ (middle_text layout i ++ last_text cs i.head) ≡ item_text layout cs (user_item i)
-item_parts layout cs i =
-    head_parts layout cs (marked_text layout.after_name i.field) (annotations_text i.annotations) i.head
+item_parts layout cs i = head_parts layout cs (marked_text layout.after_name i.field) (annotations_text i.annotations) i.head
     ∙ ap (λ (name : List ℕ). head_text layout cs (name ++ annotations_text i.annotations) (map_head user_symbol_at i.head)) (name_marked layout i.field)
 
 -- an item's text where each of the parts was put, or failed

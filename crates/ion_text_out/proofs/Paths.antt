@@ -79,8 +79,7 @@ end_text_of layout kind empty cs last top =
 -- the members of a container that is open after others
 members_in : {P : Type 0} (layout : Layout) (kind : Kind) (members : Members UserSymbol P) (cs : Open)
     → members_text_by (further_in (suc (length (with_member cs))) layout) kind members ≡ members_text_by (further_in 1 (further_in (length cs) layout)) kind members
-members_in layout kind members cs =
-    ap (λ n. members_text_by (further_in (suc n) layout) kind members) (same_many cs)
+members_in layout kind members cs = ap (λ n. members_text_by (further_in (suc n) layout) kind members) (same_many cs)
     ∙ ap (λ l. members_text_by l kind members) (sym (one_more_in (length cs) layout))
 
 mutual
@@ -112,8 +111,7 @@ mutual
       items_append layout ((kind, true) ∷ cs) (member_items top before) (value_items top f annotations p x)
       ∙ (ap (λ t. t ++ items_text_by layout (open_after_all ((kind, true) ∷ cs) (member_items top before)) (value_items top f annotations p x)) (members_text_of layout before kind top cs)
       ∙ (ap (λ c. members_text_by inside kind before ++ items_text_by layout c (value_items top f annotations p x)) (members_after before kind top cs)
-      ∙ (ap (λ t. members_text_by inside kind before ++ t)
-      (value_text_of layout x top p f annotations ((kind, is_empty before) ∷ cs)
+      ∙ (ap (λ t. members_text_by inside kind before ++ t) (value_text_of layout x top p f annotations ((kind, is_empty before) ∷ cs)
       ∙ ap (λ t. t ++ ((field_text_by layout f ++ flat_map annotation_text annotations) ++ (value_text_by inside x ++ []))) (before_here layout kind (is_empty before) (suc (length cs))))
       ∙ member_text (members_text_by inside kind before) (inside.before_member kind (is_empty before) 0) (field_text_by layout f) (flat_map annotation_text annotations) (value_text_by inside x))))
 
@@ -129,8 +127,7 @@ one_after (tree first annotations place x) = value_after x first place None anno
 -- the text of whole values is that of their items
 pub text_of_items : (layout : Layout) (ts : List (Top UserSymbol ℕ)) → items_text_by layout [] (top_items ts) ≡ text_by layout ts
 text_of_items layout [] = refl
-text_of_items layout (t ∷ ts) =
-    items_append layout [] (one_top t) (top_items ts)
+text_of_items layout (t ∷ ts) = items_append layout [] (one_top t) (top_items ts)
     ∙ (ap (λ a. a ++ items_text_by layout (open_after_all [] (one_top t)) (top_items ts)) (one_text layout t)
     ∙ (ap (λ c. top_text_by layout t ++ items_text_by layout c (top_items ts)) (one_after t)
     ∙ ap (λ a. top_text_by layout t ++ a) (text_of_items layout ts)))
@@ -163,8 +160,7 @@ begun_text : (a b c d e : List ℕ) → (a ++ ((b ++ c) ++ d)) ++ e ≡ a ++ (b 
 begun_text a b c d e = simp append_assoc
 
 begin_text_of : (layout : Layout) (cs : Open) (top p : ℕ) (f : Option UserSymbol) (annotations : List UserSymbol) (kind : Kind) (members : Members UserSymbol ℕ)
-    → items_text_by layout cs (begin_item top f annotations p kind ∷ member_items top members)
-    ≡ before_item layout cs
+    → items_text_by layout cs (begin_item top f annotations p kind ∷ member_items top members) ≡ before_item layout cs
     ++ (field_text_by layout f ++ (flat_map annotation_text annotations ++ (opener kind ++ members_text_by (further_in (suc (length cs)) layout) kind members)))
 begin_text_of layout cs top p f annotations kind members =
     let within : List ℕ = members_text_by (further_in (suc (length cs)) layout) kind members in
@@ -191,8 +187,7 @@ nest_text_of layout (inner around f annotations place kind members) top =
 -- the text of a path is that of its items
 pub path_text_of : (layout : Layout) (path : Path UserSymbol ℕ) → items_text_by layout [] (path_items path) ≡ path_text_by layout path
 path_text_of layout (closed tops) = text_of_items layout tops
-path_text_of layout (opened tops first nest) =
-    items_append layout [] (top_items tops) (nest_items first nest)
+path_text_of layout (opened tops first nest) = items_append layout [] (top_items tops) (nest_items first nest)
     ∙ (ap (λ t. t ++ items_text_by layout (open_after_all [] (top_items tops)) (nest_items first nest)) (text_of_items layout tops)
     ∙ (ap (λ c. text_by layout tops ++ items_text_by layout c (nest_items first nest)) (tops_after tops)
     ∙ ap (λ t. text_by layout tops ++ t) (nest_text_of layout nest first)))

@@ -97,8 +97,7 @@ several_kinds = refl
 
 -- `[1,a::{x:[` and nothing after it
 abbrev left : Path UserSymbol ℕ
-left =
-    opened (top (int 7) ∷ []) 0
+left = opened (top (int 7) ∷ []) 0
     (inner (inner (outermost [] 0 kind.List (then nothing (int 1))) None (known (codes "a") ∷ []) 0 kind.Struct nothing) (Some (known (codes "x"))) [] 0 kind.List nothing)
 
 left_open : path_text_by pretty left ≡ codes "7\n[\n  1,\n  a::{\n    x: ["

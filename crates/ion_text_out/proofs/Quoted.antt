@@ -15,13 +15,12 @@ all_after test bytes n m first second = rw (take-add n m bytes, all_joined test 
 
 pub shown_text : (quote top : ℕ) (bytes : List ℕ) → all_are (is_shown quote top) bytes ≡ true → flat_map (byte_text quote top) bytes ≡ bytes
 shown_text quote top [] all = refl
-shown_text quote top (b ∷ bytes) all =
-    elim (cases_Bool (is_shown quote top b)) [
-      | inl e ↦
-          let rest : all_are (is_shown quote top) bytes ≡ true = rw e at all in
-          rw e (ap (λ xs. b ∷ xs) (shown_text quote top bytes rest))
-      | inr e ↦ let f = rw e at all in absurd (cc)
-    ]
+shown_text quote top (b ∷ bytes) all = elim (cases_Bool (is_shown quote top b)) [
+  | inl e ↦
+      let rest : all_are (is_shown quote top) bytes ≡ true = rw e at all in
+      rw e (ap (λ xs. b ∷ xs) (shown_text quote top bytes rest))
+  | inr e ↦ let f = rw e at all in absurd (cc)
+]
 
 -- where all stand for themselves, they stand between two quotes
 pub shown_between : (quote top : ℕ) (bytes : List ℕ) → all_are (is_shown quote top) bytes ≡ true → between_quotes quote top bytes ≡ quote ∷ (bytes ++ quote ∷ [])

@@ -123,8 +123,7 @@ no_number = refl
 
 -- a path whose containers are open: `[1,{`, and nothing after it
 abbrev begun : List (Item UserSymbol ℕ)
-begun =
-    record { field = None; annotations = []; head = v.begin kind.List; place = 0; top = 0 }
+begun = record { field = None; annotations = []; head = v.begin kind.List; place = 0; top = 0 }
     ∷ record { field = None; annotations = []; head = v.whole (v.int (record { negative = false; magnitude = 1 })); place = 1; top = 0 }
     ∷ record { field = None; annotations = known (codes "a") ∷ []; head = v.begin kind.Struct; place = 3; top = 0 } ∷ []
 

@@ -60,11 +60,10 @@ abbrev pub others_of : ℕ → ℕ
 others_of most = cond (nat_lt most 256) (most - 32) 224
 
 others : (most x : ℕ) → x < 256 → leb (others_of most) (round x) ≡ not (nat_le 32 x && nat_lt x most)
-others most x small =
-    elim (cases_Bool (nat_lt most 256)) [
-      | inl few ↦ rw few (grind (arith, nat_tests))
-      | inr all ↦ rw all (grind (arith, nat_tests))
-    ]
+others most x small = elim (cases_Bool (nat_lt most 256)) [
+  | inl few ↦ rw few (grind (arith, nat_tests))
+  | inr all ↦ rw all (grind (arith, nat_tests))
+]
 
 beside : (q b s t d o : Bool) → o ≡ not (s && t) → (((q || b) || o) || d) ≡ not (s && (t && (not d && (not q && not b))))
 beside true b false t d o e = refl

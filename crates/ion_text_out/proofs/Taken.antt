@@ -9,13 +9,12 @@ member (kind ∷ kinds) empty = refl
 
 -- where the containers stay as they are, nothing is charged
 stays : {L A : Type 0} (w moved : LaidOut L A) (counts : Counts) (empty : Bool) → CanStep w counts → moved ≡ record w { empty = empty } → Stepped w moved counts counts
-stays w moved counts empty can is =
-    rw is (record {
-      ready = can.ready;
-      limits = refl;
-      failed = refl;
-      charges = record { held = refl; share = omega (arith, can.ready.deep); peak = omega arith; rises = omega arith };
-    })
+stays w moved counts empty can is = rw is (record {
+  ready = can.ready;
+  limits = refl;
+  failed = refl;
+  charges = record { held = refl; share = omega (arith, can.ready.deep); peak = omega arith; rises = omega arith };
+})
 
 steps : {L A O : Type 0} (layout : Layout) (w moved : LaidOut L A) (counts : Counts) (old new : Outgoing O) (result : Bool) (name note text : List ℕ)
     → CanStep w counts → TakesScalar layout w moved old new result name note text → Stepped w moved counts counts
@@ -26,16 +25,14 @@ steps layout w moved counts old new false name note text can taken = stays w mov
 pub scalar_taken : {L A O : Type 0} {layout : Layout} {w moved : LaidOut L A} {counts : Counts} {old new : Outgoing O} {result : Bool} {name note text : List ℕ} (head : v.Head SymbolAt) (body : v.Scalar SymbolAt)
     → CanStep w counts → TakesScalar layout w moved old new result name note text → head ≡ v.whole body → text ≡ scalar_text (map_scalar user_symbol_at body)
     → TakesHead w moved counts counts old new result (head_text layout (opened_in w) (plain_front layout name note) (map_head user_symbol_at head)) (open_after (opened_in w) (map_head user_symbol_at head))
-scalar_taken {L} {A} {O} {layout} {w} {moved} {counts} {old} {new} {result} {name} {note} {text} head body can taken is spelled =
-    record {
-      declines = λ e. let same = taken.declines e in (same.0, same.1, refl);
-      puts = λ e. puts_same old new _ _ (taken.puts e) (scalar_put layout (opened_in w) name note head body text is spelled);
-      opens = λ e.
-          ap opened_in (taken.after e)
-          ∙ (member (reverse w.kinds) w.empty ∙ ap (λ (h : v.Head SymbolAt). open_after (opened_in w) (map_head user_symbol_at h)) (sym is));
-      counted = refl;
-      stepped = steps layout w moved counts old new result name note text can taken;
-    }
+scalar_taken {L} {A} {O} {layout} {w} {moved} {counts} {old} {new} {result} {name} {note} {text} head body can taken is spelled = record {
+  declines = λ e. let same = taken.declines e in (same.0, same.1, refl);
+  puts = λ e. puts_same old new _ _ (taken.puts e) (scalar_put layout (opened_in w) name note head body text is spelled);
+  opens = λ e. ap opened_in (taken.after e)
+      ∙ (member (reverse w.kinds) w.empty ∙ ap (λ (h : v.Head SymbolAt). open_after (opened_in w) (map_head user_symbol_at h)) (sym is));
+  counted = refl;
+  stepped = steps layout w moved counts old new result name note text can taken;
+}
 
 -- so is one that came with its text, or with that between quotes
 pub spelled_taken : {L A O : Type 0} {layout : Layout} {w moved : LaidOut L A} {counts : Counts} {old new : Outgoing O} {result : Bool} {name note text : List ℕ} (head : v.Head SymbolAt)

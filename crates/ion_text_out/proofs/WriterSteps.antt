@@ -28,8 +28,7 @@ shown_in-length [] empty = refl
 shown_in-length (kind ∷ kinds) empty = ap (λ n. suc n) (length-map kinds (λ k. (k, false)))
 
 level : (kinds : List Kind) (empty : Bool) (path : List PlacedItem) → Shows kinds empty path → length (standing.open_after_all [] path) ≡ length kinds
-level kinds empty path at =
-    ap (λ (l : List Kind). length l) (sym (kinds-after-all [] path))
+level kinds empty path at = ap (λ (l : List Kind). length l) (sym (kinds-after-all [] path))
     ∙ (length-map (open_after_all [] (user_items path)) (λ c. c.0)
     ∙ (ap (λ (cs : Open). length cs) at ∙ (shown_in-length (reverse kinds) empty ∙ length-reverse kinds)))
 

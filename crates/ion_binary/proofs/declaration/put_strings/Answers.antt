@@ -12,9 +12,7 @@ returns-in-Err g c =
     onward_cut (strings_octets (drop (c.loop-text.index + 1) texts)) to_next c.in-Err.is c.put_string.ensures
 
 pub overflow_add-index : goal.overflow_add-index
-overflow_add-index g c =
-    let few = few-texts c.args.texts.now in
-    omega (arith, few, c.loop-text.invariant.within, c.requires.cost)
+overflow_add-index g c = let few = few-texts c.args.texts.now in omega (arith, few, c.loop-text.invariant.within, c.requires.cost)
 
 pub loop-text-smaller : goal.loop-text-smaller
 loop-text-smaller g c =

@@ -13,9 +13,7 @@ overflow_add-len c =
     omega (arith, cost, c.loop-text.invariant.small, c.requires, c.string_len-len.ensures.small)
 
 pub overflow_add-index : goal.overflow_add-index
-overflow_add-index c =
-    let few = few-texts c.args.texts.now in
-    omega (arith, few, c.loop-text.invariant.within, c.requires)
+overflow_add-index c = let few = few-texts c.args.texts.now in omega (arith, few, c.loop-text.invariant.within, c.requires)
 
 pub loop-text-smaller : goal.loop-text-smaller
 loop-text-smaller c =

@@ -32,9 +32,7 @@ loop-i-preserved g c =
       within = omega (arith, long, order, within, same);
       late = late.1;
       gap = omega (arith, gap, size, same);
-      all =
-          ap (λ (n : ℕ). spread rest (around_gap h.offset (left - n) new)) (sym same)
-          ∙ (ap (λ (y : List ℕ). spread rest y) moved
+      all = ap (λ (n : ℕ). spread rest (around_gap h.offset (left - n) new)) (sym same) ∙ (ap (λ (y : List ℕ). spread rest y) moved
           ∙ (ap (λ (y : List ℕ). spread rest (put_at h.offset y (around_gap end left os))) is
           ∙ (sym (ap (λ (gs : List LateHeader). spread gs (around_gap end left os)) next) ∙ inv.all)));
     }

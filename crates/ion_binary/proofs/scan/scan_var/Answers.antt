@@ -66,6 +66,5 @@ loop-index-preserved c =
     }
 
 pub returns-clause-shows : goal.returns-clause-shows
-returns-clause-shows c r e more =
-    c.loop-index.invariant.same r e more
+returns-clause-shows c r e more = c.loop-index.invariant.same r e more
     ∙ var_from-none (9 - c.loop-index.index) c.loop-index.value r (skip c.loop-index.index (window c.args.place c.args.octets.now more)) (omega (arith, c.loop-index-test.false))

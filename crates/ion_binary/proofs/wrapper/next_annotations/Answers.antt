@@ -11,8 +11,7 @@ returns-in-Err-clause-gives g c t =
     let here = cursor g.I.Input c.loop-limits.source in
     let new = cursor g.I.Input c.next_var_uint.new.source in
     answers_at-refused itself (λ (u : Unit {0}). []) c.in-Err.fault new new c.place-place.result (var_uint_at (Some c.args.end) here) _
-    (c.in-Err.ensures.gives (inv.moves.still_observable.1 t))
-    (λ e h. inv.same t
+    (c.in-Err.ensures.gives (inv.moves.still_observable.1 t)) (λ e h. inv.same t
     ∙ (ids_at-refused c.args.limits c.args.end (c.args.end - length c.loop-limits.annotations) (length c.loop-limits.annotations) (as_annotations c.loop-limits.annotations) here e
     (omega (arith, c.loop-limits-test.true, c.place.ensures, inv.taken)) (omega (arith, c.loop-limits-test.true, c.place.ensures)) h
     ∙ ap (λ p. Err (e, p)) (sym c.place-place.ensures)))
@@ -30,8 +29,7 @@ returns-then-limits-as_slice-clause-gives g c t =
     ∙ ap (λ p. Err (AnnotationLimit, p)) (sym c.place-place.ensures))
 
 pub returns-clause-gives : goal.returns-clause-gives
-returns-clause-gives g c t =
-    c.loop-limits.invariant.same t
+returns-clause-gives g c t = c.loop-limits.invariant.same t
     ∙ ids_at-ended c.args.limits c.args.end (c.args.end - length c.loop-limits.annotations) (length c.loop-limits.annotations) (as_annotations c.loop-limits.annotations)
     (cursor g.I.Input c.loop-limits.source) (omega (arith, c.loop-limits-test.false, c.place.ensures))
 
@@ -64,8 +62,7 @@ loop-limits-preserved g c =
           let put : GrowsWithin m c.push.new.meter before after 16 = record { own = omega (arith, more); peak = omega (arith, c.in_default.ensures.cost.held, peak) } in
           grows-then c.args.meter.now m c.push.new.meter 0 before after (16 * passed_over s0 s) 16 (16 * passed_over s0 t) inv.charges.held inv.grows put (omega (arith, sum)) (omega (arith, sum, one, own));
       taken = omega (arith, more, inv.taken, o.taken);
-      same = λ t.
-          inv.same t
+      same = λ t. inv.same t
           ∙ ids_at-one_more c.args.limits c.args.end c.in-Ok.id c.id_of-id.result c.place-place.result c.loop-limits.annotations c.push.new.self here new
           inv.taken (omega (arith, c.loop-limits-test.true, c.place.ensures)) (o.gives (inv.moves.still_observable.1 t))
           (omega (arith, all, c.if-limits-as_slice.false)) c.id_of-id.ensures c.place-place.ensures c.in_default.ensures.ok;

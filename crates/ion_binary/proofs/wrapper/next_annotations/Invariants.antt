@@ -11,8 +11,7 @@ invariant-loop-limits g l = record {
   charges : Charges l.fn.meter l.meter 0 (16 * length l.annotations) l.limits.scalar;
   grows : GrowsWithin l.fn.meter l.meter 0 (16 * length l.annotations) (16 * passed_over l.fn.source l.source);
   taken : length l.annotations ≤ l.source.place;
-  same : g.I.Input.observable l.fn.source.device
-      → ids_at l.end l.limits l.end 0 (cursor g.I.Input l.fn.source)
+  same : g.I.Input.observable l.fn.source.device → ids_at l.end l.limits l.end 0 (cursor g.I.Input l.fn.source)
       ≡ after (as_annotations l.annotations) (ids_at (l.end - length l.annotations) l.limits l.end (length l.annotations) (cursor g.I.Input l.source));
 }
 

@@ -27,9 +27,7 @@ pieces-preserved g c =
     }
 
 pub returns : goal.returns
-returns g c =
-    let inv = c.pieces.invariant in
-    last_part c.pieces.at c.args.bytes.now inv.threes inv.within inv.puts c.put_piece-2.ensures
+returns g c = let inv = c.pieces.invariant in last_part c.pieces.at c.args.bytes.now inv.threes inv.within inv.puts c.put_piece-2.ensures
 
 pub overflow_add-at-in-pieces : goal.overflow_add-at-in-pieces
 overflow_add-at-in-pieces g c = grind (arith, common_steps)

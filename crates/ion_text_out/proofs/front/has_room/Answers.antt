@@ -10,8 +10,7 @@ returns-then-more-left-clause-room g c = λ e empty.
     omega (arith, before, front, c.room-room.ensures, c.if-room-texts.false, c.if-more-left.true)
 
 pub returns-then-more-left-clause-short : goal.returns-then-more-left-clause-short
-returns-then-more-left-clause-short g c = λ e empty.
-    item-short g.L.Layout.layout c.args.kinds.now empty (c.has_room.ensures.short e)
+returns-then-more-left-clause-short g c = λ e empty. item-short g.L.Layout.layout c.args.kinds.now empty (c.has_room.ensures.short e)
 
 pub overflow_add-texts : goal.overflow_add-texts
 overflow_add-texts g c = grind (arith, common_steps)

@@ -3,13 +3,12 @@ use Rattle.ion_text_out.proofs.ItemParts.{on_ok}
 use Rattle.ion_text_out.proofs.item.put_closing.Goals as goal
 
 pub returns-in-Err : goal.returns-in-Err
-returns-in-Err g c =
-    record {
-      well = tt;
-      cause = rw c.in-Err.is at c.put_gap.ensures.cause;
-      passed = c.put_gap.ensures.passed;
-      puts = λ well. put_cut _ c.in-Err.is (rw c.before_end.ensures at c.put_gap.ensures.puts well);
-    }
+returns-in-Err g c = record {
+  well = tt;
+  cause = rw c.in-Err.is at c.put_gap.ensures.cause;
+  passed = c.put_gap.ensures.passed;
+  puts = λ well. put_cut _ c.in-Err.is (rw c.before_end.ensures at c.put_gap.ensures.puts well);
+}
 
 pub returns : goal.returns
 returns g c =

@@ -3,14 +3,13 @@ use Rattle.ion_text_out.proofs.ItemParts.{item_first, item_middle, item_last, on
 use Rattle.ion_text_out.proofs.item.put_item.Goals as goal
 
 pub returns-in-Err : goal.returns-in-Err
-returns-in-Err g c =
-    record {
-      well = tt;
-      cause = rw c.in-Err.is at c.put_first.ensures.cause;
-      passed = c.put_first.ensures.passed;
-      puts = λ well.
-          item_first g.L.Layout.layout (shown c.args.kinds.now c.args.empty) (item_of g.N.Names.text c.args.item.now) (raw_head c.args.head.now) c.requires.head c.in-Err.is (c.put_first.ensures.puts well);
-    }
+returns-in-Err g c = record {
+  well = tt;
+  cause = rw c.in-Err.is at c.put_first.ensures.cause;
+  passed = c.put_first.ensures.passed;
+  puts = λ well.
+      item_first g.L.Layout.layout (shown c.args.kinds.now c.args.empty) (item_of g.N.Names.text c.args.item.now) (raw_head c.args.head.now) c.requires.head c.in-Err.is (c.put_first.ensures.puts well);
+}
 
 pub returns-in-Err-put_middle : goal.returns-in-Err-put_middle
 returns-in-Err-put_middle g c =

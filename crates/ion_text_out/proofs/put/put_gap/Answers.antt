@@ -3,13 +3,12 @@ use Rattle.ion_text_out.proofs.ItemParts.{on_ok}
 use Rattle.ion_text_out.proofs.put.put_gap.Goals as goal
 
 pub returns-in-Err : goal.returns-in-Err
-returns-in-Err g c =
-    record {
-      well = tt;
-      cause = rw c.in-Err.is at c.put_byte_in.ensures.cause;
-      passed = c.put_byte_in.ensures.passed;
-      puts = λ well. put_cut _ c.in-Err.is (c.put_byte_in.ensures.puts well);
-    }
+returns-in-Err g c = record {
+  well = tt;
+  cause = rw c.in-Err.is at c.put_byte_in.ensures.cause;
+  passed = c.put_byte_in.ensures.passed;
+  puts = λ well. put_cut _ c.in-Err.is (c.put_byte_in.ensures.puts well);
+}
 
 pub returns-in-Some : goal.returns-in-Some
 returns-in-Some g c =

@@ -29,8 +29,7 @@ returns-clause-all g c =
     let filled : List ℕ = c.fill.new.octets in
     let front : take (length c.as_slice-end.result.now) c.extend_zeros.new.self ≡ s.there =
     ap (λ (os : List ℕ). take (length os) c.extend_zeros.new.self) c.as_slice-end.ensures ∙ gap-front s.there c.extend_zeros.new.self s.missing c.in_default.ensures.ok in
-    ap (λ (gs : List LateHeader). spread gs filled) c.clear.ensures.items
-    ∙ (c.fill.ensures
+    ap (λ (gs : List LateHeader). spread gs filled) c.clear.ensures.items ∙ (c.fill.ensures
     ∙ (ap (λ (gs : List LateHeader). spread gs (take (length c.as_slice-end.result.now) c.extend_zeros.new.self)) c.as_slice.ensures
     ∙ (ap (λ (os : List ℕ). spread s.late.items os) front ∙ ap (λ (x : Content). x.all) c.self.view_is)))
 

@@ -20,8 +20,7 @@ returns g c =
     record {
       octets = λ e. ap (λ (y : Content). y.all) octets;
       headers = λ e. headers;
-      is_open = λ e.
-          room-begun c.args.limits v w x code c.requires.can_add.can_step.checked c.requires.can_add.is_open
+      is_open = λ e. room-begun c.args.limits v w x code c.requires.can_add.can_step.checked c.requires.can_add.is_open
           (kind-small c.args.kind) (ap (λ (y : Content). y.all) octets) headers refl (omega (arith, fits));
       declines = λ e. absurd (Prim.cc e);
       stepped =

@@ -41,8 +41,7 @@ returns-then-closed_size-limits-clause-over g c is =
     let m : c.len.result ≡ length (begun_at place o) = c.len.ensures ∙ ap (λ (os : List ℕ). length os) octets in
     let pushed : c.push.new.self ≡ header_at c.len.result c.type_code.result ∷ c.begin_wrapper.new.self.headers = search rules in
     let wrapped : c.begin_wrapper.new.self.headers ≡ wrapper_headers (drop place o) place ++ hs = search rules in
-    let headers : c.push.new.self ≡ begun_headers place o c.args.kind hs =
-    pushed
+    let headers : c.push.new.self ≡ begun_headers place o c.args.kind hs = pushed
     ∙ (ap (λ (gs : List HeaderPlace). header_at c.len.result c.type_code.result ∷ gs) wrapped
     ∙ (ap (λ k. header_at k c.type_code.result ∷ (wrapper_headers (drop place o) place ++ hs)) m
     ∙ ap (λ k. header_at (length (begun_at place o)) k ∷ (wrapper_headers (drop place o) place ++ hs)) c.type_code.ensures)) in

@@ -10,6 +10,5 @@ pub returns : goal.returns
 returns g c =
     let some : 0 < c.args.note = let f : c.args.note ≢ 0 = c.if-note-eq0.false in omega (arith, f) in
     let same : c.from.result ≡ c.args.note = search rules in
-    adds-same
-    (ap (λ (ns : List ℕ). noted_by c.args.name ns (both_octets c.args.scalar.now))
+    adds-same (ap (λ (ns : List ℕ). noted_by c.args.name ns (both_octets c.args.scalar.now))
     (c.as_slice.ensures.value ∙ (c.var_uint_write-notes.ensures.spelled ∙ (ap var_uint_octets same ∙ sym (named-octets c.args.note some))))) c.put_after-2.ensures

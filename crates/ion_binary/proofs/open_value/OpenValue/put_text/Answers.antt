@@ -12,8 +12,7 @@ returns g c =
     let same : c.len-2.result ≡ c.len.result = c.len-2.ensures.len ∙ sym c.len.ensures.len in
     let l = length-append first text in
     let s = c.surely_fits.ensures.fits c.if-not-surely_fits.false in
-    adds-same
-    (ap (λ (os : List ℕ). os ++ text) whole
+    adds-same (ap (λ (os : List ℕ). os ++ text) whole
     ∙ (c.in-Some-noted_front.ensures.octets text refl ∙ ap (λ (os : List ℕ). noted c.args.name c.args.note (os ++ text)) c.in-Some.ensures.octets))
     (room-adds c.args.limits.now v c.extend_block_if_room.new.self (first ++ text) c.args.meter.now c.extend_block_if_room.new.meter (c.len-2.result + length text) c.extend_block_if_room.result c.requires
     (omega (arith, l, f)) c.extend_block_if_room.ensures.octets c.extend_block_if_room.ensures.cost c.extend_block_if_room.ensures.declines (omega (arith, same, s)))

@@ -39,14 +39,12 @@ returns-clause-octets g c is =
     let front : List ℕ = c.args.scalar.now.front.now in
     let rest : List ℕ = c.args.scalar.now.rest.now in
     let e : c.len-octets.result ≡ length o = c.len-octets.ensures in
-    let w : c.wrapper-front.result.items ≡ wrapper_octets (length o - c.args.place) (length x) =
-    c.wrapper-front.ensures.octets
+    let w : c.wrapper-front.result.items ≡ wrapper_octets (length o - c.args.place) (length x) = c.wrapper-front.ensures.octets
     ∙ (ap (λ m. wrapper_octets (m - c.args.place) c.len-length.result) e ∙ ap (λ m. wrapper_octets (length o - c.args.place) m) c.len-length.ensures) in
     let third : c.extend_some.new.octets ≡ appended c.extend.new.self rest = search rules in
     let second : c.extend.new.self ≡ appended c.insert_some.new.octets front = search rules in
     let first : c.insert_some.new.octets.all ≡ put_at c.args.place c.wrapper-front.result.items o = search rules in
-    ap (λ (y : Content). y.all) third
-    ∙ (ap (λ (y : Content). y.all ++ rest) second
+    ap (λ (y : Content). y.all) third ∙ (ap (λ (y : Content). y.all ++ rest) second
     ∙ (ap (λ (y : List ℕ). (y ++ front) ++ rest) (first ∙ ap (λ (y : List ℕ). put_at c.args.place y o) w)
     ∙ (append_assoc (put_at c.args.place (wrapper_octets (length o - c.args.place) (length x)) o) front rest
     ∙ whole-octets c.args.place o x c.requires.open.within)))

@@ -5,8 +5,7 @@ use Rattle.ion_binary.proofs.ReaderParts.{last-innermost, stepped-cleared}
 use Rattle.ion_binary.proofs.reader.BinReader.step.Goals as goal
 
 pub inside-requires-clause-innermost : goal.inside-requires-clause-innermost
-inside-requires-clause-innermost g c =
-    last-innermost c.args.self.now.frames c.in-Some.frame
+inside-requires-clause-innermost g c = last-innermost c.args.self.now.frames c.in-Some.frame
     (ap (λ (l : List Frame). slice_get l (length l - 1)) (sym c.as_slice.ensures) ∙ (sym c.last.ensures.value ∙ (sym c.copied.ensures ∙ c.in-Some.is)))
 
 pub next_top-requires-clause-none : goal.next_top-requires-clause-none

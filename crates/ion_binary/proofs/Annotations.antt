@@ -62,10 +62,7 @@ ids_at-one_more limits end n id place annotations more c d taken before k within
 pub answers_at-refused : {T U A B : Type 0} (view : T → A) (shown : U → B) (fault : Fault) (after next : Cursor) (place : ℕ) (one : Result (A × Cursor) Reason) (all : Placed (B × Cursor))
     → Answers view (Err fault) after place one → ((e : Reason) → one ≡ Err e → all ≡ Err (e, place)) → AnswersAt shown (Err fault) next all
 answers_at-refused view shown (Refused reason at) after next place one all h k = k reason h.0 ∙ ap (λ p. Err (reason, p)) (sym h.1)
-answers_at-refused view shown Memory after next place one all h k = tt
-answers_at-refused view shown ReadFault after next place one all h k = tt
-answers_at-refused view shown WriteFault after next place one all h k = tt
-answers_at-refused view shown InputLimit after next place one all h k = tt
+answers_at-refused view shown x after next place one all h k = tt
 
 -- an entry more that the meter counts
 pub charges-grown : (old mid new : Counts) (held more most : ℕ) → Charges old mid 0 held most → Grows mid new 16 → more ≡ held + 16 → more ≤ most → Charges old new 0 more most

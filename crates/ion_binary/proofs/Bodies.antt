@@ -34,10 +34,8 @@ Body-read _ _ _ (negative i b is of range) = ap (with_value value.int) (int_of_b
 Body-read _ _ _ (float x b h) = ap float_of_body h
 Body-read _ _ _ (decimal d b h range) = ap (with_value value.decimal) (decimal_of_bytes-Ok d b h range)
 Body-read _ _ _ (timestamp t b h) = ap (with_value value.timestamp) (TimestampBody-read t b h)
-Body-read _ _ _ (symbol b) = refl
 Body-read _ _ _ (string b h) = rw (is_utf8-from_IsUtf8 b h) refl
-Body-read _ _ _ (clob b) = refl
-Body-read _ _ _ (blob b) = refl
+Body-read _ _ _ v = refl
 
 -- ---- what is read the grammar has
 

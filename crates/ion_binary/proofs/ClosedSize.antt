@@ -142,10 +142,9 @@ closed-top over depth last t out tops None annotations p top (value.whole body) 
 closed-top over depth last t out tops None annotations p top (value.begin k) fits none =
     let ids : UserSymbol → ℕ = id_in (with_symbols (texts_kept over t) (item_symbols (an_item None annotations p top (value.begin k)))) in
     sym (last-size ids 0 tops (tree top annotations p (container k nothing last)))
-closed-top over depth last t out tops (Some s) annotations p top (value.whole body) fits none = absurd (cc fits.field)
-closed-top over depth last t out tops (Some s) annotations p top (value.begin k) fits none = absurd (cc fits.field)
 closed-top over depth last t out tops f annotations p top value.end fits none = absurd (omega (arith, fits.place))
 closed-top over depth last t out tops f annotations p top value.marker fits none = absurd (cc none)
+closed-top over depth last t out tops (Some s) annotations p top x fits none = absurd (cc fits.field)
 
 -- where containers are open
 pub closed-inside : (m last : ℕ) (t : List (List ℕ)) (n : ℕ) (due : Bool) (out : List ℕ) (tops : List (Top UserSymbol ℕ)) (first : ℕ) (nest : Nest UserSymbol ℕ)

@@ -219,8 +219,7 @@ module _ (far : ℕ) where
     descriptor-moved a (container k length_code) c = container-moved a k length_code c
     descriptor-moved a marker c = marker-moved a.region c
     descriptor-moved a (float length_code) c = refused-changed found_moved (not limits.floats) (not limits.floats) Float _ _ refl (scalar-moved a 4 length_code c)
-    descriptor-moved a (wrapper length_code) c = refl
-    descriptor-moved a illegal c = refl
+    descriptor-moved a x c = refl
 
     typed-moved : (a : Around) (b : ℕ) (c : Cursor) → Found (typed_value_at limits a b c) (typed_value_at limits (around_moved a) b (moved c))
     unfolding typed_value_at
@@ -313,15 +312,7 @@ module _ (far : ℕ) where
 
     scalar-placed : (p : ℕ) (v : Scalar Symbol) → placed_scalar (p + far) v ≡ map_scalar (symbol_further far) (placed_scalar p v)
     scalar-placed p (value.null t) = refl
-    scalar-placed p (value.bool truth) = refl
-    scalar-placed p (value.int number) = refl
-    scalar-placed p (value.float number) = refl
-    scalar-placed p (value.decimal number) = refl
-    scalar-placed p (value.timestamp moment) = refl
-    scalar-placed p (value.symbol name) = refl
-    scalar-placed p (value.string bytes) = refl
-    scalar-placed p (value.clob bytes) = refl
-    scalar-placed p (value.blob bytes) = refl
+    scalar-placed p x = refl
 
     abbrev field_moved : Option SymbolAt → Option SymbolAt
     field_moved f = option_map (symbol_further far) f
@@ -401,9 +392,8 @@ module _ (far : ℕ) where
     named_moved p = (field_moved p.0, moved p.1)
 
     field_in-moved : (k : Kind) (r : Region) (c : Cursor) → Alike named_moved (field_in k r c) (field_in k (region_moved r) (moved c))
-    field_in-moved kind.List r c = refl
-    field_in-moved kind.Sexp r c = refl
     field_in-moved kind.Struct r c = then-changed plainly named_moved (λ e. e) (var_uint_at r c) (var_uint_at (region_moved r) (moved c)) _ _ (uint-moved r c) (λ i is. refl)
+    field_in-moved x r c = refl
 
     field-moved : (frames : List Frame) (c : Cursor) → Alike named_moved (field_at frames c) (field_at (map frame_moved frames) (moved c))
     field-moved [] c = refl
@@ -448,10 +438,9 @@ module _ (far : ℕ) where
     -- ---- a reading
 
     turn-moved : (o : Step State) → ((t : State) → Leaves o t → read limits (state_moved t) ≡ further far (read limits t)) → next_reading (read limits) (step_moved o) ≡ further far (next_reading (read limits) o)
-    turn-moved Ends same = refl
-    turn-moved (Stops why place) same = refl
     turn-moved (Gives item t) same = ap (More (item_further far item)) (same t (after_item item t))
     turn-moved (GoesOn t) same = same t (after_nothing t)
+    turn-moved x same = refl
 
     read-moved : (n : ℕ) (s : State) → size s < n → read limits (state_moved s) ≡ further far (read limits s)
     read-moved zero s less = absurd (omega (arith, less))

@@ -249,9 +249,8 @@ field_at-free [] c = record { so = tt }
 field_at-free (f ∷ frames) c = by_kind f.kind
   where
     by_kind : (k : Kind) → Blames Free (field_in k (Some f.end) c)
-    by_kind kind.List = record { so = tt }
-    by_kind kind.Sexp = record { so = tt }
     by_kind kind.Struct = bind_blames Free (var_uint_at (Some f.end) c) _ (var_uint_at-free (Some f.end) c) (λ i _. record { so = tt })
+    by_kind x = record { so = tt }
 
 module _ (limits : Rules) (now : State) where
   abbrev frames : List Frame

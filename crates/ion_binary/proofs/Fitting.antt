@@ -5,10 +5,8 @@ use Rattle.ion_binary.proofs.Spelled.{VarUInt-pos, Descriptor-headed}
 
 -- what a scalar has after its header is no longer than the limit, and it is permitted
 abbrev pub PlainFits : Rules → {v : Scalar Symbol} {x : List ℕ} → Plain v x → Type 0
-PlainFits limits (Plain.null t n is) = ⊤
-PlainFits limits Plain.no = ⊤
-PlainFits limits Plain.yes = ⊤
 PlainFits limits (Plain.body t v head b descriptor is) = (length b ≤ limits.scalar) × IsPermitted limits v
+PlainFits limits x = ⊤
 
 -- so it is with each scalar of a value, no more containers are open than the limit says, and no annotations cost more
 abbrev mutual
@@ -49,10 +47,8 @@ Annotated-few _ _ _ _ (Annotated.wrapped q annotations n w (Wrapper.wrapper _ _ 
     omega (arith, length-append (head ++ len) ids, Ids-few (q + length (head ++ len)) annotations ids are)
 
 Plain-allowed : (limits : Rules) (v : Scalar Symbol) (x : List ℕ) (plain : Plain v x) → length x ≤ limits.scalar → IsPermitted limits v → PlainFits limits plain
-Plain-allowed limits _ _ (Plain.null t n is) limit permitted = tt
-Plain-allowed limits _ _ Plain.no limit permitted = tt
-Plain-allowed limits _ _ Plain.yes limit permitted = tt
 Plain-allowed limits _ _ (Plain.body t v head b descriptor is) limit permitted = (omega (arith, length-append head b), permitted)
+Plain-allowed limits _ _ x limit permitted = tt
 
 -- a container's header has an octet
 Header-pos : (k : Kind) (n : ℕ) (header : List ℕ) → Header k n header → 0 < length header

@@ -56,21 +56,12 @@ scalar-stays texts t (value.symbol s) h =
     let k = have-known texts (s ∷ []) h in
     id_ext texts (texts ++ t ∷ []) (user_symbol_at s) (with-one texts t) k.0
 scalar-stays texts t (value.null type) h = refl
-scalar-stays texts t (value.bool truth) h = refl
-scalar-stays texts t (value.int number) h = refl
-scalar-stays texts t (value.float number) h = refl
-scalar-stays texts t (value.decimal number) h = refl
-scalar-stays texts t (value.timestamp moment) h = refl
-scalar-stays texts t (value.string bytes) h = refl
-scalar-stays texts t (value.clob bytes) h = refl
-scalar-stays texts t (value.blob bytes) h = refl
+scalar-stays texts t x h = refl
 
 name-stays : (texts : List (List ℕ)) (t : List ℕ) (head : Head SymbolAt) → HaveIds texts (head_symbols head)
     → head_name (id_in (texts ++ t ∷ [])) (map_head user_symbol_at head) ≡ head_name (id_in texts) (map_head user_symbol_at head)
 name-stays texts t (value.whole body) h = scalar-stays texts t body h
-name-stays texts t (value.begin kind) h = refl
-name-stays texts t value.end h = refl
-name-stays texts t value.marker h = refl
+name-stays texts t x h = refl
 
 -- ---- one symbol is new
 

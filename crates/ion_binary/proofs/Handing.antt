@@ -164,16 +164,11 @@ to_come-gives device limits frames then top top_then s t item e =
 -- ---- where it may stand
 
 named-range : (f : SymbolAt → SymbolAt) (place : ℕ) (v : Scalar Symbol) → InRange v → InRange (map_scalar f (placed_scalar place v))
-named-range f place (value.null t) h = tt
-named-range f place (value.bool t) h = tt
 named-range f place (value.int n) h = h
 named-range f place (value.float n) h = h
 named-range f place (value.decimal n) h = h
 named-range f place (value.timestamp n) h = h
-named-range f place (value.symbol n) h = tt
-named-range f place (value.string n) h = tt
-named-range f place (value.clob n) h = tt
-named-range f place (value.blob n) h = tt
+named-range f place x h = tt
 
 field-there : (field : Option TextAt) → is_some (option_map placed_text field) ≡ is_some field
 field-there None = refl

@@ -132,12 +132,4 @@ field_octets-same t u (Some s) e h = ap var_uint_octets (id_ext t u s e h.0)
 
 pub scalar_octets-same : (t u : List (List ℕ)) (v : Scalar UserSymbol) → Extends t u → AreKnown t (scalar_symbols v) → scalar_octets (id_in u) v ≡ scalar_octets (id_in t) v
 scalar_octets-same t u (value.symbol s) e h = ap (λ n. scalar_octets (λ x. n) (value.symbol s)) (id_ext t u s e h.0)
-scalar_octets-same t u (value.null type) e h = refl
-scalar_octets-same t u (value.bool truth) e h = refl
-scalar_octets-same t u (value.int number) e h = refl
-scalar_octets-same t u (value.float number) e h = refl
-scalar_octets-same t u (value.decimal number) e h = refl
-scalar_octets-same t u (value.timestamp moment) e h = refl
-scalar_octets-same t u (value.string bytes) e h = refl
-scalar_octets-same t u (value.clob bytes) e h = refl
-scalar_octets-same t u (value.blob bytes) e h = refl
+scalar_octets-same t u v e h = refl

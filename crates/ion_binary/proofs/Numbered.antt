@@ -340,21 +340,11 @@ field-ids ids (Some s) = append-nil (var_uint_octets (ids s))
 
 users-scalar : (v : Scalar SymbolAt) → users (scalar_symbols v) ≡ scalar_symbols (map_scalar user_symbol_at v)
 users-scalar (value.null type) = refl
-users-scalar (value.bool truth) = refl
-users-scalar (value.int number) = refl
-users-scalar (value.float number) = refl
-users-scalar (value.decimal number) = refl
-users-scalar (value.timestamp moment) = refl
-users-scalar (value.symbol name) = refl
-users-scalar (value.string bytes) = refl
-users-scalar (value.clob bytes) = refl
-users-scalar (value.blob bytes) = refl
+users-scalar x = refl
 
 users-head : (h : Head SymbolAt) → users (head_symbols h) ≡ head_symbols (map_head user_symbol_at h)
 users-head (value.whole body) = users-scalar body
-users-head (value.begin kind) = refl
-users-head value.end = refl
-users-head value.marker = refl
+users-head x = refl
 
 pub users-item : (i : PlacedItem) → users (item_symbols i) ≡ item_symbols (user_item i)
 users-item i = users-append (field_symbols i.field) (i.annotations ++ head_symbols i.head)

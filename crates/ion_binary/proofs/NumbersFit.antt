@@ -79,11 +79,7 @@ module _ (t u : Timestamp) (h : IsTimestamp t) (i : InUtc t u) where
 
   body-short : (p : Precision) → u.precision ≡ p → length (timestamp_body t) ≤ 26
   body-short (Fraction n) e = with-fraction n e
-  body-short Year e = without-fraction (λ n k. absurd (cc (sym e ∙ k)))
-  body-short Month e = without-fraction (λ n k. absurd (cc (sym e ∙ k)))
-  body-short Day e = without-fraction (λ n k. absurd (cc (sym e ∙ k)))
-  body-short Minute e = without-fraction (λ n k. absurd (cc (sym e ∙ k)))
-  body-short Second e = without-fraction (λ n k. absurd (cc (sym e ∙ k)))
+  body-short x e = without-fraction (λ n k. absurd (cc (sym e ∙ k)))
 
 timestamp-short : (t : Timestamp) → IsTimestamp t → length (timestamp_body t) ≤ 26
 timestamp-short t h = body-short t h.utc.0 h (in-utc t h) h.utc.0.precision refl

@@ -291,5 +291,4 @@ grow-shrink m n o more less before after most g s e held share =
 
 pub kind-small : (k : Kind) → type_code k < 16
 kind-small kind.List = lit< tt
-kind-small kind.Sexp = lit< tt
-kind-small kind.Struct = lit< tt
+kind-small x = lit< tt

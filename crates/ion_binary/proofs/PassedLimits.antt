@@ -60,8 +60,7 @@ same-length a b x y same e = sym (drop_at a x (length a) refl) ∙ ap (drop (len
 
 container_code : (k : Kind) → (11 ≤ type_code k) × (type_code k < 14)
 container_code kind.List = (omega arith, omega arith)
-container_code kind.Sexp = (omega arith, omega arith)
-container_code kind.Struct = (omega arith, omega arith)
+container_code x = (omega arith, omega arith)
 
 module _ (limits : Rules) where
   begin_at-deep : (a : Around) (k : Kind) (n : ℕ) (c : Cursor) (y : TypedValue × Cursor) → limits.depth ≤ a.depth → begin_at limits a k n c ≡ Ok y → ⊥

@@ -6,15 +6,7 @@ use Rattle.ion_binary.proofs.Elements.{all-append, all-left, all-right}
 -- a scalar that a place is given to
 pub unplaced-permitted : (limits : Rules) (place : ℕ) (v : Scalar Symbol) → IsPermitted limits (placed_scalar place v) → IsPermitted limits v
 unplaced-permitted limits place (value.float number) h = h
-unplaced-permitted limits place (value.null type) h = tt
-unplaced-permitted limits place (value.bool truth) h = tt
-unplaced-permitted limits place (value.int number) h = tt
-unplaced-permitted limits place (value.decimal number) h = tt
-unplaced-permitted limits place (value.timestamp moment) h = tt
-unplaced-permitted limits place (value.symbol name) h = tt
-unplaced-permitted limits place (value.string bytes) h = tt
-unplaced-permitted limits place (value.clob bytes) h = tt
-unplaced-permitted limits place (value.blob bytes) h = tt
+unplaced-permitted limits place x h = tt
 
 abbrev IsOne : Rules → PlacedItem → Type 0
 IsOne limits = λ (item : PlacedItem). HeadIsPermitted limits item.head

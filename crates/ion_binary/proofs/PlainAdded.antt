@@ -90,16 +90,12 @@ module _ (h : Held) (item : PlacedItem) (known : HaveIds h.texts (item_symbols i
 whole-octets-by : (place : ℕ) (front : List ℕ) (hs : List HeaderPlace) (ids : UserSymbol → ℕ) (head : Head SymbolAt) → IsWhole head
     → moved_octets place front hs ids (map_head user_symbol_at head) ≡ whole_at place front (head_octets ids (map_head user_symbol_at head))
 whole-octets-by place front hs ids (value.whole body) w = refl
-whole-octets-by place front hs ids (value.begin kind) w = absurd w
-whole-octets-by place front hs ids value.end w = absurd w
-whole-octets-by place front hs ids value.marker w = absurd w
+whole-octets-by place front hs ids x w = absurd w
 
 whole-headers-by : (place : ℕ) (front : List ℕ) (hs : List HeaderPlace) (head : Head SymbolAt) → IsWhole head
     → moved_headers place front hs (map_head user_symbol_at head) ≡ hs
 whole-headers-by place front hs (value.whole body) w = refl
-whole-headers-by place front hs (value.begin kind) w = absurd w
-whole-headers-by place front hs value.end w = absurd w
-whole-headers-by place front hs value.marker w = absurd w
+whole-headers-by place front hs x w = absurd w
 
 -- a scalar adds those of a member
 pub scalar-added : (h : Held) (item : PlacedItem) (new : List ℕ) → HaveIds h.texts (item_symbols item) → IsWhole item.head

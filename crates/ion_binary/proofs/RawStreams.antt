@@ -28,14 +28,11 @@ body-raw place _ _ _ (Body.decimal d b h range) small = record { range = range; 
 body-raw place _ _ _ (Body.timestamp t b h) small = record { range = timestamp-raw t b h; text = tt; bytes = tt; symbols = tt }
 body-raw place _ _ _ (Body.symbol b) small = record { range = tt; text = tt; bytes = tt; symbols = (tt, tt) }
 body-raw place _ _ _ (Body.string b h) small = record { range = tt; text = h; bytes = tt; symbols = tt }
-body-raw place _ _ _ (Body.clob b) small = record { range = tt; text = tt; bytes = small; symbols = tt }
-body-raw place _ _ _ (Body.blob b) small = record { range = tt; text = tt; bytes = small; symbols = tt }
+body-raw place _ _ _ v small = record { range = tt; text = tt; bytes = small; symbols = tt }
 
 plain-raw : (place : ℕ) (v : Scalar Symbol) (x : List ℕ) → Plain v x → AreBytes x → ScalarRaw (placed_scalar place v)
-plain-raw place _ _ (Plain.null t n is) small = record { range = tt; text = tt; bytes = tt; symbols = tt }
-plain-raw place _ _ Plain.no small = record { range = tt; text = tt; bytes = tt; symbols = tt }
-plain-raw place _ _ Plain.yes small = record { range = tt; text = tt; bytes = tt; symbols = tt }
 plain-raw place _ _ (Plain.body t v head b d h) small = body-raw place t v b h (all-right Small head b small)
+plain-raw place _ _ x small = record { range = tt; text = tt; bytes = tt; symbols = tt }
 
 -- ---- what stands before a value
 
@@ -54,8 +51,7 @@ record FieldRaw (k : Kind) (f : Option SymbolAt) : Type 0 where
 
 field-raw : (k : Kind) (q : ℕ) (f : Option SymbolAt) (b : List ℕ) → Field k q f b → FieldRaw k f
 field-raw _ _ _ _ (Field.named q n b v) = record { is = refl; symbols = (tt, tt) }
-field-raw _ _ _ _ (Field.in_list q) = record { is = refl; symbols = tt }
-field-raw _ _ _ _ (Field.in_sexp q) = record { is = refl; symbols = tt }
+field-raw _ _ _ _ x = record { is = refl; symbols = tt }
 
 -- ---- values
 

@@ -233,14 +233,7 @@ module _ (limits : Rules) (frames : List Frame) (top : ℕ) (f : Option SymbolAt
       let k : m ≡ length_code = cc e in
       rw (sym k) (ap (λ t. part place t >>= λ w. noted_at limits frames top f w.0 w.1) (wrapper_at-after (region_of frames) m d) ∙ wrapped-length (length_at m (region_of frames) d))
   wrapped-shape (Shape.null t) d length_code e = absurd (cc e)
-  wrapped-shape (Shape.bool truth) d length_code e = absurd (cc e)
-  wrapped-shape (Shape.nop_pad m) d length_code e = absurd (cc e)
-  wrapped-shape (Shape.body t m) d length_code e = absurd (cc e)
-  wrapped-shape (Shape.container k m) d length_code e = absurd (cc e)
-  wrapped-shape Shape.sorted d length_code e = absurd (cc e)
-  wrapped-shape Shape.marker d length_code e = absurd (cc e)
-  wrapped-shape (Shape.float m) d length_code e = absurd (cc e)
-  wrapped-shape Shape.illegal d length_code e = absurd (cc e)
+  wrapped-shape x d length_code e = absurd (cc e)
 
   value-octet : (o : Result (ℕ × Cursor) Reason) (c : Cursor) → octet_at (region_of frames) c ≡ o
       → (part place o >>= λ b. by_wrapper (wrapper_length (shape_of b.0)) (λ length_code. annotated_at limits frames top f place length_code b.1) (plain_at limits frames top f place b.0 b.1))

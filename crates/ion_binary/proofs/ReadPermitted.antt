@@ -139,8 +139,7 @@ module _ (limits : Rules) where
   shape-fine a (Shape.container k length_code) c none = container-fine a k length_code c
   shape-fine a Shape.marker c none = marker-fine a c
   shape-fine a (Shape.float length_code) c none = float-fine a length_code c
-  shape-fine a (Shape.wrapper length_code) c none = tt
-  shape-fine a Shape.illegal c none = tt
+  shape-fine a x c none = tt
 
   typed-fine : (a : Around) (b : ℕ) (c : Cursor) → IfOk (typed_value_at limits a b c) FinePart
   unfolding typed_value_at

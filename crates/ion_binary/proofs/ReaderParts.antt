@@ -29,8 +29,7 @@ innermost-region _ _ (inside f outer) = refl
 
 struct-first : (k : Kind) (ks : List Kind) → in_struct (k ∷ ks) ≡ in_struct (k ∷ [])
 struct-first kind.List ks = refl
-struct-first kind.Sexp ks = refl
-struct-first kind.Struct ks = refl
+struct-first x ks = refl
 
 pub innermost-struct : (frames : List Frame) (f : Option frame.Frame) → IsInnermost frames f → in_struct (map (λ x. x.kind) frames) ≡ in_struct (map (λ x. x.kind) (innermost f))
 innermost-struct _ _ at_top = refl
@@ -59,9 +58,7 @@ unfolding member_at
 member_at-refused item next limits frames top c after (Refused reason at) h =
     ap (λ r. step_of (part c.place r >>= λ f. value_at limits frames (top_of frames top c.place) f.0 f.1)) h.0 ∙ ap (λ p. Stops reason p) (sym h.1)
 member_at-refused item next limits frames top c after Memory h = tt
-member_at-refused item next limits frames top c after ReadFault h = tt
-member_at-refused item next limits frames top c after WriteFault h = tt
-member_at-refused item next limits frames top c after InputLimit h = tt
+member_at-refused item next limits frames top c after x h = tt
 
 pub member_at-field : (limits : Rules) (frames : List Frame) (top : ℕ) (c d : Cursor) (f : Option SymbolAt) → field_at frames c ≡ Ok (f, d)
     → member_at limits frames top c ≡ value_at limits frames (top_of frames top c.place) f d
@@ -71,24 +68,16 @@ member_at-field limits frames top c d f e = ap (λ r. part c.place r >>= λ f. v
 pub value-refused : (item : PlacedItem) (next : State) (frames : List Frame) (top : ℕ) (f : Option SymbolAt) (annotations : List SymbolAt) (text : List ℕ) (scalar : Body) (fault : Fault) (after : Cursor)
     (s : Placed (Step State)) → GivesStep frames top f annotations text scalar (Err fault) after s → TakenGives item next (Err fault) (step_of s)
 value-refused item next frames top f annotations text scalar (Refused reason at) after s h = ap step_of h
-value-refused item next frames top f annotations text scalar Memory after s h = tt
-value-refused item next frames top f annotations text scalar ReadFault after s h = tt
-value-refused item next frames top f annotations text scalar WriteFault after s h = tt
-value-refused item next frames top f annotations text scalar InputLimit after s h = tt
+value-refused item next frames top f annotations text scalar x after s h = tt
 
 -- ---- items stand where they may
 
 InRange-placed : (place : ℕ) (s : Scalar Symbol) → InRange s → InRange (placed_scalar place s)
-InRange-placed place (value.null t) h = tt
-InRange-placed place (value.bool t) h = tt
 InRange-placed place (value.int n) h = h
 InRange-placed place (value.float n) h = h
 InRange-placed place (value.decimal n) h = h
 InRange-placed place (value.timestamp n) h = h
-InRange-placed place (value.symbol n) h = tt
-InRange-placed place (value.string n) h = tt
-InRange-placed place (value.clob n) h = tt
-InRange-placed place (value.blob n) h = tt
+InRange-placed place x h = tt
 
 field-some : (f : Option field.Field) → is_some (as_field f) ≡ is_some f
 field-some None = refl
@@ -168,13 +157,11 @@ last-innermost frames f e =
 
 pub took-item : (item : PlacedItem) (after : State) (x : StepResult) (s : Step State) → x ≡ taken.Item → TakenGives item after (Ok x) s → s ≡ Gives item after
 took-item item after taken.Item s e h = h
-took-item item after taken.Passed s e h = absurd (cc e)
-took-item item after taken.Ended s e h = absurd (cc e)
+took-item item after x s e h = absurd (cc e)
 
 pub took-nop_pad : (item : PlacedItem) (after : State) (x : StepResult) (s : Step State) → x ≡ taken.Passed → TakenGives item after (Ok x) s → s ≡ GoesOn after
 took-nop_pad item after taken.Passed s e h = h
-took-nop_pad item after taken.Item s e h = absurd (cc e)
-took-nop_pad item after taken.Ended s e h = absurd (cc e)
+took-nop_pad item after x s e h = absurd (cc e)
 
 pub charges-then : (a b c : Counts) (first between last most : ℕ) → first ≤ a.held → Charges a b first between most → Charges b c between last most → Charges a c first last most
 charges-then a b c first between last most small x y = record {

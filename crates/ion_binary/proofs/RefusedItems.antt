@@ -202,10 +202,8 @@ texts-with m tops first nest f annotations p top value.marker next = absurd (not
 
 not-marker : (tops : List (Top UserSymbol ℕ)) (first : ℕ) (nest : Nest UserSymbol ℕ) (f : Option SymbolAt) (annotations : List SymbolAt) (p top : ℕ)
     (h : Head SymbolAt) → (let i = user_item (placed f annotations p top h) in IsNext (opened tops first nest) i → is_marker i.head ≡ false)
-not-marker tops first nest f annotations p top (value.whole body) next = refl
-not-marker tops first nest f annotations p top (value.begin k) next = refl
-not-marker tops first nest f annotations p top value.end next = refl
 not-marker tops first nest f annotations p top value.marker next = absurd (not-longer (path_items (opened tops first nest)) _ next)
+not-marker tops first nest f annotations p top x next = refl
 
 refused-inside : (limits : Limits) (tops : List (Top UserSymbol ℕ)) (first : ℕ) (nest : Nest UserSymbol ℕ) (n : ℕ) (due : Bool) (out : List ℕ)
     (f : Option SymbolAt) (annotations : List SymbolAt) (p top : ℕ) (h : Head SymbolAt) → (let item = placed f annotations p top h in

@@ -91,12 +91,8 @@ length_code-small limits (Shape.nop_pad length_code) h = h
 length_code-small limits (Shape.wrapper length_code) h = h
 length_code-small limits (Shape.body type_code length_code) h = h.1
 length_code-small limits (Shape.container k length_code) h = h
-length_code-small limits Shape.sorted h = omega arith
-length_code-small limits (Shape.null t) h = omega arith
-length_code-small limits (Shape.bool truth) h = omega arith
-length_code-small limits Shape.marker h = omega arith
 length_code-small limits (Shape.float length_code) h = read-small limits.floats length_code h
-length_code-small limits Shape.illegal h = omega arith
+length_code-small limits x h = omega arith
 
 pub found_at-no_length : (limits : Rules) (a : Around) (s : Shape) (c : Cursor) (e : Reason) → length_at (length_code_of limits s) a.region c ≡ Err e → found_at limits a s c ≡ Err e
 found_at-no_length limits a s c e h = rw h refl
@@ -209,6 +205,4 @@ module _ {I T A : Type 0} (device : InputOf I) (view : T → A) (most place : �
       let none : drop (length (lent s)) (left device.rest s) ≡ [] = rw k.2 (grind (arith, common_steps)) in
       (now h ∙ (ap (λ (l : List ℕ). reading (window s.place (lent s) l)) none ∙ (shows.1 ∙ ap (λ r. Err r) (sym k.0))), k.1)
   scanned-cut Memory after shows cut h = tt
-  scanned-cut ReadFault after shows cut h = tt
-  scanned-cut WriteFault after shows cut h = tt
-  scanned-cut InputLimit after shows cut h = tt
+  scanned-cut x after shows cut h = tt

@@ -201,11 +201,7 @@ module _ (t u : Timestamp) (run : List ℕ) (h : IsTimestamp t) (i : InUtc t u) 
 
   body-few : (p : Precision) → u.precision ≡ p → length (timestamp_body t) ≤ 16
   body-few (Fraction n) is = with-fraction n is
-  body-few Year is = without-fraction (λ n k. absurd (cc (sym is ∙ k)))
-  body-few Month is = without-fraction (λ n k. absurd (cc (sym is ∙ k)))
-  body-few Day is = without-fraction (λ n k. absurd (cc (sym is ∙ k)))
-  body-few Minute is = without-fraction (λ n k. absurd (cc (sym is ∙ k)))
-  body-few Second is = without-fraction (λ n k. absurd (cc (sym is ∙ k)))
+  body-few x is = without-fraction (λ n k. absurd (cc (sym is ∙ k)))
 
 timestamp-few : (t : Timestamp) (run : List ℕ) → IsTimestamp t → timestamp_of_text run ≡ Ok t → length run ≤ 25 → length (timestamp_body t) ≤ 16
 timestamp-few t run h e few = body-few t h.utc.0 run h (in-utc t h) e few h.utc.0.precision refl

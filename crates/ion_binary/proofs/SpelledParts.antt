@@ -84,14 +84,7 @@ body_sized limits _ length_code _ _ (Body.blob b) permitted small = body_shape l
 
 body_code : (t : ℕ) (v : Scalar Symbol) (b : List ℕ) → Body t v b → (1 ≤ t) × (t < 14)
 body_code _ _ _ (Body.positive i b sign magnitude is) = (omega arith, omega arith)
-body_code _ _ _ (Body.negative i b sign magnitude is) = (omega arith, omega arith)
-body_code _ _ _ (Body.float x b spells) = (omega arith, omega arith)
-body_code _ _ _ (Body.decimal d b spells is) = (omega arith, omega arith)
-body_code _ _ _ (Body.timestamp t b spells) = (omega arith, omega arith)
-body_code _ _ _ (Body.symbol b) = (omega arith, omega arith)
-body_code _ _ _ (Body.string b utf8) = (omega arith, omega arith)
-body_code _ _ _ (Body.clob b) = (omega arith, omega arith)
-body_code _ _ _ (Body.blob b) = (omega arith, omega arith)
+body_code _ _ _ v = (omega arith, omega arith)
 
 -- the type codes of containers, where the octet is not that of a struct in order
 container_shape : (k : Kind) (length_code : ℕ) → length_code < 15 → (16 * type_code k + length_code ≡ 209 → ⊥) → shape_by (type_code k) length_code ≡ container k length_code
@@ -103,8 +96,7 @@ container_shape kind.Struct length_code small other =
 
 container_code : (k : Kind) → (1 ≤ type_code k) × (type_code k < 14)
 container_code kind.List = (omega arith, omega arith)
-container_code kind.Sexp = (omega arith, omega arith)
-container_code kind.Struct = (omega arith, omega arith)
+container_code x = (omega arith, omega arith)
 
 -- ---- places where a part ends
 

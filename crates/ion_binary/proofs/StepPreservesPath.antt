@@ -219,15 +219,7 @@ wrapper_is b length_code e = by_cases (shape_of b) (shape_of-is b) e
   where
     by_cases : (s : Shape) → IsShape b s → wrapper_length s ≡ Some length_code → (b ≡ 16 * 14 + length_code) × (length_code < 15)
     by_cases (Shape.wrapper m) is e = let k : m ≡ length_code = cc e in subst (λ (length_code : ℕ). (b ≡ 16 * 14 + length_code) × (length_code < 15)) k is
-    by_cases (Shape.null t) is e = absurd (cc e)
-    by_cases (Shape.bool truth) is e = absurd (cc e)
-    by_cases (Shape.nop_pad m) is e = absurd (cc e)
-    by_cases (Shape.body t m) is e = absurd (cc e)
-    by_cases (Shape.container k m) is e = absurd (cc e)
-    by_cases Shape.sorted is e = absurd (cc e)
-    by_cases Shape.marker is e = absurd (cc e)
-    by_cases (Shape.float m) is e = absurd (cc e)
-    by_cases Shape.illegal is e = absurd (cc e)
+    by_cases x is e = absurd (cc e)
 
 -- a wrapper's header, from its lengths and its ids, is one that wants just the octets up to the wrapper's end
 module _ (r : Region) (length_code b : ℕ) (start after : Cursor) (w : Wrapped × Cursor) (annotations : List SymbolAt) (here : Cursor) (b_is : b ≡ 16 * 14 + length_code)

@@ -163,10 +163,9 @@ field_at-stays (f ∷ frames) c = by_kind f.kind
 
 -- what is true of the state after a step, where there is one
 abbrev pub OnStep : (State → Type 0) → Step State → Type 0
-OnStep P Ends = Unit {0}
-OnStep P (Stops reason place) = Unit {0}
 OnStep P (Gives item after) = P after
 OnStep P (GoesOn after) = P after
+OnStep P x = Unit {0}
 
 pub leaves-on : (P : State → Type 0) (o : Step State) (after : State) → OnStep P o → Leaves o after → P after
 leaves-on P _ _ h (after_item item after) = h

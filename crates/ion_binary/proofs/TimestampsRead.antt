@@ -115,13 +115,9 @@ fields-says o (y ∷ m ∷ d ∷ h ∷ i ∷ s ∷ x ∷ z ∷ f) c utc few ok e
 
 -- after a date there are no octets
 Says-date : (others : List (List ℕ)) (c : List ℕ) (utc : Timestamp) → Says others c utc → is_date utc.precision ≡ true → c ≡ []
-Says-date _ _ _ (year y) h = refl
-Says-date _ _ _ (month y m) h = refl
-Says-date _ _ _ (day y m d) h = refl
-Says-date _ _ _ (minute y m d k i) h = refl
-Says-date _ _ _ (second y m d k i s) h = refl
 Says-date _ _ _ (no_fraction y m d k i s e c not_below none) h = absurd (cc h)
 Says-date _ _ _ (fraction y m d k i s e c n minus is some few below plus) h = absurd (cc h)
+Says-date _ _ _ x h = refl
 
 -- ---- the offset
 

@@ -19,18 +19,12 @@ module _ (frames : List Frame) (top : ℕ) (f : Option SymbolAt) (annotations : 
   pub step-refused : {T A : Type 0} (view : T → A) (fault : Fault) (after next : Cursor) (place : ℕ) (one : Result (A × Cursor) Reason) (k : A × Cursor → Placed (Step State))
       → Answers view (Err fault) after place one → GivesStep frames top f annotations text scalar (Err fault) next (part place one >>= k)
   step-refused view (Refused reason at) after next place one k h = ap (λ r. part place r >>= k) h.0 ∙ ap (λ p. Err (reason, p)) (sym h.1)
-  step-refused view Memory after next place one k h = tt
-  step-refused view ReadFault after next place one k h = tt
-  step-refused view WriteFault after next place one k h = tt
-  step-refused view InputLimit after next place one k h = tt
+  step-refused view x after next place one k h = tt
 
   pub step-refused_at : {T A : Type 0} (view : T → A) (fault : Fault) (after next : Cursor) (one : Placed (A × Cursor)) (k : A × Cursor → Placed (Step State))
       → AnswersAt view (Err fault) after one → GivesStep frames top f annotations text scalar (Err fault) next (one >>= k)
   step-refused_at view (Refused reason at) after next one k h = ap (λ r. r >>= k) h
-  step-refused_at view Memory after next one k h = tt
-  step-refused_at view ReadFault after next one k h = tt
-  step-refused_at view WriteFault after next one k h = tt
-  step-refused_at view InputLimit after next one k h = tt
+  step-refused_at view x after next one k h = tt
 
   -- equal steps
   pub step-same : (r : Result (typed.TypedValue × ℕ) Fault) (after : Cursor) (s t : Placed (Step State)) → s ≡ t → GivesStep frames top f annotations text scalar r after t → GivesStep frames top f annotations text scalar r after s

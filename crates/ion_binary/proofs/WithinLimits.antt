@@ -93,21 +93,11 @@ field-users (Some s) = refl
 
 scalar-users : (v : Scalar SymbolAt) → users_of (scalar_symbols v) ≡ scalar_symbols (value.map_scalar user_symbol_at v)
 scalar-users (value.null type) = refl
-scalar-users (value.bool truth) = refl
-scalar-users (value.int number) = refl
-scalar-users (value.float number) = refl
-scalar-users (value.decimal number) = refl
-scalar-users (value.timestamp moment) = refl
-scalar-users (value.symbol name) = refl
-scalar-users (value.string bytes) = refl
-scalar-users (value.clob bytes) = refl
-scalar-users (value.blob bytes) = refl
+scalar-users x = refl
 
 head-users : (h : Head SymbolAt) → users_of (head_symbols h) ≡ head_symbols (value.map_head user_symbol_at h)
 head-users (value.whole body) = scalar-users body
-head-users (value.begin kind) = refl
-head-users value.end = refl
-head-users value.marker = refl
+head-users x = refl
 
 item-users : (i : PlacedItem) → users_of (item_symbols i) ≡ item_symbols (user_item i)
 item-users i = map-append user_symbol_at (field_symbols i.field) (i.annotations ++ head_symbols i.head)
@@ -194,9 +184,8 @@ end-texts w (c ∷ cs) = value-texts w cs (closed_with c c.body)
 head-texts : (w : Written) (ids : UserSymbol → ℕ) (f : Option UserSymbol) (annotations : List UserSymbol) (h : Head UserSymbol)
     → (with_head w ids f annotations h).texts ≡ w.texts
 head-texts w ids f annotations (value.whole body) = value-texts w w.open_containers (member_octets ids f annotations (scalar_octets ids body))
-head-texts w ids f annotations (value.begin kind) = refl
 head-texts w ids f annotations value.end = end-texts w w.open_containers
-head-texts w ids f annotations value.marker = refl
+head-texts w ids f annotations x = refl
 
 after-cost : (limits : Limits) (w : Written) (i : UserItem) → texts_cost (with_ids_given limits.symbols w i).texts ≤ limits.symbols → texts_cost (after limits.symbols w i).texts ≤ limits.symbols
 after-cost limits w i h =

@@ -10,27 +10,11 @@ use Rattle.ion_binary.proofs.HeldMoves.{forgetting-moves, forgetting-open, what_
 
 in-range : (body : Scalar SymbolAt) → InRange (map_scalar user_symbol_at body) → InRange body
 in-range (value.null type) h = h
-in-range (value.bool truth) h = h
-in-range (value.int number) h = h
-in-range (value.float number) h = h
-in-range (value.decimal number) h = h
-in-range (value.timestamp moment) h = h
-in-range (value.symbol name) h = h
-in-range (value.string bytes) h = h
-in-range (value.clob bytes) h = h
-in-range (value.blob bytes) h = h
+in-range x h = h
 
 in-range-of-user : (body : Scalar SymbolAt) → InRange body → InRange (map_scalar user_symbol_at body)
 in-range-of-user (value.null type) h = h
-in-range-of-user (value.bool truth) h = h
-in-range-of-user (value.int number) h = h
-in-range-of-user (value.float number) h = h
-in-range-of-user (value.decimal number) h = h
-in-range-of-user (value.timestamp moment) h = h
-in-range-of-user (value.symbol name) h = h
-in-range-of-user (value.string bytes) h = h
-in-range-of-user (value.clob bytes) h = h
-in-range-of-user (value.blob bytes) h = h
+in-range-of-user x h = h
 
 wrappers-few : (notes : List ℕ) (place : ℕ) (hs : List HeaderPlace) → length (wrapper_headers notes place ++ hs) ≤ suc (length hs)
 wrappers-few [] place hs = omega arith
@@ -84,8 +68,7 @@ codes-end w (c ∷ cs) whole codes = codes-value w cs (closed_with c c.body) cod
 
 small-code : (k : Kind) → type_code k < 14
 small-code kind.List = lit< tt
-small-code kind.Sexp = lit< tt
-small-code kind.Struct = lit< tt
+small-code x = lit< tt
 
 codes-head : (w : Written) (ids : UserSymbol → ℕ) (f : Option UserSymbol) (annotations : List UserSymbol) (h : Head UserSymbol) → HaveCodes w.open_containers
     → HaveCodes (with_head w ids f annotations h).open_containers
@@ -135,37 +118,28 @@ level-after-all limit w kinds (i ∷ path) e = level-after-all limit (after limi
 
 has-place : (depth : ℕ) (kinds : List Kind) (h : Head SymbolAt) → HasPlace depth kinds h → HasPlace depth kinds (map_head user_symbol_at h)
 has-place depth kinds (value.whole body) p = in-range-of-user body p
-has-place depth kinds (value.begin k) p = p
-has-place depth kinds value.end p = p
-has-place depth kinds value.marker p = p
+has-place depth kinds x p = p
 
 same-field : (kinds : List Kind) (f : Option SymbolAt) (h : Head SymbolAt) → is_some f ≡ has_field kinds h → is_some (option_map user_symbol_at f) ≡ has_field kinds (map_head user_symbol_at h)
 same-field kinds None h e = e ∙ field-mapped kinds h
   where
     field-mapped : (kinds : List Kind) (h : Head SymbolAt) → has_field kinds h ≡ has_field kinds (map_head user_symbol_at h)
     field-mapped kinds (value.whole body) = refl
-    field-mapped kinds (value.begin k) = refl
-    field-mapped kinds value.end = refl
-    field-mapped kinds value.marker = refl
+    field-mapped kinds x = refl
 same-field kinds (Some s) h e = e ∙ field-mapped kinds h
   where
     field-mapped : (kinds : List Kind) (h : Head SymbolAt) → has_field kinds h ≡ has_field kinds (map_head user_symbol_at h)
     field-mapped kinds (value.whole body) = refl
-    field-mapped kinds (value.begin k) = refl
-    field-mapped kinds value.end = refl
-    field-mapped kinds value.marker = refl
+    field-mapped kinds x = refl
 
 has-annotations : (h : Head SymbolAt) (ss : List SymbolAt) → HasAnnotations h ss → HasAnnotations (map_head user_symbol_at h) (map user_symbol_at ss)
-has-annotations (value.whole body) ss a = tt
-has-annotations (value.begin k) ss a = tt
 has-annotations value.end ss a = ap (λ (x : List SymbolAt). map user_symbol_at x) a
 has-annotations value.marker ss a = ap (λ (x : List SymbolAt). map user_symbol_at x) a
+has-annotations v ss a = tt
 
 marker-mapped : (h : Head SymbolAt) → is_marker (map_head user_symbol_at h) ≡ is_marker h
 marker-mapped (value.whole body) = refl
-marker-mapped (value.begin k) = refl
-marker-mapped value.end = refl
-marker-mapped value.marker = refl
+marker-mapped x = refl
 
 pub may-come : (limits : Limits) (path : List PlacedItem) (item : PlacedItem) → Continues limits path item → MayCome limits.depth (written_after limits path) (user_item item)
 may-come limits path item c = record {

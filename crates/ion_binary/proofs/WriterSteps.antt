@@ -39,10 +39,7 @@ kept limit h (x ∷ hs) either = refl
 
 abbrev why_of : Fault → Option (Reason × ℕ)
 why_of (Refused r p) = Some (r, p)
-why_of Memory = None
-why_of ReadFault = None
-why_of WriteFault = None
-why_of InputLimit = None
+why_of x = None
 
 abbrev why : {T : Type 0} → Result T Fault → Option (Reason × ℕ)
 why (Ok x) = None

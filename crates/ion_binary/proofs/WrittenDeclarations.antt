@@ -205,14 +205,7 @@ a_symbol_scalar id (value.symbol s) e =
     let f : value.symbol s.symbol ≡ value.symbol (Id id) = e in
     record { name = s; is = refl; name_is = cc f }
 a_symbol_scalar id (value.null t) e = absurd (cc e)
-a_symbol_scalar id (value.bool truth) e = absurd (cc e)
-a_symbol_scalar id (value.int number) e = absurd (cc e)
-a_symbol_scalar id (value.float number) e = absurd (cc e)
-a_symbol_scalar id (value.decimal number) e = absurd (cc e)
-a_symbol_scalar id (value.timestamp moment) e = absurd (cc e)
-a_symbol_scalar id (value.string b) e = absurd (cc e)
-a_symbol_scalar id (value.clob b) e = absurd (cc e)
-a_symbol_scalar id (value.blob b) e = absurd (cc e)
+a_symbol_scalar id x e = absurd (cc e)
 
 abbrev scalar_in : Value Symbol ⊤ → Scalar Symbol
 scalar_in (scalar v) = v

@@ -15,10 +15,9 @@ use Rattle.ion_binary.proofs.WrittenStream.{table_of, declares-none, id-text, kn
 -- ---- ids stand in the table of their texts
 
 known-stands : (x : Slot) (t : List ℕ) → text_of_slot x ≡ Some t → IsSlot x
-known-stands (slot.known u) t e = tt
-known-stands slot.unknown t e = tt
 known-stands slot.gap t e = absurd (cc e)
 known-stands slot.above t e = absurd (cc e)
+known-stands x t e = tt
 
 id-stands : (texts : List (List ℕ)) (s : UserSymbol) → IsKnown texts s → IsSlot (slot_of (table_of texts) (id_in texts s))
 unfolding id_in
@@ -43,15 +42,7 @@ module _ (t : Table) where
 
   scalar-stands : (body : Scalar SymbolAt) → AllByRecursion (Stands t) (scalar_symbols body) → ValueStands t (scalar body)
   scalar-stands (value.symbol s) h = h.0
-  scalar-stands (value.null type) h = tt
-  scalar-stands (value.bool truth) h = tt
-  scalar-stands (value.int number) h = tt
-  scalar-stands (value.float number) h = tt
-  scalar-stands (value.decimal number) h = tt
-  scalar-stands (value.timestamp moment) h = tt
-  scalar-stands (value.string bytes) h = tt
-  scalar-stands (value.clob bytes) h = tt
-  scalar-stands (value.blob bytes) h = tt
+  scalar-stands x h = tt
 
   mutual
     value-stands : (f : Option SymbolAt) (annotations : List SymbolAt) (x : Value SymbolAt ℕ) → AllByRecursion (Stands t) (value_symbols f annotations x)

@@ -24,8 +24,7 @@ headed-length t b = let e = length-append (header t (length b)) b in omega (arit
 -- the body of a struct is not one octet
 abbrev NotOne : Kind → ℕ → Type 0
 NotOne kind.Struct n = n ≢ 1
-NotOne kind.List n = ⊤
-NotOne kind.Sexp n = ⊤
+NotOne x n = ⊤
 
 abbrev first_octet : List ℕ → ℕ
 first_octet [] = 0
@@ -60,19 +59,8 @@ uint-back : (n : ℕ) → uint (uint_octets n) ≡ n
 uint-back n = (digits_in-Digits 256 n (omega arith)).value
 
 null-code : (t : IonType) → IsNullOf t (numbered.type_code t)
-null-code type.Null = refl
-null-code type.Bool = refl
 null-code type.Int = inl refl
-null-code type.Float = refl
-null-code type.Decimal = refl
-null-code type.Timestamp = refl
-null-code type.Symbol = refl
-null-code type.String = refl
-null-code type.Clob = refl
-null-code type.Blob = refl
-null-code type.List = refl
-null-code type.Sexp = refl
-null-code type.Struct = refl
+null-code x = refl
 
 -- ids are no longer than the limit on scalars where those of their symbols may be so long
 abbrev pub IdsFit : (UserSymbol → ℕ) → Rules → Type 0
@@ -140,8 +128,6 @@ body-some : (ids : UserSymbol → ℕ) (v : Scalar UserSymbol) → 0 < length (h
 body-some ids v = headed-some (numbered.scalar_code v) (numbered.scalar_body ids v)
 
 scalar-some : (ids : UserSymbol → ℕ) (v : Scalar UserSymbol) → 0 < length (scalar_octets ids v)
-scalar-some ids (value.null t) = omega arith
-scalar-some ids (value.bool truth) = omega arith
 scalar-some ids (value.int i) = body-some ids (value.int i)
 scalar-some ids (value.float d) = body-some ids (value.float d)
 scalar-some ids (value.decimal d) = body-some ids (value.decimal d)
@@ -150,6 +136,7 @@ scalar-some ids (value.symbol s) = body-some ids (value.symbol s)
 scalar-some ids (value.string b) = body-some ids (value.string b)
 scalar-some ids (value.clob b) = body-some ids (value.clob b)
 scalar-some ids (value.blob b) = body-some ids (value.blob b)
+scalar-some ids x = omega arith
 
 value-some : {P : Type 0} (ids : UserSymbol → ℕ) (x : Value UserSymbol P) → 0 < length (value_octets ids x)
 value-some ids (scalar v) = scalar-some ids v
@@ -241,15 +228,7 @@ field-spelled ids kind.Sexp q (Some s) small e = absurd (cc e)
 
 unplaced : (place : ℕ) (v : Scalar Symbol) → map_scalar bare_symbol (placed_scalar place v) ≡ v
 unplaced place (value.null t) = refl
-unplaced place (value.bool truth) = refl
-unplaced place (value.int number) = refl
-unplaced place (value.float number) = refl
-unplaced place (value.decimal number) = refl
-unplaced place (value.timestamp moment) = refl
-unplaced place (value.symbol s) = refl
-unplaced place (value.string b) = refl
-unplaced place (value.clob b) = refl
-unplaced place (value.blob b) = refl
+unplaced place x = refl
 
 not_one-struct : {P : Type 0} (ids : UserSymbol → ℕ) (ms : Members UserSymbol P) → AreWritable kind.Struct ms → length (members_octets ids ms) ≢ 1
 not_one-struct ids nothing w e = absurd (omega (arith, e))
@@ -262,8 +241,7 @@ not_one-struct ids (member before (Some s) annotations place x) w e =
 
 not_one : {P : Type 0} (ids : UserSymbol → ℕ) (k : Kind) (ms : Members UserSymbol P) → AreWritable k ms → NotOne k (length (members_octets ids ms))
 not_one ids kind.Struct ms w = not_one-struct ids ms w
-not_one ids kind.List ms w = tt
-not_one ids kind.Sexp ms w = tt
+not_one ids x ms w = tt
 
 -- a member by its parts
 pub same_member : {S P : Type 0} (b c : Members S P) (f g : Option S) (a d : List S) (p : P) (x y : Value S P) → b ≡ c → f ≡ g → a ≡ d → x ≡ y → member b f a p x ≡ member c g d p y

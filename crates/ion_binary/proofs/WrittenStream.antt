@@ -91,15 +91,7 @@ option-then f g (Some x) = refl
 
 scalar-then : {A B C : Type 0} (f : B → C) (g : A → B) (v : Scalar A) → map_scalar f (map_scalar g v) ≡ map_scalar (λ x. f (g x)) v
 scalar-then f g (value.null t) = refl
-scalar-then f g (value.bool truth) = refl
-scalar-then f g (value.int number) = refl
-scalar-then f g (value.float number) = refl
-scalar-then f g (value.decimal number) = refl
-scalar-then f g (value.timestamp moment) = refl
-scalar-then f g (value.symbol s) = refl
-scalar-then f g (value.string b) = refl
-scalar-then f g (value.clob b) = refl
-scalar-then f g (value.blob b) = refl
+scalar-then f g x = refl
 
 mutual
   value-then : {A B C P Q R : Type 0} (f : B → C) (g : A → B) (h : Q → R) (i : P → Q) (x : Value A P) → map_value f h (map_value g i x) ≡ map_value (λ s. f (g s)) (λ p. h (i p)) x
@@ -128,27 +120,11 @@ stay-field f (Some s) h = ap (λ x. Some x) h.0
 
 stay-scalar : (f : UserSymbol → UserSymbol) (v : Scalar UserSymbol) → Stay f (scalar_symbols v) → map_scalar f v ≡ v
 stay-scalar f (value.symbol s) h = ap (λ x. value.symbol x) h.0
-stay-scalar f (value.null t) h = refl
-stay-scalar f (value.bool truth) h = refl
-stay-scalar f (value.int number) h = refl
-stay-scalar f (value.float number) h = refl
-stay-scalar f (value.decimal number) h = refl
-stay-scalar f (value.timestamp moment) h = refl
-stay-scalar f (value.string b) h = refl
-stay-scalar f (value.clob b) h = refl
-stay-scalar f (value.blob b) h = refl
+stay-scalar f v h = refl
 
 id-scalar : {A : Type 0} (v : Scalar A) → map_scalar (λ s. s) v ≡ v
 id-scalar (value.symbol s) = refl
-id-scalar (value.null t) = refl
-id-scalar (value.bool truth) = refl
-id-scalar (value.int number) = refl
-id-scalar (value.float number) = refl
-id-scalar (value.decimal number) = refl
-id-scalar (value.timestamp moment) = refl
-id-scalar (value.string b) = refl
-id-scalar (value.clob b) = refl
-id-scalar (value.blob b) = refl
+id-scalar x = refl
 
 id-map : {A : Type 0} (xs : List A) → map (λ x. x) xs ≡ xs
 id-map [] = refl

@@ -33,16 +33,12 @@ level kinds empty path at = ap (λ (l : List Kind). length l) (sym (kinds-after-
     ∙ (ap (λ (cs : Open). length cs) at ∙ (shown_in-length (reverse kinds) empty ∙ length-reverse kinds)))
 
 room : (depth n : ℕ) (kinds : List Kind) (h : v.Head SymbolAt) → length kinds ≡ n → HasPlace depth kinds h → HasRoom depth n h
-room depth n kinds (v.whole body) e p = tt
 room depth n kinds (v.begin kind) e p = rw (sym e) p
-room depth n kinds v.end e p = tt
-room depth n kinds v.marker e p = tt
+room depth n kinds x e p = tt
 
 range : (depth : ℕ) (kinds : List Kind) (h : v.Head SymbolAt) → HasPlace depth kinds h → HeadInRange h
 range depth kinds (v.whole body) p = p
-range depth kinds (v.begin kind) p = tt
-range depth kinds v.end p = tt
-range depth kinds v.marker p = tt
+range depth kinds x p = tt
 
 -- what may come here
 pub may_come : {L A : Type 0} (w : LaidOut L A) (path : List PlacedItem) (item : PlacedItem) → Shows w.kinds w.empty path → Continues w.limits path item → MayCome w item.head

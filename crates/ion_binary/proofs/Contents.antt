@@ -1,5 +1,5 @@
 -- What more octets change of what is held.
-use Rattle.ion_binary.proofs.Below.{◌≡◌, ◌==◌, ℕ, suc, ◌+◌, ◌*◌, ◌≤◌, Bool, true, false, List, [], ◌∷◌, ◌++◌, length, Option, Some, None, Result, Ok, Err, OnOk, OnErr, refl, ap, subst, sym, ◌∙◌, arith, append-nil, length-append, eqb-true, Counts, Grows, IsRefused, Shrinks, Fault, Memory, LateHeader, length_octets, Adds, AreLate, Content, IsCosted, Moved, appended, late_octets, missing_of, spread}
+use Rattle.ion_binary.proofs.Below.{◌≡◌, ◌==◌, ℕ, suc, ◌+◌, ◌*◌, ◌≤◌, Bool, true, false, List, [], ◌∷◌, ◌++◌, length, Option, Some, None, Result, Ok, Err, OnOk, OnErr, refl, ap, subst, sym, ◌∙◌, arith, append-nil, length-append, eqb-true, Counts, Grows, IsRefused, Shrinks, Fault, Memory, LateHeader, length_octets, Adds, AreLate, Content, IsCosted, Moved, appended, late_octets, missing_of, spread, nil_from_length}
 use Rattle.ion_binary.proofs.LateHeaders.{late-more, six-each, spread-append, spread-length}
 use Rattle.ion_binary.proofs.PlacedHeaders.{header-few}
 
@@ -140,11 +140,7 @@ moved-more old new m n least most fault v le =
     }
 
 pub empty-list : (xs : List ℕ) → true ≡ (length xs == 0) → xs ≡ []
-empty-list xs e = none xs (eqb-true (length xs) 0 (sym e))
-  where
-    none : (xs : List ℕ) → length xs ≡ 0 → xs ≡ []
-    none [] e = refl
-    none (x ∷ xs) e = absurd (omega (arith, e))
+empty-list xs e = nil_from_length xs (eqb-true (length xs) 0 (sym e))
 
 -- nothing was done
 pub same-moved : (c : Content) (m : Counts) (most : ℕ) → IsCosted c → c.cost ≤ most → Moved c c m m most None

@@ -16,11 +16,6 @@ strings-of_members ids before (t ∷ ts) = strings-of_members ids (member before
     ∙ append_assoc (members_octets ids before) (headed 8 t) (strings_octets ts)
 
 -- a place with a text is among them
-pub got-lt : (texts : List (List ℕ)) (i : ℕ) (t : List ℕ) → slice_get texts i ≡ Some t → i < length texts
-got-lt [] i t e = absurd (cc e)
-got-lt (u ∷ us) zero t e = omega arith
-got-lt (u ∷ us) (suc i) t e = let r = got-lt us i t e in omega (arith, r)
-
 -- the texts from a place on
 drop-got : (texts : List (List ℕ)) (i : ℕ) (t : List ℕ) → slice_get texts i ≡ Some t → drop i texts ≡ t ∷ drop (suc i) texts
 drop-got [] i t e = absurd (cc e)
@@ -63,15 +58,15 @@ declared_by imports table symbols strings =
     wrapped (var_uint_octets (length (var_uint_octets table ++ [])) ++ (var_uint_octets table ++ []))
     (headed 13 ((var_uint_octets imports ++ headed 7 (uint_octets table)) ++ (var_uint_octets symbols ++ headed 11 strings)))
 
-imports-id : id_in [] (Known (codes "imports")) ≡ 6
+pub imports-id : id_in [] (Known (codes "imports")) ≡ 6
 unfolding id_in
 imports-id = refl
 
-table-id : id_in [] (Known (codes "$ion_symbol_table")) ≡ 3
+pub table-id : id_in [] (Known (codes "$ion_symbol_table")) ≡ 3
 unfolding id_in
 table-id = refl
 
-symbols-id : id_in [] (Known (codes "symbols")) ≡ 7
+pub symbols-id : id_in [] (Known (codes "symbols")) ≡ 7
 unfolding id_in
 symbols-id = refl
 

@@ -1,8 +1,7 @@
 -- A few octets in a word, and what a value begins with that is put so.
-use Rattle.ion_binary.proofs.Below.{◌≡◌, ℕ, zero, suc, ◌+◌, ◌*◌, ◌/◌, ◌%◌, ◌^◌, ◌<◌, ◌≤◌, Bool, if◌then◌else◌, List, [], ◌∷◌, ◌++◌, length, take, refl, ap, sym, ◌∙◌, arith, append_assoc, bytes_low_first, pow-zero, pow-suc, pow-le-pow_right, div-div-eq-div-mul, var_uint_octets, lt-ltb, le-ltb, header, headed, wrapped, counted_ids, low_octets, name_octets}
+use Rattle.ion_binary.proofs.Below.{◌≡◌, ℕ, zero, suc, ◌+◌, ◌*◌, ◌/◌, ◌%◌, ◌^◌, ◌<◌, ◌≤◌, Bool, if◌then◌else◌, List, [], ◌∷◌, ◌++◌, length, take, refl, ap, sym, ◌∙◌, arith, append_assoc, bytes_low_first, pow-zero, pow-suc, pow-le-pow_right, div-div-eq-div-mul, var_uint_octets, lt-ltb, le-ltb, header, headed, wrapped, counted_ids, low_octets, name_octets, byte_at-div}
 use Rattle.ion_binary.proofs.NotedOctets.{named-octets, named-short}
 use Rattle.ion_binary.proofs.OpenSteps.{wrapper-around}
-use Rattle.ion_binary.proofs.ShortInts.{byte_at-div}
 use Rattle.ion_binary.proofs.ShortestHeaders.{var-one, var-two}
 
 -- ---- octets in a word

@@ -1,8 +1,8 @@
 -- A scalar of which one text is new is added as the streaming definition says.
-use Rattle.ion_binary.proofs.Below.{◌≡◌, ℕ, ◌+◌, ◌*◌, ◌≤◌, inl, subst, Bool, true, false, List, [], ◌∷◌, ◌++◌, length, map, Option, Some, None, option_map, refl, ap, sym, ◌∙◌, arith, append_assoc, length-append, Counts, Grows, var_uint_octets, Head, Known, PlacedItem, Scalar, SymbolAt, Unknown, UserSymbol, map_head, map_scalar, user_item, user_symbol_at, field_symbols, scalar_symbols, Output, known_id, texts_cost, OpenValue, BinWriter, Fresh, annotation_octets, field_octets, id_in, member_octets, with_symbol, with_symbols, with_text, wrapped, AreFresh, CanPutFresh, IsFresh, Held, counted_ids, headers_with, octets_with, size_of, head_name, head_octets, scalar_name, Content, appended, IsOpen, name_octets, noted, AddsPlain, HaveIds, IsWhole, added, held_in, first_over, head_symbols, item_symbols}
+use Rattle.ion_binary.proofs.Below.{◌≡◌, ℕ, ◌+◌, ◌*◌, ◌≤◌, inl, subst, Bool, true, false, List, [], ◌∷◌, ◌++◌, length, map, Option, Some, None, option_map, refl, ap, sym, ◌∙◌, arith, append_assoc, length-append, Counts, Grows, var_uint_octets, Head, Known, PlacedItem, Scalar, SymbolAt, Unknown, UserSymbol, map_head, map_scalar, user_item, user_symbol_at, field_symbols, scalar_symbols, Output, known_id, texts_cost, OpenValue, BinWriter, Fresh, annotation_octets, field_octets, id_in, member_octets, with_symbol, with_symbols, with_text, wrapped, AreFresh, CanPutFresh, IsFresh, Held, counted_ids, headers_with, octets_with, size_of, head_name, head_octets, scalar_name, Content, appended, IsOpen, name_octets, noted, AddsPlain, HaveIds, IsWhole, added, held_in, first_over, head_symbols, item_symbols, cost_push}
 use Rattle.ion_value.specs.Value as value
 use Rattle.ion_binary.specs.Writer.{CanTake}
-use Rattle.ion_binary.proofs.GivenIds.{cost-push, known-new}
+use Rattle.ion_binary.proofs.GivenIds.{known-new}
 use Rattle.ion_binary.proofs.KnownIds.{AreKnown, Extends, IsKnown, all_known, annotation_octets-same, id_ext, known_ext}
 use Rattle.ion_binary.proofs.Numbered.{users-item}
 use Rattle.ion_binary.proofs.Contents.{costed-by}
@@ -215,7 +215,7 @@ fresh-plain {A} w s os before after item true fresh note y c spelled new texts o
     let paid : os.cost ≡ w.open_value.octets.cost + length y = ap (λ (z : Content). z.cost) (octets refl) in
     let late : os.late ≡ w.open_value.octets.late = ap (λ (z : Content). z.late) (octets refl) in
     let costed = costed-by w.open_value.octets os y c.can_take.sound.within.costed (octets refl) in
-    let push = cost-push w.symbols.texts t in
+    let push = cost_push w.symbols.texts t in
     let cost : texts_cost s.texts ≡ texts_cost (w.symbols.texts ++ t ∷ []) = ap texts_cost (texts refl) in
     let held : held_in (record w { symbols = s; open_value = v }) ≡ added (held_in w) item =
     fresh-added (held_in w) item fresh note (head_octets (id_in (w.symbols.texts ++ t ∷ [])) (user_item item).head) os.all s.texts f c.known c.whole c.annotation refl put (texts refl) in

@@ -1,9 +1,5 @@
 -- The symbol table of an output gives the ids of the definition.
-use Rattle.ion_binary.proofs.Below.{◌≡◌, ℕ, suc, ◌+◌, ◌<◌, ◌≤◌, Bool, true, false, nat_le, if◌then◌else◌, List, [], ◌∷◌, ◌++◌, length, Option, Some, None, option_map, unwrap_or, refl, ap, sym, subst, ◌∙◌, arith, bytes_eq, bytes_eq-Decides, Known, position, system_id, or_given, known_id, texts_cost, id_or_new, leb-true, leb-false, id_in, with_symbol, with_text, IdsAreGiven, IsGiven}
-
-pub cost-push : (texts : List (List ℕ)) (t : List ℕ) → texts_cost (texts ++ t ∷ []) ≡ texts_cost texts + (16 + length t)
-cost-push [] t = omega arith
-cost-push (s ∷ ss) t = let r = cost-push ss t in omega (arith, r)
+use Rattle.ion_binary.proofs.Below.{◌≡◌, ℕ, suc, ◌+◌, ◌<◌, ◌≤◌, Bool, true, false, nat_le, if◌then◌else◌, List, [], ◌∷◌, ◌++◌, length, Option, Some, None, option_map, unwrap_or, refl, ap, sym, subst, ◌∙◌, arith, bytes_eq, bytes_eq-Decides, Known, position, system_id, or_given, known_id, texts_cost, id_or_new, leb-true, leb-false, id_in, with_symbol, with_text, IdsAreGiven, IsGiven, cost_push}
 
 -- a text that is not there is after the others where it is added
 position-new-by : (b : Bool) (p q : Option ℕ) (n : ℕ) → (p ≡ None → q ≡ Some n) → (if b then Some 0 else option_map (λ place. place + 1) p) ≡ None
@@ -39,11 +35,11 @@ new-given : (b : Bool) (limit : ℕ) (texts : List (List ℕ)) (t : List ℕ) �
 new-given true limit texts t fits none = (
   sym (with-known texts t None none),
   sym (id-known (texts ++ t ∷ []) t (length texts + 10) (known-new texts t none)),
-  (let c = cost-push texts t in omega (arith, c, leb-true (texts_cost texts + (16 + length t)) limit fits)),
+  (let c = cost_push texts t in omega (arith, c, leb-true (texts_cost texts + (16 + length t)) limit fits)),
 )
 new-given false limit texts t over none = (
   refl,
-  (let c = cost-push texts t in
+  (let c = cost_push texts t in
       let a : limit < texts_cost (texts ++ t ∷ []) = omega (arith, c, leb-false (texts_cost texts + (16 + length t)) limit over) in
       subst (λ (u : List (List ℕ)). limit < texts_cost u) (sym (with-known texts t None none)) a),
 )

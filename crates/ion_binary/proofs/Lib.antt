@@ -1,6 +1,5 @@
 mod Below
 mod Rows
-mod Elements
 mod Termination
 mod VarLoop
 mod ScannedParts

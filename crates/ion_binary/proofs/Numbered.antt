@@ -1,5 +1,5 @@
 -- Symbols that are given ids one after the other, and octets that are put as long as they fit.
-use Rattle.ion_binary.proofs.Below.{◌≡◌, ℕ, zero, suc, ◌+◌, ◌<◌, ◌≤◌, Bool, true, false, nat_lt, if◌then◌else◌, List, [], ◌∷◌, ◌++◌, length, take, drop, Option, Some, None, option_map, Result, Ok, Err, OnOk, refl, ap, ap₂, sym, subst, ◌∙◌, append_assoc, append-nil, length-append, arith, slice_get, lt-ltb, le-ltb, map-append, take-append-drop, flat_map-append, Counts, Fault, Refused, SymbolLimit, var_uint_octets, Charges, MemoryCauses, WriteCauses, fault_of, SymbolAt, UserSymbol, Known, Unknown, user_symbol_at, user_item, map_head, map_scalar, Head, Scalar, PlacedItem, field_symbols, scalar_symbols, Output, texts_cost, id_given, Front, field_octets, id_in, id_octets, with_symbol, with_symbols, head_name, CanNumber, IsFront, Numbering, Numbers, PutsWithin, numbering, users, first_over, head_symbols, item_symbols, IsGiven}
+use Rattle.ion_binary.proofs.Below.{◌≡◌, ℕ, zero, suc, ◌+◌, ◌<◌, ◌≤◌, Bool, true, false, nat_lt, if◌then◌else◌, List, [], ◌∷◌, ◌++◌, length, take, drop, Option, Some, None, option_map, Result, Ok, Err, OnOk, refl, ap, ap₂, sym, subst, ◌∙◌, append_assoc, append-nil, length-append, arith, slice_get, lt-ltb, le-ltb, map-append, take-append-drop, flat_map-append, Counts, Fault, Refused, SymbolLimit, var_uint_octets, Charges, MemoryCauses, WriteCauses, fault_of, SymbolAt, UserSymbol, Known, Unknown, user_symbol_at, user_item, map_head, map_scalar, Head, Scalar, PlacedItem, field_symbols, scalar_symbols, Output, texts_cost, id_given, Front, field_octets, id_in, id_octets, with_symbol, with_symbols, head_name, CanNumber, IsFront, Numbering, Numbers, PutsWithin, numbering, users, first_over, head_symbols, item_symbols, IsGiven, got_within}
 use Rattle.ion_value.specs.Value as value
 use Rattle.ion_binary.specs.Numbering.{held_by}
 use Rattle.ion_binary.proofs.GivenIds.{ids_are_given}
@@ -287,13 +287,8 @@ ids-then t0 t1 t2 ss ts e f =
 
 -- ---- annotations
 
-got-lt : {A : Type 0} (xs : List A) (i : ℕ) (x : A) → slice_get xs i ≡ Some x → i < length xs
-got-lt [] i x e = absurd (cc e)
-got-lt (y ∷ ys) zero x e = omega arith
-got-lt (y ∷ ys) (suc i) x e = let r = got-lt ys i x e in omega (arith, r)
-
 pub got-within : (xs : List SymbolAt) (i : ℕ) (x : SymbolAt) → slice_get xs i ≡ Some x → i < length xs
-got-within xs i x e = got-lt xs i x e
+got-within xs i x e = got_within xs i x e
 
 take-got : (xs : List SymbolAt) (i : ℕ) (x : SymbolAt) → slice_get xs i ≡ Some x → take (suc i) xs ≡ take i xs ++ x ∷ []
 take-got [] i x e = absurd (cc e)

@@ -128,7 +128,7 @@ size-counted ns n hs i p few short = closed-counted ns n hs i p (counted-small n
 
 -- ---- a scalar comes
 
-wrapped-some : (xs x : List ℕ) → 0 < length xs → wrapped xs x ≡ headed 14 (xs ++ x)
+pub wrapped-some : (xs x : List ℕ) → 0 < length xs → wrapped xs x ≡ headed 14 (xs ++ x)
 wrapped-some [] x some = absurd (omega (arith, some))
 wrapped-some (a ∷ xs) x some = refl
 

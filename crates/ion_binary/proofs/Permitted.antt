@@ -1,7 +1,6 @@
 -- Where rules permit the items of a path, they permit those of what its last value follows, and that value.
-use Rattle.ion_binary.proofs.Below.{ℕ, List, [], ◌∷◌, ◌++◌, Option, None, Rules, Kind, Path, closed, opened, open_in, begin_item, nest_items, path_items, ArePermitted, HeadIsPermitted, IsPermitted, Members, PlacedItem, Scalar, Symbol, SymbolAt, Top, Value, member_items, one_top, top_items, MembersArePermitted, ValueIsPermitted, members-permitted, value-permitted, placed_scalar}
+use Rattle.ion_binary.proofs.Below.{ℕ, List, [], ◌∷◌, ◌++◌, Option, None, Rules, Kind, Path, closed, opened, open_in, begin_item, nest_items, path_items, ArePermitted, HeadIsPermitted, IsPermitted, Members, PlacedItem, Scalar, Symbol, SymbolAt, Top, Value, member_items, one_top, top_items, MembersArePermitted, ValueIsPermitted, members-permitted, value-permitted, placed_scalar, all-append, all-left, all-right}
 use Rattle.ion_value.specs.Value as value
-use Rattle.ion_binary.proofs.Elements.{all-append, all-left, all-right}
 
 -- a scalar that a place is given to
 pub unplaced-permitted : (limits : Rules) (place : ℕ) (v : Scalar Symbol) → IsPermitted limits (placed_scalar place v) → IsPermitted limits v

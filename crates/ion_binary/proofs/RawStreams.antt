@@ -1,6 +1,5 @@
 -- The values of a stream are as streams have them.
-use Rattle.ion_binary.proofs.Below.{◌≡◌, ℕ, ◌+◌, ◌<◌, List, [], ◌∷◌, ◌++◌, length, Option, None, is_some, refl, subst, AllByRecursion, IfOk, Timestamp, Kind, InRange, in_struct, IsTimestamp, timestamp_of_bytes, Symbol, SymbolAt, Scalar, Value, Members, Top, version, tree, AreBytes, AreWritable, HasBytes, HasText, IsRaw, IsWritable, MembersHaveBytes, SymbolIsText, ValueHasBytes, field_symbols, members_symbols, scalar_symbols, value_symbols, bytes-reading, octets-IsFloat, TimestampBody, Body, Plain, Ids, Field, Wrapper, Annotated, Bin, Inside, Tops, StreamsAreRaw, placed_scalar}
-use Rattle.ion_binary.proofs.Elements.{all-append, all-left, all-right}
+use Rattle.ion_binary.proofs.Below.{◌≡◌, ℕ, ◌+◌, ◌<◌, List, [], ◌∷◌, ◌++◌, length, Option, None, is_some, refl, subst, AllByRecursion, IfOk, Timestamp, Kind, InRange, in_struct, IsTimestamp, timestamp_of_bytes, Symbol, SymbolAt, Scalar, Value, Members, Top, version, tree, AreBytes, AreWritable, HasBytes, HasText, IsRaw, IsWritable, MembersHaveBytes, SymbolIsText, ValueHasBytes, field_symbols, members_symbols, scalar_symbols, value_symbols, bytes-reading, octets-IsFloat, TimestampBody, Body, Plain, Ids, Field, Wrapper, Annotated, Bin, Inside, Tops, StreamsAreRaw, placed_scalar, all-append, all-left, all-right}
 use Rattle.ion_binary.proofs.TimestampsSpelled.{TimestampBody-read}
 
 abbrev Small : ℕ → Type 0

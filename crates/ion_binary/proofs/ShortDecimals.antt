@@ -1,8 +1,8 @@
 -- The octets of a coefficient of 63 bits: those of a number of 64 bits without those at the front that are zeros, where the highest bit left
 -- is room for the sign.
-use Rattle.ion_binary.proofs.Below.{◌≡◌, ℕ, zero, suc, ◌+◌, ◌-◌, ◌*◌, ◌/◌, ◌%◌, ◌^◌, ◌<◌, ◌≤◌, inl, inr, Bool, true, false, leb, if◌then◌else◌, List, [], ◌∷◌, ◌++◌, length, take, drop, get_or, refl, ap, sym, subst, ◌∙◌, arith, byte_at, bytes_high_first, leading_zeros, w64, cases_lt, lt-leb, le-leb, lt-ltb, div-add-mod', div-mul-add, mod-mul-add, mod_below, leading_length, pow-add, shl_whole, pow-zero, pow-suc, pow-le-pow_right, mul-div_cancel, mul_assoc, mul-le-mul_right, mul-lt-mul_of_pos_right, add-mul, common_steps, number, digits_in, marked, with_sign, coefficient_octets, var_int_octets, Decimal, decimal_body, exponent_octets, is_nothing, decimal_body-parts, byte-bytes_high_first, length-bytes_high_first, pow-256, Below-from, Signing, Signing-fewest, digits_in-Digits, low-same, number-same, with_sign-Signing, digits_within}
+use Rattle.ion_binary.proofs.Below.{◌≡◌, ℕ, zero, suc, ◌+◌, ◌-◌, ◌*◌, ◌/◌, ◌%◌, ◌^◌, ◌<◌, ◌≤◌, inl, inr, Bool, true, false, leb, if◌then◌else◌, List, [], ◌∷◌, ◌++◌, length, take, drop, get_or, refl, ap, sym, subst, ◌∙◌, arith, byte_at, bytes_high_first, leading_zeros, w64, cases_lt, lt-leb, le-leb, lt-ltb, div-add-mod', div-mul-add, mod-mul-add, mod_below, leading_length, pow-add, shl_whole, pow-zero, pow-suc, pow-le-pow_right, mul-div_cancel, mul_assoc, mul-le-mul_right, mul-lt-mul_of_pos_right, add-mul, common_steps, number, digits_in, marked, with_sign, coefficient_octets, var_int_octets, Decimal, decimal_body, exponent_octets, is_nothing, decimal_body-parts, byte-bytes_high_first, length-bytes_high_first, pow-256, Below-from, Signing, Signing-fewest, digits_in-Digits, low-same, number-same, with_sign-Signing, digits_within, byte_at-div, uint-bytes_high_first}
 use Rattle.ion_binary.proofs.ShortestHeaders.{one-digit}
-use Rattle.ion_binary.proofs.ShortInts.{byte_at-div, high-part, uint-all}
+use Rattle.ion_binary.proofs.ShortInts.{high-part}
 
 -- no two lists of octets have room for the same sign and number, and no more
 one-signing : (n : ℕ) (negative : Bool) (s t : List ℕ) → Signing 256 128 negative n s → Signing 256 128 negative n t → s ≡ t
@@ -95,7 +95,7 @@ module _ (j n : ℕ) (negative : Bool) (small : n < 128 * 256 ^ j) where
       let rest : List ℕ = bytes_high_first j both in
       let long : length rest ≡ j = length-bytes_high_first j both in
       let power : 256 ^ length rest ≡ place = ap (λ (i : ℕ). 256 ^ i) long in
-      let spelled : number 256 rest ≡ n % place = uint-all j both ∙ both-low in
+      let spelled : number 256 rest ≡ n % place = uint-bytes_high_first j both ∙ both-low in
       let off : byte_at j both % 128 ≡ top = ap (λ (x : ℕ). x % 128) both-first ∙ bit-off negative top q-small in
       let e = parts in
       record {

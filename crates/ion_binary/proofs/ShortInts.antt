@@ -1,48 +1,6 @@
 -- The octets of a number of 64 bits without those at the front that are zeros: as `ion_value` shows it of 128 bits, whose lemmas are its
 -- own.
-use Rattle.ion_binary.proofs.Below.{◌≡◌, ℕ, zero, suc, ◌+◌, ◌-◌, ◌*◌, ◌/◌, ◌%◌, ◌^◌, ◌<◌, ◌≤◌, inl, inr, List, ◌∷◌, length, take, drop, refl, ap, sym, subst, ◌∙◌, arith, byte_at, bytes_high_first, leading_zeros, w64, cases_lt, length-drop, get_or-drop, All-get_or, All-from_get_or, mod-pow-add, leading_length, pow-add, shl_whole, shl-shr, pow-zero, pow-suc, pow-le-pow_right, mod-eq_of_lt, div-div-eq-div-mul, uint, uint_octets, uint-lt, ShortestUInt, byte-bytes_high_first, length-bytes_high_first, pow-256, uint-drop, uint-spelled}
-
-pub byte_at-div : (k n : ℕ) → byte_at k n ≡ n / 256 ^ k % 256
-byte_at-div zero n = rw pow-zero (omega arith)
-byte_at-div (suc k) n = refl
-
-pub uint-all : (k n : ℕ) → uint (bytes_high_first k n) ≡ n % 256 ^ k
-uint-all zero n = rw pow-zero (omega arith)
-uint-all (suc k) n =
-    let e : 256 ^ suc k ≡ 2 ^ (8 + 8 * k) = let d : 8 * suc k ≡ 8 + 8 * k = omega arith in pow-256 (suc k) ∙ ap (λ (i : ℕ). 2 ^ i) d in
-    let split : n % 2 ^ (8 + 8 * k) ≡ (n / 2 ^ (8 * k) % 2 ^ 8) * 2 ^ (8 * k) + n % 2 ^ (8 * k) = mod-pow-add n 8 (8 * k) in
-    rw (length-bytes_high_first k n, byte_at-div k n, uint-all k n, e, split, pow-256 k) refl
-
--- a number of m bits in k octets has z zeros before those bits
-shortest-after : (k n z m : ℕ) → z + m ≡ 8 * k → n < 2 ^ m → 2 ^ m ≤ 2 * n + 1 → ShortestUInt n (drop (z / 8) (bytes_high_first k n))
-shortest-after k n z m whole small least =
-    let all : List ℕ = bytes_high_first k n in
-    let long : length all ≡ k = length-bytes_high_first k n in
-    let len : ℕ = k - z / 8 in
-    let enough : m ≤ 8 * len = omega arith in
-    let within : m ≤ 8 * k = omega arith in
-    let zeros : z / 8 ≤ length all = omega arith in
-    let up : 2 ^ m ≤ 2 ^ (8 * len) = pow-le-pow_right {n = 2} (omega arith) enough in
-    let up_all : 2 ^ m ≤ 2 ^ (8 * k) = pow-le-pow_right {n = 2} (omega arith) within in
-    let fits : n < 256 ^ k = omega (arith, pow-256 k) in
-    let spelled : uint all ≡ n = uint-all k n ∙ mod-eq_of_lt fits in
-    let short : uint all < 256 ^ (length all - z / 8) = rw (spelled, long) (omega (arith, pow-256 len)) in
-    let rest : length (drop (z / 8) all) ≡ len = rw (length-drop, long) refl in
-    record {
-      value = uint-drop all (z / 8) zeros short ∙ spelled;
-      octets = All-from_get_or (λ octet. octet < 256) (drop (z / 8) all) 0 (λ i h.
-          let here : z / 8 + i < length all = omega arith in
-          rw get_or-drop (byte-bytes_high_first k n (z / 8 + i) here));
-      shortest = λ b below same.
-          let bound : uint b < 256 ^ length b = uint-lt b (λ i h. All-get_or (λ octet. octet < 256) b i 0 h below) in
-          elim (cases_lt (length b) len) [
-            | inl less ↦
-                let bits : suc (8 * length b) ≤ m = omega arith in
-                let powers : 2 ^ suc (8 * length b) ≤ 2 ^ m = pow-le-pow_right {n = 2} (omega arith) bits in
-                absurd (omega (arith, pow-suc 2 (8 * length b), pow-256 (length b)))
-            | inr more ↦ omega arith
-          ];
-    }
+use Rattle.ion_binary.proofs.Below.{◌≡◌, ℕ, zero, suc, ◌+◌, ◌-◌, ◌*◌, ◌/◌, ◌%◌, ◌^◌, ◌<◌, ◌≤◌, inl, inr, List, ◌∷◌, length, take, drop, refl, ap, sym, subst, ◌∙◌, arith, byte_at, bytes_high_first, leading_zeros, w64, cases_lt, length-drop, get_or-drop, All-get_or, All-from_get_or, mod-pow-add, leading_length, pow-add, shl_whole, shl-shr, pow-zero, pow-suc, pow-le-pow_right, mod-eq_of_lt, div-div-eq-div-mul, uint, uint_octets, uint-lt, ShortestUInt, byte-bytes_high_first, length-bytes_high_first, pow-256, uint-drop, uint-spelled, byte_at-div, uint-prefix}
 
 -- the bytes at the front of so many are those of what is left where the others are taken off
 pub high-part : (k l n : ℕ) → k ≤ l → take k (bytes_high_first l n) ≡ bytes_high_first k (n / 256 ^ (l - k))
@@ -88,5 +46,5 @@ shifted-uint n z all small is spelled =
     let all_bits : gap + m ≡ 8 * k = omega (arith, is, whole, few) in
     let none : gap / 8 ≡ 0 = omega (arith, is, whole, few) in
     let shortest : ShortestUInt n (bytes_high_first k n) =
-    subst (λ (i : ℕ). ShortestUInt n (drop i (bytes_high_first k n))) none (shortest-after k n gap m all_bits bits.2 bits.3) in
+    subst (λ (i : ℕ). ShortestUInt n (drop i (bytes_high_first k n))) none (uint-prefix k n gap m all_bits bits.2 bits.3) in
     ap (take k) spelled ∙ (there ∙ uint-spelled n (bytes_high_first k n) shortest)

@@ -1,5 +1,5 @@
 -- A decimal or timestamp that a run of fewer than 26 bytes spells has a body of 16 octets at most.
-use Rattle.ion_binary.proofs.Below.{◌≡◌, ℕ, zero, suc, ◌+◌, ◌-◌, ◌*◌, ◌^◌, ◌<◌, ◌≤◌, inl, inr, Bool, true, false, ◌&&◌, ◌||◌, nat_lt, ℤ, pos, ◌-ℤ◌, if◌then◌else◌, filter, List, [], ◌∷◌, ◌++◌, length, drop, take, map, get_or, codes, Result, Ok, Err, refl, sym, ap, subst, ◌∙◌, arith, length-append, IfOk, cases_Bool, cases_lt, nat_tests, length-drop, length-map, IfOk-at_ok, pow-add, mul-le-mul_right, pow-le-pow_right, Reason, BadToken, Float, Decimal, Precision, Year, Month, Day, Minute, Second, Fraction, Timestamp, IsDecimal, Parts, decimal_in_range, decimal_of_parts, exponent_octets, fraction_digits, is_decimal, is_float, is_nothing, is_point, is_exponent_mark, power_value, digit_value, digits_value, has_minus, is_digit, without_minus, coefficient_octets, var_int_octets, IsTimestamp, KeepsPrecision, date_in_range, fields, has_offset_shape, has_seconds_shape, is_moment, is_offset_mark, is_text_offset, looks_like, offset_of_text, precision_of_seconds, second_precision, time_of_parts, timestamp_body, utc_of, with_utc, digits_at, whole_octets, decimal_in_range-Made, exponent_octets-short, number-lt, spelled, value-both, body-fraction, body-whole, var_int-short, decimal_body, decimal_of_text, parts_of, cut_at, timestamp_of_text, NumbersFit, NumbersInTextFit}
+use Rattle.ion_binary.proofs.Below.{◌≡◌, ℕ, zero, suc, ◌+◌, ◌-◌, ◌*◌, ◌^◌, ◌<◌, ◌≤◌, inl, inr, Bool, true, false, ◌&&◌, ◌||◌, nat_lt, ℤ, pos, ◌-ℤ◌, if◌then◌else◌, filter, List, [], ◌∷◌, ◌++◌, length, drop, take, map, get_or, codes, Result, Ok, Err, refl, sym, ap, subst, ◌∙◌, arith, length-append, IfOk, cases_Bool, cases_lt, nat_tests, length-drop, length-map, IfOk-at_ok, pow-add, mul-le-mul_right, pow-le-pow_right, Reason, BadToken, Float, Decimal, Precision, Year, Month, Day, Minute, Second, Fraction, Timestamp, IsDecimal, Parts, decimal_in_range, decimal_of_parts, exponent_octets, fraction_digits, is_decimal, is_float, is_nothing, is_point, is_exponent_mark, power_value, digit_value, digits_value, has_minus, is_digit, without_minus, coefficient_octets, var_int_octets, IsTimestamp, KeepsPrecision, date_in_range, fields, has_offset_shape, has_seconds_shape, is_moment, is_offset_mark, is_text_offset, looks_like, offset_of_text, precision_of_seconds, second_precision, time_of_parts, timestamp_body, utc_of, with_utc, digits_at, whole_octets, decimal_in_range-Made, exponent_octets-short, number-lt, spelled, value-both, body-fraction, body-whole, var_int-short, decimal_body, decimal_of_text, parts_of, cut_at, timestamp_of_text, NumbersFit, NumbersInTextFit, filter-le, if-either}
 use Rattle.ion_binary.proofs.NumbersFit.{InUtc, in-utc, signed-short, whole-few}
 
 -- ---- runs
@@ -32,13 +32,6 @@ small-digits (x ∷ xs) k = elim (cases_Bool (is_digit x)) [
     by zero h later = h
     by (suc k) h later = later k
 
-filter-few : (xs : List ℕ) → length (filter is_digit xs) ≤ length xs
-filter-few [] = omega arith
-filter-few (x ∷ xs) = elim (cases_Bool (is_digit x)) [
-  | inl e ↦ simp e (omega (arith, filter-few xs))
-  | inr e ↦ simp e (omega (arith, filter-few xs))
-]
-
 spelled-lt : (xs : List ℕ) → spelled xs < 10 ^ length (filter is_digit xs)
 spelled-lt xs = subst (λ (n : ℕ). spelled xs < 10 ^ n) (length-map (filter is_digit xs) digit_value) (number-lt 10 (map digit_value (filter is_digit xs)) (λ k few. small-digits xs k))
 
@@ -50,7 +43,7 @@ value-lt xs ys =
     let last : spelled ys < 10 ^ b = spelled-lt ys in
     let whole : suc (spelled xs) * 10 ^ b ≤ 10 ^ a * 10 ^ b = mul-le-mul_right (10 ^ b) first in
     let none : (0 * 10 ^ a + spelled xs) * 10 ^ b ≡ spelled xs * 10 ^ b = ap (λ (n : ℕ). n * 10 ^ b) (omega arith) in
-    let powers : 10 ^ (a + b) ≤ 10 ^ (length xs + length ys) = pow-le-pow_right {n = 10} (omega arith) (omega (arith, filter-few xs, filter-few ys)) in
+    let powers : 10 ^ (a + b) ≤ 10 ^ (length xs + length ys) = pow-le-pow_right {n = 10} (omega arith) (omega (arith, filter-le xs, filter-le ys)) in
     omega (arith, value-both xs ys, none, last, whole, powers, pow-add 10 a b)
 
 -- the coefficient of parts, by how long they are
@@ -123,10 +116,6 @@ FewDigits run t = (n : ℕ) → t.precision ≡ Fraction n → n ≤ length run 
 no-fraction : (run : List ℕ) (t : Timestamp) (p : Precision) → t.precision ≡ p → ((n : ℕ) → p ≡ Fraction n → ⊥) → FewDigits run t
 no-fraction run t p is none n e = absurd (none n (sym is ∙ e))
 
-either : {A E : Type 0} (Q : A → Type 0) (b : Bool) (o p : Result A E) → IfOk o Q → IfOk p Q → IfOk (if b then o else p) Q
-either Q true o p h k = h
-either Q false o p h k = k
-
 seconds-few : (k n : ℕ) → precision_of_seconds k ≡ Fraction n → n ≤ k
 seconds-few zero n e = absurd (cc e)
 seconds-few (suc k) n e = by (k - 3) refl e
@@ -153,23 +142,23 @@ time-few run seconds offset few =
       offset = offset_of_text offset;
     } in
     let own : FewDigits run t = λ n e. let less = seconds-few (length seconds) n e in omega (arith, less, few) in
-    either (FewDigits run) (has_seconds_shape seconds && has_offset_shape offset) _ _
-    (either (FewDigits run) (nat_lt 38 (length (drop 4 seconds))) _ _ tt
-    (either (FewDigits run) (is_moment t && is_text_offset offset) _ _ (with_utc-few run t (utc_of t) own) tt)) tt
+    if-either (FewDigits run) (has_seconds_shape seconds && has_offset_shape offset) _ _
+    (if-either (FewDigits run) (nat_lt 38 (length (drop 4 seconds))) _ _ tt
+    (if-either (FewDigits run) (is_moment t && is_text_offset offset) _ _ (with_utc-few run t (utc_of t) own) tt)) tt
 
 date-few : (run : List ℕ) (p : Precision) (t : Timestamp) → t.precision ≡ p → ((n : ℕ) → p ≡ Fraction n → ⊥) → IfOk (date_in_range t) (FewDigits run)
-date-few run p t is none = either (FewDigits run) (is_moment t) _ _ (no-fraction run t p is none) tt
+date-few run p t is none = if-either (FewDigits run) (is_moment t) _ _ (no-fraction run t p is none) tt
 
 digits-few : (run : List ℕ) → IfOk (timestamp_of_text run) (FewDigits run)
 unfolding timestamp_of_text
 digits-few run =
     let seconds : List ℕ = (cut_at is_offset_mark (drop 16 run)).0 in
     let few : length seconds ≤ length run - 16 = omega (arith, cut-length is_offset_mark (drop 16 run), length-drop 16 run) in
-    either (FewDigits run) (looks_like (codes "0000T") run) _ _ (date-few run Year (fields Year (digits_at 0 4 run) 1 1 0 0 0 0) refl (λ n e. absurd (cc e)))
-    (either (FewDigits run) (looks_like (codes "0000-00T") run) _ _ (date-few run Month (fields Month (digits_at 0 4 run) (digits_at 5 2 run) 1 0 0 0 0) refl (λ n e. absurd (cc e)))
-    (either (FewDigits run) (looks_like (codes "0000-00-00") run || looks_like (codes "0000-00-00T") run) _ _
+    if-either (FewDigits run) (looks_like (codes "0000T") run) _ _ (date-few run Year (fields Year (digits_at 0 4 run) 1 1 0 0 0 0) refl (λ n e. absurd (cc e)))
+    (if-either (FewDigits run) (looks_like (codes "0000-00T") run) _ _ (date-few run Month (fields Month (digits_at 0 4 run) (digits_at 5 2 run) 1 0 0 0 0) refl (λ n e. absurd (cc e)))
+    (if-either (FewDigits run) (looks_like (codes "0000-00-00") run || looks_like (codes "0000-00-00T") run) _ _
     (date-few run Day (fields Day (digits_at 0 4 run) (digits_at 5 2 run) (digits_at 8 2 run) 0 0 0 0) refl (λ n e. absurd (cc e)))
-    (either (FewDigits run) (looks_like (codes "0000-00-00T00:00") (take 16 run)) _ _
+    (if-either (FewDigits run) (looks_like (codes "0000-00-00T00:00") (take 16 run)) _ _
     (time-few run seconds (cut_at is_offset_mark (drop 16 run)).1 few) tt)))
 
 fraction-short : (n : ℕ) → n < 10 ^ 9 → length (coefficient_octets false n) ≤ 6

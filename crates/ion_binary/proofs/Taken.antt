@@ -1,5 +1,6 @@
 -- What each reader of octets took from the bytes is what the grammar says.
 use Rattle.ion_binary.proofs.Below.{◌≡◌, ℕ, zero, suc, ◌+◌, ◌*◌, ◌<◌, ◌≤◌, Bool, true, false, cond, eqb, ltb, List, [], ◌∷◌, ◌++◌, length, take, ◌⊎◌, Some, None, Result, Ok, Err, refl, sym, ap, subst, ◌∙◌, append_assoc, arith, inl, inr, ltb-false, ltb-true, leb-false, eqb-true, eqb-false, take-append-drop, length-take, Reason, IsVar, VarUInt, var_uint, Cursor, skip, ◌>>=◌, ◌>>◌, refuse, part, length-append, Region, is_at_end, first_octet, octet_at, var_at, var_uint_at, length_at, Descriptor, short, long}
+pub use Rattle.ion_value.proofs.WentWell.{passed, part-known as part_ok}
 
 -- ---- steps that did not fail
 
@@ -14,15 +15,6 @@ then_ok (Err d) s y e = absurd (cc e)
 pub refuse_ok : (b : Bool) (reason : Reason) (x : Unit {0}) → refuse b reason ≡ Ok x → b ≡ false
 refuse_ok true reason x e = absurd (cc e)
 refuse_ok false reason x e = refl
-
--- a line that did not refuse, and what follows it
-pub passed : {B : Type 0} (b : Bool) (reason : Reason) (s : Result B Reason) (y : B) → (refuse b reason >> s) ≡ Ok y → (b ≡ false) × (s ≡ Ok y)
-passed true reason s y e = absurd (cc e)
-passed false reason s y e = (refl, e)
-
-pub part_ok : {A : Type 0} (place : ℕ) (r : Result A Reason) (x : A) → part place r ≡ Ok x → r ≡ Ok x
-part_ok place (Ok y) x e = cc e
-part_ok place (Err reason) x e = absurd (cc e)
 
 abbrev pub done : {A E : Type 0} → A → Result A E
 done x = Ok x

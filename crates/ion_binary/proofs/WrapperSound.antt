@@ -1,6 +1,7 @@
 -- Annotation wrappers and fields, as they are read, stand in the bytes so.
 use Rattle.ion_binary.proofs.Below.{◌≡◌, ℕ, zero, suc, ◌+◌, ◌-◌, ◌*◌, ◌<◌, ◌≤◌, eqb, ltb, leb, List, [], ◌∷◌, ◌++◌, length, Option, Some, None, Ok, refl, subst, arith, inl, inr, ◌||◌, ltb-false, leb-false, leb-true, eqb-false, or_parts, Reason, Overrun, BadAnnotation, AnnotationLimit, Rules, Kind, VarUInt, SymbolAt, Cursor, refuse, part, symbol_id, Frame, Region, passes, length_at, var_uint_at, Wrapped, wrapper_at, ids_at, region_of, field_in, field_at, Descriptor, Ids, Field, FieldIn}
 use Rattle.ion_value.specs.declared.ion_type.Kind.TheVariants as kind
+use Rattle.ion_binary.proofs.Spelled.{VarUInt-pos}
 use Rattle.ion_binary.proofs.Taken.{bind_ok, then_ok, passed, part_ok, ok_is, chosen, InRegion, Took, Took-none, Took-then, var_uint_at-taken, length_at-taken}
 use Rattle.ion_binary.proofs.TypedValueSound.{in_region}
 
@@ -76,10 +77,6 @@ pub record TookIds (e : ℕ) (c : Cursor) (o : List SymbolAt × Cursor) : Type 0
   pub spells : Ids c.place o.0 octets
   pub all : e ≤ o.1.place
 
-some_octets : (n : ℕ) (b : List ℕ) → VarUInt n b → 0 < length b
-some_octets n [] v = absurd v.ends
-some_octets n (x ∷ b) v = omega arith
-
 -- each id takes an octet, so that no more of them come than places are left
 pub ids_at-taken : (n : ℕ) (limits : Rules) (e count : ℕ) (c : Cursor) (o : List SymbolAt × Cursor) → e ≤ c.place + n → ids_at n limits e count c ≡ Ok o → TookIds e c o
 unfolding ids_at
@@ -93,7 +90,7 @@ ids_at-taken (suc n) limits e count c o fuel h = elim (chosen (leb e c.place) _ 
       let v = var_uint_at-taken (Some e) c i.0 (part_ok c.place _ _ i.1) in
       let m = then_ok (part c.place (refuse (ltb limits.scalar (16 * (count + 1))) AnnotationLimit)) _ o i.2 in
       let more = bind_ok (ids_at n limits e (count + 1) i.0.1) _ o m.2 in
-      let some = some_octets i.0.0 v.octets v.spells in
+      let some = VarUInt-pos i.0.0 v.octets v.spells in
       let rest = ids_at-taken n limits e (count + 1) i.0.1 more.0 (omega (arith, v.took.place)) more.1 in
       let is : (symbol_id i.0.0 c.place ∷ more.0.0, more.0.1) ≡ o = ok_is {E = Reason × ℕ} _ _ more.2 in
       subst (λ (o : List SymbolAt × Cursor). TookIds e c o) is (record {

@@ -1,21 +1,13 @@
 -- The octets of a declaration are a declaration, which adds its texts to the table before it.
-use Rattle.ion_binary.proofs.Below.{◌≡◌, ℕ, suc, ◌+◌, ◌^◌, ◌<◌, ◌≤◌, Bool, true, false, inl, inr, List, [], ◌∷◌, ◌++◌, length, map, Result, Ok, Err, Option, Some, None, option_map, unwrap_or, if◌then◌else◌, IsUtf8, refl, ap, ap₂, sym, ◌∙◌, subst, append_assoc, append-nil, length-append, arith, codes, ⊤, AllByRecursion, Rules, Kind, Symbol, Id, SymbolAt, UserSymbol, Known, Unknown, Scalar, Value, Members, scalar, container, nothing, member, map_scalar, map_value, map_members, no_place, AreWritable, IsWritable, uint_octets, position, system_id, system_texts, or_given, Ground, IsCostly, IsDoubled, SomeAbove, Shared, Slots, Table, text_at, slots_cost, declared, declares_table, element, next_table, Reason, what_is_said, why_it_is_refused, cost_append, declaration, declaring, id_in, string_members, IsDeclared, DeclarationsAreAccepted, WrittenDeclarationsAreRead, HasRoom, bare_symbol, with_id, with_texts, AllowDeclarations, IdFits, MembersFit, ValueFits, id_size}
+use Rattle.ion_binary.proofs.Below.{◌≡◌, ℕ, suc, ◌+◌, ◌^◌, ◌<◌, ◌≤◌, Bool, true, false, inl, inr, List, [], ◌∷◌, ◌++◌, length, map, Result, Ok, Err, Option, Some, None, option_map, unwrap_or, if◌then◌else◌, IsUtf8, refl, ap, ap₂, sym, ◌∙◌, subst, append_assoc, append-nil, length-append, arith, codes, ⊤, AllByRecursion, Rules, Kind, Symbol, Id, SymbolAt, UserSymbol, Known, Unknown, Scalar, Value, Members, scalar, container, nothing, member, map_scalar, map_value, map_members, no_place, AreWritable, IsWritable, uint_octets, position, system_id, system_texts, or_given, Ground, IsCostly, IsDoubled, SomeAbove, Shared, Slots, Table, text_at, slots_cost, declared, declares_table, element, next_table, Reason, what_is_said, why_it_is_refused, cost_append, declaration, declaring, id_in, string_members, IsDeclared, DeclarationsAreAccepted, WrittenDeclarationsAreRead, HasRoom, bare_symbol, with_id, with_texts, AllowDeclarations, IdFits, MembersFit, ValueFits, id_size, position_within}
 use Rattle.ion_value.specs.declared.ion_type.Kind.TheVariants as kind
 use Rattle.ion_value.specs.Value as value
 use Rattle.ion_symbols.specs.Tree.{elements}
+use Rattle.ion_binary.proofs.DeclarationOctets.{imports-id, table-id, symbols-id}
 use Rattle.ion_binary.proofs.Fitting.{BinFits}
 use Rattle.ion_binary.proofs.WrittenSpelled.{IdsFit, SpelledWithin, uint-short, value-spelled}
 
 -- ---- ids are small
-
-position-lt-by : (b : Bool) (p : Option ℕ) (k n : ℕ) → ((m : ℕ) → p ≡ Some m → m < k) → (if b then Some 0 else option_map (λ place. place + 1) p) ≡ Some n → n < suc k
-position-lt-by true p k n f h = let e : 0 ≡ n = cc h in omega (arith, e)
-position-lt-by false (Some m) k n f h = let e : m + 1 ≡ n = cc h in omega (arith, e, f m refl)
-position-lt-by false None k n f h = absurd (cc h)
-
-pub position-lt : (us : List (List ℕ)) (t : List ℕ) (n : ℕ) → position us t ≡ Some n → n < length us
-position-lt [] t n h = absurd (cc h)
-position-lt (u ∷ us) t n h = position-lt-by _ (position us t) (length us) n (λ m e. position-lt us t m e) h
 
 given-lt : (system p : Option ℕ) (k : ℕ) → ((m : ℕ) → system ≡ Some m → m < 9) → ((m : ℕ) → p ≡ Some m → m < k)
     → unwrap_or (or_given (option_map (λ place. place + 1) system) p) 0 < k + 10
@@ -26,7 +18,7 @@ given-lt None None k f g = omega arith
 -- the ids that so many texts give
 pub id_in-lt : (texts : List (List ℕ)) (s : UserSymbol) → id_in texts s < length texts + 10
 unfolding id_in
-id_in-lt texts (Known t) = given-lt (position system_texts t) (position texts t) (length texts) (λ m e. position-lt system_texts t m e) (λ m e. position-lt texts t m e)
+id_in-lt texts (Known t) = given-lt (position system_texts t) (position texts t) (length texts) (λ m e. position_within system_texts t m e) (λ m e. position_within texts t m e)
 id_in-lt texts Unknown = omega arith
 
 -- they fit where those of their symbols do
@@ -39,8 +31,8 @@ given-fit most None None f g h = let few = uint-short 0 [] (omega arith) in omeg
 pub ids-fit : (texts : List (List ℕ)) → length texts ≤ 2 ^ 30 → (limits : Rules) → IdsFit (id_in texts) limits
 unfolding id_in
 ids-fit texts few limits (Known t) h =
-    given-fit limits.scalar (position system_texts t) (position texts t) (λ m e. position-lt system_texts t m e)
-    (λ m e. let less = position-lt texts t m e in omega (arith, less, few)) h
+    given-fit limits.scalar (position system_texts t) (position texts t) (λ m e. position_within system_texts t m e)
+    (λ m e. let less = position_within texts t m e in omega (arith, less, few)) h
 ids-fit texts few limits Unknown h = let none = uint-short 0 [] (omega arith) in omega (arith, none)
 
 -- ---- the tree of a declaration
@@ -59,18 +51,6 @@ said imports table symbols strings = container kind.Struct
 
 abbrev strings_of : List (List ℕ) → Members Symbol ⊤
 strings_of texts = map_members (with_id (id_in [])) no_place (string_members nothing texts)
-
-imports-id : id_in [] (Known (codes "imports")) ≡ 6
-unfolding id_in
-imports-id = refl
-
-pub table-id : id_in [] (Known (codes "$ion_symbol_table")) ≡ 3
-unfolding id_in
-table-id = refl
-
-symbols-id : id_in [] (Known (codes "symbols")) ≡ 7
-unfolding id_in
-symbols-id = refl
 
 pub said-is : (texts : List (List ℕ)) → map_value (with_id (id_in [])) no_place (declaring texts) ≡ said 6 3 7 (strings_of texts)
 said-is texts =

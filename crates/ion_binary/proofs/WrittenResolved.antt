@@ -1,14 +1,14 @@
 -- The declarations of what is written are accepted, and the ids stand in their tables.
-use Rattle.ion_binary.proofs.Below.{◌≡◌, ℕ, suc, ◌+◌, ◌^◌, ◌<◌, ◌≤◌, Bool, true, false, inl, inr, List, [], ◌∷◌, ◌++◌, length, drop, map, Option, Some, None, Ok, IsUtf8, refl, ap, sym, ◌∙◌, subst, append_assoc, append-nil, arith, AllByRecursion, drop-append_seam, Limits, Symbol, Id, SymbolAt, UserSymbol, Known, Unknown, Scalar, Value, Members, scalar, container, nothing, member, Top, version, tree, map_value, no_place, field_symbols, members_symbols, scalar_symbols, value_symbols, Ground, AnyAbove, SymbolAbove, IsSlot, SymbolStands, FieldStands, ValueStands, MembersStand, texts_cost, AreResolved, Slot, Shared, Table, system, slot_of, text_of_slot, slots_cost, declared, declares_table, IsUser, value_symbols-map, Stream, Tops, Bodies, binary, declaration, id_in, is_over, marker_if, marker_octets, member_octets, octets_after, texts_kept, tree_octets, value_octets, with_symbols, AreShort, HasRoom, bare_symbol, with_id, with_texts, WhatIsWrittenIsResolved}
+use Rattle.ion_binary.proofs.Below.{◌≡◌, ℕ, suc, ◌+◌, ◌^◌, ◌<◌, ◌≤◌, Bool, true, false, inl, inr, List, [], ◌∷◌, ◌++◌, length, drop, map, Option, Some, None, Ok, IsUtf8, refl, ap, sym, ◌∙◌, subst, append_assoc, append-nil, arith, AllByRecursion, drop-append_seam, Limits, Symbol, Id, SymbolAt, UserSymbol, Known, Unknown, Scalar, Value, Members, scalar, container, nothing, member, Top, version, tree, map_value, no_place, field_symbols, members_symbols, scalar_symbols, value_symbols, Ground, AnyAbove, SymbolAbove, IsSlot, SymbolStands, FieldStands, ValueStands, MembersStand, texts_cost, AreResolved, Slot, Shared, Table, system, slot_of, text_of_slot, slots_cost, declared, declares_table, IsUser, value_symbols-map, Stream, Tops, Bodies, binary, declaration, id_in, is_over, marker_if, marker_octets, member_octets, octets_after, texts_kept, tree_octets, value_octets, with_symbols, AreShort, HasRoom, bare_symbol, with_id, with_texts, WhatIsWrittenIsResolved, all-left, all-right}
 use Rattle.ion_value.specs.Value as value
 use Rattle.ion_symbols.specs.Laws.{Stands}
 use Rattle.ion_symbols.specs.Table as slot
 use Rattle.ion_binary.specs.Refusals.{AreWithin}
 use Rattle.ion_binary.proofs.Complete.{Shrinking, one_stream}
-use Rattle.ion_binary.proofs.Elements.{all-left, all-right}
 use Rattle.ion_binary.proofs.KnownIds.{AreKnown, IsKnown, all_known}
 use Rattle.ion_binary.proofs.ShortValues.{what_is_within_is_short}
-use Rattle.ion_binary.proofs.WrittenDeclarations.{declaration-spelled, id_in-lt, said-is, table-id, what-is-said}
+use Rattle.ion_binary.proofs.DeclarationOctets.{table-id}
+use Rattle.ion_binary.proofs.WrittenDeclarations.{declaration-spelled, id_in-lt, said-is, what-is-said}
 use Rattle.ion_binary.proofs.WrittenSpelled.{value-spelled}
 use Rattle.ion_binary.proofs.WrittenStream.{table_of, declares-none, id-text, known-annotations, news, no-declaration, table-more}
 

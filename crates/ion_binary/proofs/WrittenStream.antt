@@ -1,15 +1,14 @@
 -- The canonical form of values is a stream of which they are the user values, and it is read to its end where the values are within limits.
-use Rattle.ion_binary.proofs.Below.{◌≡◌, ℕ, suc, ◌+◌, ◌-◌, ◌^◌, ◌<◌, ◌≤◌, Bool, true, false, List, [], ◌∷◌, ◌++◌, length, drop, map, slice_get, Option, Some, None, option_map, unwrap_or, if◌then◌else◌, nat_lt, IsUtf8, refl, ap, ap₂, sym, subst, ◌∙◌, append_assoc, append-nil, arith, ⊤, bytes_eq, AllByRecursion, map-append, bytes_eq-Decides, option_map_id, drop-append_seam, Rules, named, text_or_id, closed, path_items, Finished, items_then, Symbol, Id, SymbolAt, UserSymbol, Known, Unknown, user_symbol, Scalar, Value, Members, scalar, container, nothing, member, Top, version, tree, map_scalar, map_value, map_members, no_place, unplaced_top, IsText, field_symbols, members_symbols, scalar_symbols, value_symbols, position, system_id, system_texts, or_given, known_id, word_by_id, Shared, Slots, Table, system, system_slots, local_slot, slot_in, text_of_slot, text_at, declares_table, next_table, user_at, user_tops, is_declaration, IsUser, is_declaring, lt-ltb, le-ltb, Bin, Stream, Tops, Bodies, binary, declaration, id_in, is_over, marker_if, marker_octets, member_octets, octets_after, texts_kept, tree_octets, value_octets, with_symbol, with_symbols, with_text, AreShort, IsDeclared, TheFormIsRead, bare_symbol, with_id, with_texts, AllowDeclarations, FitsBinary, MayBeDeclared, SymbolFits, WhatIsWrittenIsWithinLimits}
+use Rattle.ion_binary.proofs.Below.{◌≡◌, ℕ, suc, ◌+◌, ◌-◌, ◌^◌, ◌<◌, ◌≤◌, Bool, true, false, List, [], ◌∷◌, ◌++◌, length, drop, map, slice_get, Option, Some, None, option_map, unwrap_or, if◌then◌else◌, nat_lt, IsUtf8, refl, ap, ap₂, sym, subst, ◌∙◌, append_assoc, append-nil, arith, ⊤, bytes_eq, AllByRecursion, map-append, bytes_eq-Decides, option_map_id, drop-append_seam, Rules, named, text_or_id, closed, path_items, Finished, items_then, Symbol, Id, SymbolAt, UserSymbol, Known, Unknown, user_symbol, Scalar, Value, Members, scalar, container, nothing, member, Top, version, tree, map_scalar, map_value, map_members, no_place, unplaced_top, IsText, field_symbols, members_symbols, scalar_symbols, value_symbols, position, system_id, system_texts, or_given, known_id, word_by_id, Shared, Slots, Table, system, system_slots, local_slot, slot_in, text_of_slot, text_at, declares_table, next_table, user_at, user_tops, is_declaration, IsUser, is_declaring, lt-ltb, le-ltb, Bin, Stream, Tops, Bodies, binary, declaration, id_in, is_over, marker_if, marker_octets, member_octets, octets_after, texts_kept, tree_octets, value_octets, with_symbol, with_symbols, with_text, AreShort, IsDeclared, TheFormIsRead, bare_symbol, with_id, with_texts, AllowDeclarations, FitsBinary, MayBeDeclared, SymbolFits, WhatIsWrittenIsWithinLimits, map_list-twice, map_field-twice, map_scalar-twice, all-append, all-left, all-right, position_within}
 use Rattle.ion_meter.specs.Rules.{rules}
 use Rattle.ion_value.specs.declared.ion_type.Kind.TheVariants as kind
 use Rattle.ion_value.specs.Value as value
 use Rattle.ion_binary.proofs.Complete.{Shrinking, fitting_streams, one_stream}
-use Rattle.ion_binary.proofs.Elements.{all-append, all-left, all-right}
 use Rattle.ion_binary.proofs.Fitting.{BinFits, TopsFit}
 use Rattle.ion_binary.proofs.ShortValues.{what_is_within_is_short}
 use Rattle.ion_binary.proofs.KnownIds.{AreKnown, IsKnown, all_known, known_left}
 use Rattle.ion_binary.proofs.WrittenSpelled.{same_member, value-spelled}
-use Rattle.ion_binary.proofs.WrittenDeclarations.{TextsFit, declared-within, id_in-lt, ids-fit, position-lt}
+use Rattle.ion_binary.proofs.WrittenDeclarations.{TextsFit, declared-within, id_in-lt, ids-fit}
 
 -- ---- the table of texts, in which their ids stand for them
 
@@ -45,7 +44,7 @@ own-text texts t n h =
 
 system-text : (texts : List (List ℕ)) (t : List ℕ) (n : ℕ) → position system_texts t ≡ Some n → text_at (table_of texts) (n + 1) ≡ Some t
 system-text texts t n h =
-    let few : n < 9 = position-lt system_texts t n h in
+    let few : n < 9 = position_within system_texts t n h in
     let below : nat_lt (n + 1) 10 ≡ true = lt-ltb (n + 1) 10 (omega (arith, few)) in
     let next : n + 1 ≡ suc n = omega arith in
     ap (λ b. text_of_slot (if b then local_slot (slice_get system_slots (n + 1)) else slot_in [] (map (λ u. Some u) texts) (n + 1 - 10))) below
@@ -81,27 +80,15 @@ symbol-seen texts Unknown h = ap (λ o. user_symbol (text_or_id (id_in texts Unk
 
 -- ---- trees with other symbols
 
-map-then : {A B C : Type 0} (f : B → C) (g : A → B) (xs : List A) → map f (map g xs) ≡ map (λ x. f (g x)) xs
-map-then f g [] = refl
-map-then f g (x ∷ xs) = ap (λ l. f (g x) ∷ l) (map-then f g xs)
-
-option-then : {A B C : Type 0} (f : B → C) (g : A → B) (o : Option A) → option_map f (option_map g o) ≡ option_map (λ x. f (g x)) o
-option-then f g None = refl
-option-then f g (Some x) = refl
-
-scalar-then : {A B C : Type 0} (f : B → C) (g : A → B) (v : Scalar A) → map_scalar f (map_scalar g v) ≡ map_scalar (λ x. f (g x)) v
-scalar-then f g (value.null t) = refl
-scalar-then f g x = refl
-
 mutual
   value-then : {A B C P Q R : Type 0} (f : B → C) (g : A → B) (h : Q → R) (i : P → Q) (x : Value A P) → map_value f h (map_value g i x) ≡ map_value (λ s. f (g s)) (λ p. h (i p)) x
-  value-then f g h i (scalar v) = ap (λ w. scalar w) (scalar-then f g v)
+  value-then f g h i (scalar v) = ap (λ w. scalar w) (map_scalar-twice f g v)
   value-then f g h i (container k ms last) = ap (λ ns. container k ns (h (i last))) (members-then f g h i ms)
 
   members-then : {A B C P Q R : Type 0} (f : B → C) (g : A → B) (h : Q → R) (i : P → Q) (ms : Members A P) → map_members f h (map_members g i ms) ≡ map_members (λ s. f (g s)) (λ p. h (i p)) ms
   members-then f g h i nothing = refl
   members-then f g h i (member before name annotations p x) =
-      same_member _ _ _ _ _ _ (h (i p)) _ _ (members-then f g h i before) (option-then f g name) (map-then f g annotations) (value-then f g h i x)
+      same_member _ _ _ _ _ _ (h (i p)) _ _ (members-then f g h i before) (map_field-twice f g name) (map_list-twice f g annotations) (value-then f g h i x)
 
 -- a symbol stays as it is, and all of these do
 abbrev Stays : (UserSymbol → UserSymbol) → UserSymbol → Type 0
@@ -287,8 +274,8 @@ same-value texts q first place annotations x own h raw k n e =
     let ids : UserSymbol → ℕ = id_in texts in
     let f : UserSymbol → UserSymbol = λ s. seen_in t (Id (ids s)) in
     let stays : Stay f (value_symbols None annotations x) = stay-known texts (value_symbols None annotations x) k in
-    let annotations_are : map (user_at t) own ≡ annotations = sym (map-then (seen_in t) bare_symbol own) ∙ (ap (map (seen_in t)) n
-    ∙ (map-then (seen_in t) (with_id ids) annotations ∙ stay-map f annotations (stay-annotations f annotations x stays))) in
+    let annotations_are : map (user_at t) own ≡ annotations = sym (map_list-twice (seen_in t) bare_symbol own) ∙ (ap (map (seen_in t)) n
+    ∙ (map_list-twice (seen_in t) (with_id ids) annotations ∙ stay-map f annotations (stay-annotations f annotations x stays))) in
     let value_is : map_value (λ (s : UserSymbol). s) no_place (map_value (user_at t) (λ (p : ℕ). p) raw) ≡ map_value (λ (s : UserSymbol). s) no_place x =
     value-then (λ (s : UserSymbol). s) (user_at t) no_place (λ (p : ℕ). p) raw
     ∙ (sym (value-then (seen_in t) bare_symbol (λ (p : ⊤). p) no_place raw) ∙ (ap (map_value (seen_in t) (λ (p : ⊤). p)) e

@@ -10,7 +10,7 @@ mod Taking
 mod Pendings
 mod Viewing
 mod Turning
-mod Checking
+pub mod Checking
 mod Answering
 mod Sharing
 mod Turns
@@ -20,13 +20,13 @@ mod DeclarationReadings
 mod Yields
 mod DeclarationLists
 pub mod DeclarationMeaning
-mod AllAppended
+pub mod AllAppended
 mod StandingSymbols
 mod IdsAbove
 mod Accepted
 mod Costly
 pub mod CountedTrees
-mod UserReadings
+pub mod UserReadings
 mod ResolvedUsers
 pub mod OtherSymbols
 mod TableTexts
@@ -39,10 +39,10 @@ mod RefusedUsers
 mod TextOrder
 mod Halving
 mod Probes
-mod OutputTexts
+pub mod OutputTexts
 mod Orders
 mod Adding
-mod Finding
+pub mod Finding
 mod KeptTexts
 mod FewProbes
 mod SameEnds

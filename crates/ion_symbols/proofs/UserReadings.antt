@@ -27,17 +27,17 @@ use Rattle.ion_value.proofs.Readings.{items_then-append}
 -- ---- the items of a value as a user knows them
 
 -- two maps in a row are one, over a field
-map_field-twice : {A B C : Type 0} (f : B → C) (g : A → B) (field : Option A) → option_map f (option_map g field) ≡ option_map (λ x. f (g x)) field
+pub map_field-twice : {A B C : Type 0} (f : B → C) (g : A → B) (field : Option A) → option_map f (option_map g field) ≡ option_map (λ x. f (g x)) field
 map_field-twice f g None = refl
 map_field-twice f g (Some x) = refl
 
 -- two maps in a row are one, over annotations
-map_list-twice : {A B C : Type 0} (f : B → C) (g : A → B) (xs : List A) → map f (map g xs) ≡ map (λ x. f (g x)) xs
+pub map_list-twice : {A B C : Type 0} (f : B → C) (g : A → B) (xs : List A) → map f (map g xs) ≡ map (λ x. f (g x)) xs
 map_list-twice f g [] = refl
 map_list-twice f g (x ∷ xs) = ap (λ ys. f (g x) ∷ ys) (map_list-twice f g xs)
 
 -- two maps in a row are one, over a scalar
-map_scalar-twice : {A B C : Type 0} (f : B → C) (g : A → B) (body : Scalar A) → map_scalar f (map_scalar g body) ≡ map_scalar (λ x. f (g x)) body
+pub map_scalar-twice : {A B C : Type 0} (f : B → C) (g : A → B) (body : Scalar A) → map_scalar f (map_scalar g body) ≡ map_scalar (λ x. f (g x)) body
 map_scalar-twice f g (value.null type) = refl
 map_scalar-twice f g (value.bool truth) = refl
 map_scalar-twice f g (value.int number) = refl

@@ -1,15 +1,11 @@
 -- Bytes between quotes, in runs.
-use Rattle.ion_text_out.proofs.Below.{◌≡◌, ℕ, ◌+◌, Bool, true, false, ◌&&◌, List, [], ◌∷◌, ◌++◌, length, take, drop, refl, sym, ap, ◌∙◌, inl, inr, flat_map, cases_Bool, flat_map-append, take-append-drop, nil_from_length, take-add, first_is, all_are, is_shown, escaped, byte_text, between_quotes}
+use Rattle.ion_text_out.proofs.Below.{◌≡◌, ℕ, ◌+◌, Bool, true, false, ◌&&◌, List, [], ◌∷◌, ◌++◌, length, take, drop, refl, sym, ap, ◌∙◌, inl, inr, flat_map, cases_Bool, flat_map-append, take-append-drop, nil_from_length, take-add, first_is, all_are, is_shown, escaped, byte_text, between_quotes, all_are-append}
 
 -- ---- which bytes stand for themselves
 
-pub all_joined : (test : ℕ → Bool) (xs ys : List ℕ) → all_are test (xs ++ ys) ≡ (all_are test xs && all_are test ys)
-all_joined test [] ys = refl
-all_joined test (x ∷ xs) ys = elim (cases_Bool (test x)) [ inl e ↦ rw e (all_joined test xs ys) | inr e ↦ rw e refl ]
-
 -- so many bytes, and so many after them
 pub all_after : (test : ℕ → Bool) (bytes : List ℕ) (n m : ℕ) → all_are test (take n bytes) ≡ true → all_are test (take m (drop n bytes)) ≡ true → all_are test (take (n + m) bytes) ≡ true
-all_after test bytes n m first second = rw (take-add n m bytes, all_joined test (take n bytes) (take m (drop n bytes)), first, second) refl
+all_after test bytes n m first second = rw (take-add n m bytes, all_are-append test (take n bytes) (take m (drop n bytes)), first, second) refl
 
 -- ---- their text
 

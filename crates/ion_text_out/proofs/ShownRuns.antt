@@ -1,6 +1,6 @@
 -- Runs of bytes that stand for themselves between quotes, as vectors find them.
-use Rattle.ion_text_out.proofs.Below.{◌≡◌, ◌≢◌, ℕ, zero, suc, ◌+◌, ◌-◌, ◌*◌, ◌%◌, ◌^◌, ◌<◌, ◌≤◌, Bool, true, false, not, cond, eqb, leb, ◌&&◌, ◌||◌, nat_eq, nat_le, nat_lt, List, [], ◌∷◌, ◌++◌, map, take, drop, length, replicate, refl, sym, subst, ap, ap₂, ◌∙◌, inl, inr, arith, w8, Fits, and_parts, cases_Bool, ne_eqb, nat_tests, zip2_splat, zip2_splat_left, map-map, mask_l-mod, chunk-drop, length-chunk, trailing_mask_l, length-map, length-drop, drop-drop, take_all, prefix_len-append, prefix_len-le-length, prefix_len, bit_or, zip2, chunk, mask_l, top, Each1, count_trailing_zeros, first_is, all_are, is_shown}
-use Rattle.ion_text_out.proofs.Quoted.{all_after, all_joined}
+use Rattle.ion_text_out.proofs.Below.{◌≡◌, ◌≢◌, ℕ, zero, suc, ◌+◌, ◌-◌, ◌*◌, ◌%◌, ◌^◌, ◌<◌, ◌≤◌, Bool, true, false, not, cond, eqb, leb, ◌&&◌, ◌||◌, nat_eq, nat_le, nat_lt, List, [], ◌∷◌, ◌++◌, map, take, drop, length, replicate, refl, sym, subst, ap, ap₂, ◌∙◌, inl, inr, arith, w8, Fits, and_parts, cases_Bool, ne_eqb, nat_tests, zip2_splat, zip2_splat_left, map-map, mask_l-mod, chunk-drop, length-chunk, trailing_mask_l, length-map, length-drop, drop-drop, take_all, prefix_len-append, prefix_len-le-length, prefix_len, bit_or, zip2, chunk, mask_l, top, Each1, count_trailing_zeros, first_is, all_are, is_shown, all_are-append}
+use Rattle.ion_text_out.proofs.Quoted.{all_after}
 
 -- ---- a vector of bytes, tested lane by lane
 
@@ -215,7 +215,7 @@ some_hidden quote most bytes at found same some =
 both_pass : (p : ℕ → Bool) (bytes : List ℕ) (n : ℕ) → length bytes ≤ n + n → all_are p (take n bytes ++ drop (length bytes - n) bytes) ≡ true → all_are p bytes ≡ true
 both_pass p bytes n short e =
     let at : ℕ = length bytes - n in
-    let both = and_parts (all_are p (take n bytes)) (all_are p (drop at bytes)) (sym (all_joined p (take n bytes) (drop at bytes)) ∙ e) in
+    let both = and_parts (all_are p (take n bytes)) (all_are p (drop at bytes)) (sym (all_are-append p (take n bytes) (drop at bytes)) ∙ e) in
     subst (λ (l : List ℕ). all_are p l ≡ true) (take_all (at + n) bytes (omega arith))
     (all_after p bytes at n (all_prefix p at n bytes (omega (arith, short)) both.0) (all_taken p n (drop at bytes) both.1))
 
@@ -226,7 +226,7 @@ ends_hidden quote most bytes found n same short =
     let block = take n bytes ++ drop (length bytes - n) bytes in
     elim (cases_Bool (all_are p bytes)) [
       | inl e ↦
-          let all : all_are p block ≡ true = all_joined p (take n bytes) (drop (length bytes - n) bytes) ∙ ap₂ (λ y z. y && z) (all_taken p n bytes e) (all_dropped p (length bytes - n) bytes e) in
+          let all : all_are p block ≡ true = all_are-append p (take n bytes) (drop (length bytes - n) bytes) ∙ ap₂ (λ y z. y && z) (all_taken p n bytes e) (all_dropped p (length bytes - n) bytes e) in
           rw (same ∙ no_bits p block all, e) refl
       | inr e ↦
           let some : found ≢ 0 = λ none. let no : true ≡ false = sym (both_pass p bytes n short (all_pass p block (sym same ∙ none))) ∙ e in cc no in

@@ -187,11 +187,11 @@ pub length-bytes_high_first : (k n : ℕ) → length (bytes_high_first k n) ≡ 
 length-bytes_high_first zero n = refl
 length-bytes_high_first (suc k) n = ap suc (length-bytes_high_first k n)
 
-byte_at-div : (k n : ℕ) → byte_at k n ≡ n / 256 ^ k % 256
+pub byte_at-div : (k n : ℕ) → byte_at k n ≡ n / 256 ^ k % 256
 byte_at-div zero n = rw pow-zero (omega arith)
 byte_at-div (suc k) n = refl
 
-uint-bytes_high_first : (k n : ℕ) → uint (bytes_high_first k n) ≡ n % 256 ^ k
+pub uint-bytes_high_first : (k n : ℕ) → uint (bytes_high_first k n) ≡ n % 256 ^ k
 uint-bytes_high_first zero n = rw pow-zero (omega arith)
 uint-bytes_high_first (suc k) n =
     let e : 256 ^ suc k ≡ 2 ^ (8 + 8 * k) = let d : 8 * suc k ≡ 8 + 8 * k = omega arith in pow-256 (suc k) ∙ ap (λ (i : ℕ). 2 ^ i) d in
@@ -222,7 +222,7 @@ pub record ShortestUInt (n : ℕ) (xs : List ℕ) : Type 0 where
   pub shortest : (b : List ℕ) → All (λ octet. octet < 256) b → uint b ≡ n → length xs ≤ length b
 
 -- a number of m bits in k octets has z zeros before those bits
-uint-prefix : (k n z m : ℕ) → z + m ≡ 8 * k → n < 2 ^ m → 2 ^ m ≤ 2 * n + 1 → ShortestUInt n (drop (z / 8) (bytes_high_first k n))
+pub uint-prefix : (k n z m : ℕ) → z + m ≡ 8 * k → n < 2 ^ m → 2 ^ m ≤ 2 * n + 1 → ShortestUInt n (drop (z / 8) (bytes_high_first k n))
 uint-prefix k n z m whole small least =
     let all : List ℕ = bytes_high_first k n in
     let long : length all ≡ k = length-bytes_high_first k n in

@@ -324,7 +324,7 @@ mantissa-no_fraction bytes n k rest e point f negative = mantissa-read negative 
 
 -- ---- exponents
 
-filter-le : (xs : List ℕ) → length (filter is_digit xs) ≤ length xs
+pub filter-le : (xs : List ℕ) → length (filter is_digit xs) ≤ length xs
 filter-le [] = omega arith
 filter-le (x ∷ xs) = elim (cases_Bool (is_digit x)) [
   | inl e ↦ simp e (omega (arith, filter-le xs))

@@ -1,5 +1,5 @@
-use Rattle.ion_binary.proofs.Below.{◌<◌, ◌+◌, length, drop, arith, onward_as, onward_then, onward_cut, onward_end, strings_octets}
-use Rattle.ion_binary.proofs.DeclarationOctets.{got-lt, few-texts, strings-next, strings-past}
+use Rattle.ion_binary.proofs.Below.{◌<◌, ◌+◌, length, drop, arith, onward_as, onward_then, onward_cut, onward_end, strings_octets, got_within}
+use Rattle.ion_binary.proofs.DeclarationOctets.{few-texts, strings-next, strings-past}
 use Rattle.ion_binary.proofs.declaration.put_strings.Goals as goal
 
 pub loop-text-init : goal.loop-text-init
@@ -16,13 +16,13 @@ overflow_add-index g c = let few = few-texts c.args.texts.now in omega (arith, f
 
 pub loop-text-smaller : goal.loop-text-smaller
 loop-text-smaller g c =
-    let within : c.loop-text.index < length c.args.texts.now = got-lt c.args.texts.now c.loop-text.index c.in-Some.text.now c.in-Some.ensures in
+    let within : c.loop-text.index < length c.args.texts.now = got_within c.args.texts.now c.loop-text.index c.in-Some.text.now c.in-Some.ensures in
     omega (arith, within)
 
 pub loop-text-preserved : goal.loop-text-preserved
 loop-text-preserved g c =
     let texts = c.args.texts.now in
-    let within : c.loop-text.index < length texts = got-lt texts c.loop-text.index c.in-Some.text.now c.in-Some.ensures in
+    let within : c.loop-text.index < length texts = got_within texts c.loop-text.index c.in-Some.text.now c.in-Some.ensures in
     let to_next = onward_as c.loop-text.invariant.onward (strings-next texts c.loop-text.index c.in-Some.text.now c.in-Some.ensures) in
     record { within = omega (arith, within); onward = onward_then to_next c.in_default-put_string.is c.put_string.ensures }
 

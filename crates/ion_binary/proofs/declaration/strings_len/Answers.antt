@@ -1,5 +1,5 @@
-use Rattle.ion_binary.proofs.Below.{◌≡◌, ◌<◌, ◌+◌, ◌∙◌, length, drop, ap, arith, length-append, headed, strings_octets}
-use Rattle.ion_binary.proofs.DeclarationOctets.{got-lt, few-texts, cost-next, strings-next, strings-past}
+use Rattle.ion_binary.proofs.Below.{◌≡◌, ◌<◌, ◌+◌, ◌∙◌, length, drop, ap, arith, length-append, headed, strings_octets, got_within}
+use Rattle.ion_binary.proofs.DeclarationOctets.{few-texts, cost-next, strings-next, strings-past}
 use Rattle.ion_binary.proofs.declaration.strings_len.Goals as goal
 
 pub string_len-len-requires : goal.string_len-len-requires
@@ -17,7 +17,7 @@ overflow_add-index c = let few = few-texts c.args.texts.now in omega (arith, few
 
 pub loop-text-smaller : goal.loop-text-smaller
 loop-text-smaller c =
-    let within : c.loop-text.index < length c.args.texts.now = got-lt c.args.texts.now c.loop-text.index c.in-Some.text.now c.in-Some.ensures in
+    let within : c.loop-text.index < length c.args.texts.now = got_within c.args.texts.now c.loop-text.index c.in-Some.text.now c.in-Some.ensures in
     omega (arith, within)
 
 pub loop-text-preserved : goal.loop-text-preserved
@@ -25,7 +25,7 @@ loop-text-preserved c =
     let texts = c.args.texts.now in
     let i = c.loop-text.index in
     let t = c.in-Some.text.now in
-    let within : i < length texts = got-lt texts i t c.in-Some.ensures in
+    let within : i < length texts = got_within texts i t c.in-Some.ensures in
     let cost = cost-next texts i t c.in-Some.ensures in
     let strings : length (strings_octets (drop i texts)) ≡ length (headed 8 t) + length (strings_octets (drop (i + 1) texts)) =
     ap length (strings-next texts i t c.in-Some.ensures) ∙ length-append (headed 8 t) (strings_octets (drop (i + 1) texts)) in

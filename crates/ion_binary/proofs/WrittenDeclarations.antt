@@ -72,15 +72,7 @@ bare_elements (member before f annotations place x) = bare_elements before ++ ba
 
 element-scalar : {S T P Q : Type 0} (f : S → T) (g : P → Q) (v : Scalar S) → bare_element {S = T} {P = Q} (scalar (map_scalar f v)) ≡ bare_element {S = S} {P = P} (scalar v)
 element-scalar f g (value.null t) = refl
-element-scalar f g (value.bool truth) = refl
-element-scalar f g (value.int number) = refl
-element-scalar f g (value.float number) = refl
-element-scalar f g (value.decimal number) = refl
-element-scalar f g (value.timestamp moment) = refl
-element-scalar f g (value.symbol s) = refl
-element-scalar f g (value.string b) = refl
-element-scalar f g (value.clob b) = refl
-element-scalar f g (value.blob b) = refl
+element-scalar f g x = refl
 
 element-mapped : {S T P Q : Type 0} (f : S → T) (g : P → Q) (x : Value S P) → bare_element (map_value f g x) ≡ bare_element x
 element-mapped f g (scalar v) = element-scalar f g v
@@ -94,15 +86,7 @@ elements-mapped f g (member before field annotations place x) =
 
 element-seen : (v : Scalar SymbolAt) → bare_element {S = SymbolAt} {P = ℕ} (scalar v) ≡ element (scalar v)
 element-seen (value.null t) = refl
-element-seen (value.bool truth) = refl
-element-seen (value.int number) = refl
-element-seen (value.float number) = refl
-element-seen (value.decimal number) = refl
-element-seen (value.timestamp moment) = refl
-element-seen (value.symbol s) = refl
-element-seen (value.string b) = refl
-element-seen (value.clob b) = refl
-element-seen (value.blob b) = refl
+element-seen x = refl
 
 elements-seen : (ms : Members SymbolAt ℕ) → elements ms ≡ bare_elements ms
 elements-seen nothing = refl

@@ -1,5 +1,5 @@
 -- The ids of a wrapper as a loop over them reads them.
-use Rattle.ion_binary.proofs.Below.{arith, refl, ap, sym, ◌∙◌, ◌≡◌, ℕ, zero, suc, ◌+◌, ◌-◌, ◌*◌, ◌<◌, ◌≤◌, true, false, nat_lt, nat_le, List, [], ◌∷◌, ◌++◌, length, append_assoc, append-nil, Some, Result, Ok, Err, le-leb, lt-leb, lt-ltb, le-ltb, map-append, Counts, Grows, Fault, Refused, Memory, ReadFault, WriteFault, InputLimit, Reason, AnnotationLimit, Rules, Annotation, raw_annotation, raw_id, Charges, SymbolAt, Cursor, ◌>>=◌, Placed, Answers, AnswersAt, length-append, symbol_id, var_uint_at, ids_at, as_annotations}
+use Rattle.ion_binary.proofs.Below.{arith, refl, ap, sym, ◌∙◌, ◌≡◌, ℕ, zero, suc, ◌+◌, ◌-◌, ◌*◌, ◌<◌, ◌≤◌, true, false, nat_lt, nat_le, List, [], ◌∷◌, ◌++◌, length, append_assoc, append-nil, Some, Result, Ok, Err, le-leb, lt-leb, lt-ltb, le-ltb, map-append, Counts, Grows, Fault, Refused, Reason, AnnotationLimit, Rules, Annotation, raw_annotation, raw_id, Charges, SymbolAt, Cursor, ◌>>=◌, Placed, Answers, AnswersAt, length-append, symbol_id, var_uint_at, ids_at, as_annotations}
 use Rattle.ion_value.specs.declared.item.Annotation.TheVariants as annotation
 use Rattle.ion_binary.proofs.VarLoop.{positive}
 

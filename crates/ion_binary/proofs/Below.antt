@@ -1,18 +1,17 @@
 -- The names of specs/ and of the crates below that most proofs here cite, passed on from one place. Declares nothing.
 pub use Rattle.std.proofs.Common.{Bool, Err, IfErr, IsTrue, IsUtf8, List, MatchOption, None, Ok, OnErr, OnOk, Option, Result, Some, [], add-one, add-zero, ap, append-nil, append_assoc, ap₂, arith, codes, cond, drop, eq-eqb, eqb, false, filter, get_or, if◌then◌else◌, inl, inr, is_some, leb, length, length-append, lit<, ltb, map, max, min, nat_eq, nat_le, nat_lt, neg_ℤ, not, option_and_then, option_map, refl, replicate, reverse, rules, set, slice_index, subst, subst₂, suc, suc-mul, sum, sym, take, take_at, true, unwrap_or, zero, ℕ, ℤ, ◌%◌, ◌&&◌, ◌*◌, ◌++◌, ◌+◌, ◌-ℤ◌, ◌-◌, ◌/◌, ◌<◌, ◌==◌, ◌^◌, ◌||◌, ◌↔◌, ◌∙◌, ◌∷◌, ◌≡◌, ◌≢◌, ◌≤◌, ◌⊎◌}
 pub use Rattle.std.proofs.Math.ListN.{get_or-append}
-pub use Rattle.std.proofs.Math.Nat.{add-mul, div-div-eq-div-mul, mod-eq_of_lt, mul-div_cancel, mul-le-mul_right, mul-lt-mul_of_pos_right, mul_assoc, pow-le-pow_right, pow-suc, pow-zero}
+pub use Rattle.std.proofs.Math.Nat.{add-mul, div-div-eq-div-mul, mul-div_cancel, mul-le-mul_right, mul-lt-mul_of_pos_right, mul_assoc, pow-le-pow_right, pow-suc, pow-zero}
 pub use Rattle.std.proofs.Math.Seq.{drop-append_seam, drop-cons, take-append_seam}
 pub use Rattle.std.proofs.lemmas.Bool.{and_cases, and_parts, cases_Bool, cases_eq, cases_lt, eqb-false, eqb-true, false_from_ne_true, le-leb, le-ltb, leb-false, leb-true, lt-leb, lt-ltb, ltb-false, ltb-true, ne_eqb, not-false, not-true, or_cases, or_parts, or_right, true≢false}
 pub use Rattle.std.proofs.lemmas.Bool.Decides.{nat_tests}
 pub use Rattle.std.proofs.lemmas.Grind.{common_steps, elements, reverse_onto}
 pub use Rattle.std.proofs.lemmas.Int.{ints}
 pub use Rattle.std.proofs.lemmas.Iterator.Adapters.{option_map_id}
-pub use Rattle.std.proofs.lemmas.List.{append_cancel_left, append_cancel_right, drop-append-le, drop-drop, drop-take, drop_at, get_or-drop, get_or-set_other, get_or-set_same, length-drop, length-map, length-replicate, length-reverse, length-set, length-take, length-take-le, length_push, map-append, nil_from_length, reverse-append, take-append-drop, take-append-le, take-take, take_all}
+pub use Rattle.std.proofs.lemmas.List.{append_cancel_left, append_cancel_right, drop-append-le, drop-drop, drop-take, drop_at, get_or-set_other, get_or-set_same, length-drop, length-map, length-reverse, length-set, length-take, length-take-le, length_push, map-append, nil_from_length, reverse-append, take-append-drop, take-append-le, take-take, take_all}
 pub use Rattle.std.proofs.lemmas.List.Concat.{flat_map-append}
-pub use Rattle.std.proofs.lemmas.List.Elements.{All-from_get_or, All-get_or}
 pub use Rattle.std.proofs.lemmas.List.Sums.{sum_by-cons}
-pub use Rattle.std.proofs.lemmas.Nat.{div-add-mod', div-mul-add, leading_length, mod-mul-add, mod-pow-add, mod_below, pow-add, shl-shr, shl_whole}
+pub use Rattle.std.proofs.lemmas.Nat.{div-add-mod', div-mul-add, leading_length, mod-mul-add, mod_below, pow-add, shl-shr, shl_whole}
 pub use Rattle.std.proofs.lemmas.Option.{none-some, slice_get-get_or}
 pub use Rattle.std.proofs.lemmas.Result.{IfOk-at_ok}
 pub use Rattle.std.proofs.lemmas.Slice.Eq.{bytes_eq-Decides}
@@ -37,7 +36,7 @@ pub use Rattle.ion_meter.specs.Sinks.{IsPut}
 pub use Rattle.ion_meter.specs.Sources.{BytesAreLeft, Cursor, Exceeds, Moves, Stands, cursor, skip}
 pub use Rattle.ion_meter.specs.Windows.{Incoming, IsPassed, Outgoing, left, lent}
 pub use Rattle.ion_meter.specs.declared.fault.Fault.{Fault}
-pub use Rattle.ion_meter.specs.declared.fault.Fault.TheVariants.{InputLimit, Memory, ReadFault, Refused, WriteFault}
+pub use Rattle.ion_meter.specs.declared.fault.Fault.TheVariants.{Memory, Refused, WriteFault}
 pub use Rattle.ion_meter.specs.declared.fault.Reason.{Reason}
 pub use Rattle.ion_meter.specs.declared.fault.Reason.TheVariants.{AnnotationLimit, BadAnnotation, BadDescriptor, BadNumber, BadText, BadTimestamp, BadToken, BadVar, BadVersion, DepthLimit, Float, Overrun, Range, ScalarLimit, SymbolLimit, Truncated, ValueLimit}
 pub use Rattle.ion_meter.specs.declared.limits.Limits.{Limits}
@@ -59,11 +58,11 @@ pub use Rattle.ion_value.proofs.Cut.{Cut, IfSome-Cut, var_cut-IsVar}
 pub use Rattle.ion_value.proofs.Days.{local-is, moved-is, offset-bounds, one_outcome, utc-is}
 pub use Rattle.ion_value.proofs.DecimalOctets.{Read-decimal_of_bytes, decimal_body-DecimalBody, decimal_body-parts, decimal_in_range-Made, decimal_of_bytes-Ok, exponent_octets-short}
 pub use Rattle.ion_value.proofs.Faults.{Blames, Free, bind_blames, blames_more, fault_free, free, if_blames, in_range-free, part_blames, refuse_blames, refuse_free, then_blames, value-free, years-free}
-pub use Rattle.ion_value.proofs.Fields.{ShortestUInt, byte-bytes_high_first, byte_at-div, length-bytes_high_first, pow-256, uint-bytes_high_first, uint-drop, uint-prefix}
+pub use Rattle.ion_value.proofs.Fields.{ShortestUInt, byte-bytes_high_first, byte_at-div, length-bytes_high_first, pow-256, uint-bytes_high_first, uint-prefix}
 pub use Rattle.ion_value.proofs.GrowingPaths.{end_in, end_in-open_in, mark_in, path_items-end_in, path_items-mark_in, path_items-open_in, path_items-put_in, put_in, put_in-open_in}
 pub use Rattle.ion_value.proofs.GrowsWithin.{grows-then, passed-then}
 pub use Rattle.ion_value.proofs.Handing.{feeds-then, feeds-under, finished-feeds, stays-then, takes-more}
-pub use Rattle.ion_value.proofs.Numbers.{append-lt, number-lt, seven-fits, seven-low, uint-lt, uint-take_more}
+pub use Rattle.ion_value.proofs.Numbers.{append-lt, number-lt, seven-fits, seven-low, uint-take_more}
 pub use Rattle.ion_value.proofs.Octets.{Below-from, Digits, Digits-fewest, Signing, Signing-fewest, digits_in-Digits, low-same, number-below, number-same, uint-spelled, with_sign-Signing}
 pub use Rattle.ion_value.proofs.Passing.{IsPassed-cursor, IsPassed-moves, Passed, Passed-lent, Passed-then, lent-there, take_on}
 pub use Rattle.ion_value.proofs.Paths.{same_path}
@@ -90,7 +89,7 @@ pub use Rattle.ion_value.specs.Number.{IsVar, VarUInt, coefficient_octets, digit
 unfoldable pub use Rattle.ion_value.specs.Number.{digits_within, var_cut}
 pub use Rattle.ion_value.specs.Outcome.{one_if_closed}
 pub use Rattle.ion_value.specs.Parts.{Placed, part, refuse, ◌>>=◌, ◌>>◌}
-pub use Rattle.ion_value.specs.Path.{Nest, Path, begin_item, close_all, closed, closing, inner, nest_items, open_in, opened, outermost, path_items, with_head, with_item}
+pub use Rattle.ion_value.specs.Path.{Nest, Path, begin_item, close_all, closed, closing, inner, nest_items, open_in, opened, outermost, path_items, with_item}
 pub use Rattle.ion_value.specs.PlainItems.{HasKnownName, HaveNoDollar, IsPlainItem, IsRightlyQuoted, StandsAfter, listed, placed_item, placed_text, single_item, with_second}
 pub use Rattle.ion_value.specs.Reading.{Ends, Finished, Gives, GoesOn, Leaves, More, Reading, Step, Stopped, Stops, after_item, after_nothing, items_of, items_then, next_reading, reading_by, reading_for}
 pub use Rattle.ion_value.specs.ReadingLaws.{Allows, ArePermitted, AreWithin, HeadIsPermitted, IsLimit, IsPermitted, ending_of}
@@ -112,7 +111,7 @@ pub use Rattle.ion_value.specs.declared.item.Sym.{Sym}
 pub use Rattle.ion_value.specs.declared.plain_item.PlainItem.{PlainItem}
 pub use Rattle.ion_value.specs.declared.plain_item.TextAt.{TextAt}
 pub use Rattle.ion_value.specs.declared.timestamp.Precision.{Precision}
-pub use Rattle.ion_value.specs.declared.timestamp.Precision.TheVariants.{Day, Fraction, Minute, Month, Second, Year}
+pub use Rattle.ion_value.specs.declared.timestamp.Precision.TheVariants.{Day, Fraction, Month, Second, Year}
 pub use Rattle.ion_value.specs.declared.timestamp.Timestamp.{Timestamp}
 pub use lib.Ieee.{binary64, fin, inf}
 pub use Rattle.ion_binary.specs.Bodies.{IsBodyTypeCode, as_scalar}

@@ -1,5 +1,5 @@
 -- The octets of a declaration: what stands before its strings, and the strings.
-use Rattle.ion_binary.proofs.Below.{◌≡◌, ℕ, zero, suc, ◌+◌, ◌≤◌, ◌<◌, true, false, List, [], ◌∷◌, ◌++◌, length, drop, Some, None, refl, ap, sym, ◌∙◌, append_assoc, append-nil, length-append, arith, codes, slice_get, is_none_left, var_uint_octets, uint_octets, UserSymbol, Known, Members, scalar, member, nothing, ⊤, texts_cost, digits_within, declaration, header, headed, id_in, members_octets, string_members, wrapped, declaration_front, opening, strings_octets}
+use Rattle.ion_binary.proofs.Below.{◌≡◌, ℕ, zero, suc, ◌+◌, ◌≤◌, true, false, List, [], ◌∷◌, ◌++◌, length, drop, Some, None, refl, ap, sym, ◌∙◌, append_assoc, append-nil, length-append, arith, codes, slice_get, is_none_left, var_uint_octets, uint_octets, UserSymbol, Known, Members, scalar, member, nothing, ⊤, texts_cost, digits_within, declaration, header, headed, id_in, members_octets, string_members, wrapped, declaration_front, opening, strings_octets}
 use Rattle.ion_value.specs.Value as value
 
 -- ---- a header and what stands after it

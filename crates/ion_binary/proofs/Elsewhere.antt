@@ -1,5 +1,5 @@
 -- What is read of some octets is the same wherever they begin, but for the places.
-use Rattle.ion_binary.proofs.Below.{◌≡◌, ℕ, zero, suc, ◌+◌, ◌*◌, ◌<◌, ◌≤◌, Bool, true, false, not, ◌&&◌, ◌||◌, nat_le, nat_lt, nat_eq, if◌then◌else◌, List, [], ◌∷◌, length, take, drop, map, Option, Some, None, option_map, Result, Ok, Err, refl, sym, ap, ap₂, ◌∙◌, arith, le-leb, nat_tests, length-map, Reason, Truncated, BadDescriptor, Overrun, BadAnnotation, Float, DepthLimit, ScalarLimit, AnnotationLimit, Rules, Cursor, skip, Kind, symbol_further, item_further, further, IsVar, Placed, part, refuse, ◌>>=◌, ◌>>◌, More, Step, Ends, Stops, Gives, GoesOn, Leaves, after_item, after_nothing, next_reading, scalar_of_body, Symbol, SymbolAt, Scalar, map_scalar, NothingHangsOnPlaces, PartsAreRead, Region, is_at_end, passes, falls_short, first_octet, octet_at, var_at, var_uint_at, length_at, Shape, null, bool, nop_pad, wrapper, body, sorted, float, illegal, shape_of, is_unwrappable, Frame, State, placed_scalar, Around, TypedValue, a_nop_pad, a_marker, a_scalar, a_container, marker_rest, is_top, marker_at, fits, bare_at, nop_pad_at, body_at, scalar_at, begin_at, container_at, sorted_at, read_by_descriptor, typed_value_at, Wrapped, wrapper_at, ids_at, region_of, field_in, field_at, step_for, plain_at, inner_at, annotated_at, wrapper_length, by_wrapper, value_at, top_of, member_at, step_of, top_step, step_in, step, size, start_at, reading, reading_from}
+use Rattle.ion_binary.proofs.Below.{◌≡◌, ℕ, zero, suc, ◌+◌, ◌*◌, ◌<◌, ◌≤◌, Bool, true, false, not, ◌&&◌, ◌||◌, nat_le, nat_lt, nat_eq, if◌then◌else◌, List, [], ◌∷◌, length, take, drop, map, Option, Some, None, option_map, Result, Ok, Err, refl, sym, ap, ap₂, ◌∙◌, arith, le-leb, nat_tests, length-map, Reason, Truncated, BadDescriptor, Overrun, BadAnnotation, Float, DepthLimit, ScalarLimit, AnnotationLimit, Rules, Cursor, skip, Kind, symbol_further, item_further, further, IsVar, Placed, part, refuse, ◌>>=◌, ◌>>◌, More, Step, Ends, Stops, Gives, GoesOn, Leaves, after_item, after_nothing, next_reading, scalar_of_body, Symbol, SymbolAt, Scalar, map_scalar, NothingHangsOnPlaces, PartsAreRead, Region, is_at_end, passes, falls_short, first_octet, octet_at, var_at, var_uint_at, length_at, Shape, null, bool, nop_pad, body, sorted, float, shape_of, is_unwrappable, Frame, State, placed_scalar, Around, TypedValue, a_nop_pad, a_marker, a_scalar, a_container, marker_rest, is_top, marker_at, fits, bare_at, nop_pad_at, body_at, scalar_at, begin_at, container_at, sorted_at, read_by_descriptor, typed_value_at, Wrapped, wrapper_at, ids_at, region_of, field_in, field_at, step_for, plain_at, inner_at, annotated_at, wrapper_length, by_wrapper, value_at, top_of, member_at, step_of, top_step, step_in, step, size, start_at, reading, reading_from}
 use Rattle.ion_value.specs.declared.ion_type.Kind.TheVariants as kind
 use Rattle.ion_value.specs.Value as value
 use Rattle.ion_binary.specs.Cuts as cuts

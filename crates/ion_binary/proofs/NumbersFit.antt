@@ -1,5 +1,5 @@
 -- Under a limit on scalars of 26 octets each decimal and each timestamp fits.
-use Rattle.ion_binary.proofs.Below.{◌≡◌, ℕ, zero, suc, ◌+◌, ◌*◌, ◌^◌, ◌<◌, ◌≤◌, inl, inr, Bool, true, false, List, ◌++◌, length, Ok, refl, sym, ap, subst, ◌∙◌, arith, length-append, neg_ℤ, IfOk, cases_Bool, cases_lt, pow-le-pow_right, Decimal, Precision, Year, Month, Day, Minute, Second, Fraction, Timestamp, IsDecimal, exponent_octets, is_nothing, digits_in, with_sign, var_int_octets, coefficient_octets, IsMoment, IsMoved, IsOffset, IsTimestamp, KeepsPrecision, offset_minutes, timestamp_body, utc_of, whole_octets, utc-is, exponent_octets-short, digits_in-Digits, with_sign-Signing, body-fraction, body-whole, fraction-short, var_int-short, whole-short, decimal_body, NumbersFit}
+use Rattle.ion_binary.proofs.Below.{◌≡◌, ℕ, zero, suc, ◌+◌, ◌*◌, ◌^◌, ◌<◌, ◌≤◌, inl, inr, Bool, true, false, List, ◌++◌, length, Ok, refl, sym, ap, subst, ◌∙◌, arith, length-append, neg_ℤ, IfOk, cases_Bool, cases_lt, pow-le-pow_right, Decimal, Precision, Fraction, Timestamp, IsDecimal, exponent_octets, is_nothing, digits_in, with_sign, var_int_octets, coefficient_octets, IsMoment, IsMoved, IsOffset, IsTimestamp, KeepsPrecision, offset_minutes, timestamp_body, utc_of, whole_octets, utc-is, exponent_octets-short, digits_in-Digits, with_sign-Signing, body-fraction, body-whole, fraction-short, var_int-short, whole-short, decimal_body, NumbersFit}
 
 -- ---- decimals
 

@@ -1,5 +1,5 @@
 -- Where a stream passes a limit, its reading stops at one.
-use Rattle.ion_binary.proofs.Below.{◌≡◌, ℕ, zero, suc, ◌+◌, ◌*◌, ◌<◌, ◌≤◌, ◌⊎◌, inl, inr, true, false, not, ◌&&◌, leb, ltb, eqb, List, [], ◌∷◌, ◌++◌, length, drop, Option, Some, None, Ok, Err, refl, sym, ap, subst, ◌∙◌, append_assoc, arith, leb-true, leb-false, ltb-false, lt-leb, drop_at, Reason, BadDescriptor, BadAnnotation, Float, DepthLimit, ScalarLimit, AnnotationLimit, Rules, Cursor, Kind, IsVar, VarUInt, var_uint, SymbolAt, PlacedItem, top_items, Path, path_items, ◌>>=◌, refuse, Placed, part, Reading, Finished, Stopped, More, Step, Stops, next_reading, reading_by, ending_of, AreWithin, reading_by-step, ending_of-items_then, all-permitted, permitted-alike, length-append, IsBodyTypeCode, octet_at, var_uint_at, length_at, Shape, shape_of, is_unwrappable, Descriptor, Ids, Field, Header, Wrapper, Annotated, type_code, Bodies, IsBefore, StandNext, BeginNext, PassesLimit, Passes, PassedLimitsStop, FieldIn, At, Frame, State, Around, TypedValue, fits, body_at, scalar_at, begin_at, container_at, sorted_at, read_by_descriptor, typed_value_at, Wrapped, wrapper_at, ids_at, region_of, field_at, plain_at, inner_at, annotated_at, wrapper_length, by_wrapper, value_at, top_of, member_at, step_of, top_step, step_in, step, size, start, reading}
+use Rattle.ion_binary.proofs.Below.{◌≡◌, ℕ, zero, suc, ◌+◌, ◌*◌, ◌<◌, ◌≤◌, ◌⊎◌, inl, inr, true, false, not, ◌&&◌, leb, ltb, eqb, List, [], ◌∷◌, ◌++◌, length, drop, Option, Some, None, Ok, Err, refl, sym, ap, subst, ◌∙◌, append_assoc, arith, leb-true, leb-false, ltb-false, lt-leb, drop_at, Reason, BadDescriptor, BadAnnotation, Float, DepthLimit, ScalarLimit, AnnotationLimit, Rules, Cursor, Kind, VarUInt, var_uint, SymbolAt, PlacedItem, top_items, Path, path_items, ◌>>=◌, refuse, Placed, part, Reading, Finished, Stopped, More, Step, Stops, next_reading, reading_by, ending_of, AreWithin, reading_by-step, ending_of-items_then, all-permitted, permitted-alike, length-append, IsBodyTypeCode, octet_at, var_uint_at, length_at, Shape, shape_of, is_unwrappable, Descriptor, Ids, Field, Header, Wrapper, Annotated, type_code, Bodies, IsBefore, StandNext, BeginNext, PassesLimit, Passes, PassedLimitsStop, FieldIn, At, Frame, State, Around, TypedValue, fits, body_at, scalar_at, begin_at, container_at, sorted_at, read_by_descriptor, typed_value_at, Wrapped, wrapper_at, ids_at, region_of, field_at, plain_at, inner_at, annotated_at, wrapper_length, by_wrapper, value_at, top_of, member_at, step_of, top_step, step_in, step, size, start, reading, var_cut-IsVar, var_cut}
 use Rattle.ion_value.specs.declared.ion_type.Kind.TheVariants as kind
 use Rattle.ion_binary.proofs.Complete.{Shrinking, Reads, read_from, reading-read_from, Spells-reads, streams}
 use Rattle.ion_binary.proofs.Fitting.{Spells-allowed}
@@ -15,20 +15,11 @@ use Rattle.ion_binary.proofs.WrapperSound.{wrapper_at-taken, ids_at-taken, field
 
 -- ---- two spellings at one place are the same
 
-same-var : (a b x y : List ℕ) → IsVar a → IsVar b → a ++ x ≡ b ++ y → (a ≡ b) × (x ≡ y)
-same-var [] b x y ends other e = absurd ends
-same-var (n ∷ a) [] x y ends other e = absurd other
-same-var (n ∷ []) (m ∷ []) x y ends other e = let first : n ≡ m = cc e in (ap (λ (n : ℕ). n ∷ []) first, cc e)
-same-var (n ∷ []) (m ∷ k ∷ b) x y ends other e = let first : n ≡ m = cc e in absurd (omega (arith, first, ends, other.0))
-same-var (n ∷ k ∷ a) (m ∷ []) x y ends other e = let first : n ≡ m = cc e in absurd (omega (arith, first, ends.0, other))
-same-var (n ∷ k ∷ a) (m ∷ j ∷ b) x y ends other e =
-    let first : n ≡ m = cc e in
-    let rest : (k ∷ a) ++ x ≡ (j ∷ b) ++ y = cc e in
-    let more = same-var (k ∷ a) (j ∷ b) x y ends.1 other.1 rest in
-    (ap (λ (i : ℕ). i ∷ k ∷ a) first ∙ ap (λ (l : List ℕ). m ∷ l) more.0, more.1)
-
 same-number : (n m : ℕ) (a b x y : List ℕ) → VarUInt n a → VarUInt m b → a ++ x ≡ b ++ y → (n ≡ m) × (x ≡ y)
-same-number n m a b x y v w e = let same = same-var a b x y v.ends w.ends e in (v.value ∙ ap var_uint same.0 ∙ sym w.value, same.1)
+same-number n m a b x y v w e =
+    let same = sym (var_cut-IsVar 9 a x v.ends v.short) ∙ (ap (var_cut 9) e ∙ var_cut-IsVar 9 b y w.ends w.short) in
+    let cut : ◌≡◌ {A = List ℕ × List ℕ} (a, x) (b, y) = cc same in
+    (v.value ∙ ap (λ (c : List ℕ × List ℕ). var_uint c.0) cut ∙ sym w.value, ap (λ (c : List ℕ × List ℕ). c.1) cut)
 
 same-descriptor : (t n m : ℕ) (a b x y : List ℕ) → Descriptor t n a → Descriptor t m b → a ++ x ≡ b ++ y → (n ≡ m) × (x ≡ y)
 same-descriptor t n m _ _ x y (Descriptor.short lt) (Descriptor.short less) e =

@@ -1,5 +1,5 @@
 -- The steps of the reader as those of the reading.
-use Rattle.ion_binary.proofs.Below.{arith, refl, ap, ◌∙◌, sym, subst, ◌≡◌, ℕ, suc, ◌*◌, ◌-◌, ◌<◌, ◌≤◌, true, false, List, [], ◌∷◌, ◌++◌, length, drop, map, reverse, Option, Some, None, Result, Ok, Err, is_some, slice_get, leb, le-leb, lt-leb, reverse_onto, length-map, length-reverse, Counts, Shrinks, Fault, Refused, Memory, ReadFault, WriteFault, InputLimit, Rules, Kind, Annotation, Symbol, SymbolAt, Scalar, PlacedItem, Step, Ends, Stops, Gives, GoesOn, Charges, Fits, InRange, in_struct, Cursor, ◌>>=◌, Placed, part, Answers, InputOf, BinReader, ItemKind, StepResult, Frame, State, placed_scalar, region_of, field_at, value_at, member_at, top_of, top_step, step_of, step, as_scalar, GivesStep, as_annotations, as_field, as_frame, as_frames, innermost, item_seen, kinds_of, TakenGives, TakesAs, IsInnermost, at_top, inside}
+use Rattle.ion_binary.proofs.Below.{arith, refl, ap, ◌∙◌, sym, subst, ◌≡◌, ℕ, suc, ◌*◌, ◌-◌, ◌<◌, ◌≤◌, true, false, List, [], ◌∷◌, ◌++◌, length, drop, map, reverse, Option, Some, None, Result, Ok, Err, is_some, slice_get, leb, le-leb, lt-leb, reverse_onto, length-map, length-reverse, Counts, Shrinks, Fault, Refused, Memory, Rules, Kind, Annotation, Symbol, SymbolAt, Scalar, PlacedItem, Step, Ends, Stops, Gives, GoesOn, Charges, Fits, InRange, in_struct, Cursor, ◌>>=◌, Placed, part, Answers, InputOf, BinReader, ItemKind, StepResult, Frame, State, placed_scalar, region_of, field_at, value_at, member_at, top_of, top_step, step_of, step, as_scalar, GivesStep, as_annotations, as_field, as_frame, as_frames, innermost, item_seen, kinds_of, TakenGives, TakesAs, IsInnermost, at_top, inside}
 use Rattle.ion_value.specs.declared.ion_type.Kind.TheVariants as kind
 use Rattle.ion_value.specs.Value as value
 use Rattle.ion_binary.specs.declared.body.Body.{Body}

@@ -1,5 +1,5 @@
 -- What scanners show of octets in a window is what reading gives there.
-use Rattle.ion_binary.proofs.Below.{◌≡◌, ℕ, suc, ◌+◌, ◌-◌, ◌^◌, ◌<◌, ◌≤◌, ◌&&◌, ◌==◌, Bool, true, false, if◌then◌else◌, List, [], ◌∷◌, ◌++◌, length, take, drop, get_or, inl, inr, Some, None, slice_get, Result, Ok, Err, refl, ap, sym, ◌∙◌, arith, add-one, cases_lt, eqb-false, eqb-true, le-leb, lt-leb, common_steps, slice_get-get_or, get_or-append, drop-cons, drop-append-le, drop-drop, take-append-drop, take_all, Fault, Refused, Memory, ReadFault, WriteFault, InputLimit, Reason, BadAnnotation, Overrun, Truncated, Rules, Cursor, Moves, Stands, cursor, skip, Incoming, IsPassed, left, lent, lent-CanPass, lent-take, Answers, ◌>>◌, refuse, Reads, moves-then, IsPassed-cursor, IsPassed-moves, append-nil, InputOf, Found, Whole, Faulty, Region, Shape, first_octet, is_at_end, is_unwrappable, length_at, octet_at, shape_of, IsOfDescriptor, Around, EndsAt, Reaches, Shows, found_at, found_by, length_code_of, part_at, window}
+use Rattle.ion_binary.proofs.Below.{◌≡◌, ℕ, suc, ◌+◌, ◌-◌, ◌^◌, ◌<◌, ◌≤◌, ◌&&◌, ◌==◌, Bool, true, false, if◌then◌else◌, List, [], ◌∷◌, ◌++◌, length, take, drop, get_or, inl, inr, Some, None, slice_get, Result, Ok, Err, refl, ap, sym, ◌∙◌, arith, add-one, cases_lt, eqb-false, eqb-true, le-leb, lt-leb, common_steps, slice_get-get_or, get_or-append, drop-cons, drop-append-le, drop-drop, take-append-drop, take_all, Fault, Refused, Memory, Reason, BadAnnotation, Overrun, Truncated, Rules, Cursor, Moves, Stands, cursor, skip, Incoming, IsPassed, left, lent, lent-CanPass, lent-take, Answers, ◌>>◌, refuse, Reads, moves-then, IsPassed-cursor, IsPassed-moves, append-nil, InputOf, Found, Whole, Faulty, Region, Shape, first_octet, is_at_end, is_unwrappable, length_at, octet_at, shape_of, IsOfDescriptor, Around, EndsAt, Reaches, Shows, found_at, found_by, length_code_of, part_at, window}
 use Rattle.ion_binary.specs.declared.scan.Scanned.TheVariants.{Cut}
 use Rattle.ion_binary.specs.Scanned.{IsCut}
 

@@ -1,6 +1,6 @@
 -- The octets of a number of 64 bits without those at the front that are zeros: as `ion_value` shows it of 128 bits, whose lemmas are its
 -- own.
-use Rattle.ion_binary.proofs.Below.{◌≡◌, ℕ, zero, suc, ◌+◌, ◌-◌, ◌*◌, ◌/◌, ◌%◌, ◌^◌, ◌<◌, ◌≤◌, inl, inr, List, ◌∷◌, length, take, drop, refl, ap, sym, subst, ◌∙◌, arith, byte_at, bytes_high_first, leading_zeros, w64, cases_lt, length-drop, get_or-drop, All-get_or, All-from_get_or, mod-pow-add, leading_length, pow-add, shl_whole, shl-shr, pow-zero, pow-suc, pow-le-pow_right, mod-eq_of_lt, div-div-eq-div-mul, uint, uint_octets, uint-lt, ShortestUInt, byte-bytes_high_first, length-bytes_high_first, pow-256, uint-drop, uint-spelled, byte_at-div, uint-prefix}
+use Rattle.ion_binary.proofs.Below.{◌≡◌, ℕ, zero, suc, ◌+◌, ◌-◌, ◌*◌, ◌/◌, ◌%◌, ◌^◌, ◌<◌, ◌≤◌, inl, inr, List, ◌∷◌, take, drop, refl, ap, sym, subst, ◌∙◌, arith, byte_at, bytes_high_first, leading_zeros, w64, cases_lt, leading_length, pow-add, shl_whole, shl-shr, pow-zero, div-div-eq-div-mul, uint_octets, ShortestUInt, pow-256, uint-spelled, byte_at-div, uint-prefix}
 
 -- the bytes at the front of so many are those of what is left where the others are taken off
 pub high-part : (k l n : ℕ) → k ≤ l → take k (bytes_high_first l n) ≡ bytes_high_first k (n / 256 ^ (l - k))

@@ -1,5 +1,5 @@
 -- A decimal or timestamp that a run of fewer than 26 bytes spells has a body of 16 octets at most.
-use Rattle.ion_binary.proofs.Below.{◌≡◌, ℕ, zero, suc, ◌+◌, ◌-◌, ◌*◌, ◌^◌, ◌<◌, ◌≤◌, inl, inr, Bool, true, false, ◌&&◌, ◌||◌, nat_lt, ℤ, pos, ◌-ℤ◌, if◌then◌else◌, filter, List, [], ◌∷◌, ◌++◌, length, drop, take, map, get_or, codes, Result, Ok, Err, refl, sym, ap, subst, ◌∙◌, arith, length-append, IfOk, cases_Bool, cases_lt, nat_tests, length-drop, length-map, IfOk-at_ok, pow-add, mul-le-mul_right, pow-le-pow_right, Reason, BadToken, Float, Decimal, Precision, Year, Month, Day, Minute, Second, Fraction, Timestamp, IsDecimal, Parts, decimal_in_range, decimal_of_parts, exponent_octets, fraction_digits, is_decimal, is_float, is_nothing, is_point, is_exponent_mark, power_value, digit_value, digits_value, has_minus, is_digit, without_minus, coefficient_octets, var_int_octets, IsTimestamp, KeepsPrecision, date_in_range, fields, has_offset_shape, has_seconds_shape, is_moment, is_offset_mark, is_text_offset, looks_like, offset_of_text, precision_of_seconds, second_precision, time_of_parts, timestamp_body, utc_of, with_utc, digits_at, whole_octets, decimal_in_range-Made, exponent_octets-short, number-lt, spelled, value-both, body-fraction, body-whole, var_int-short, decimal_body, decimal_of_text, parts_of, cut_at, timestamp_of_text, NumbersFit, NumbersInTextFit, filter-le, if-either}
+use Rattle.ion_binary.proofs.Below.{◌≡◌, ℕ, zero, suc, ◌+◌, ◌-◌, ◌*◌, ◌^◌, ◌<◌, ◌≤◌, inl, inr, Bool, true, false, ◌&&◌, ◌||◌, nat_lt, ℤ, pos, ◌-ℤ◌, if◌then◌else◌, filter, List, [], ◌∷◌, ◌++◌, length, drop, take, map, get_or, codes, Result, Ok, Err, refl, sym, ap, subst, ◌∙◌, arith, length-append, IfOk, cases_Bool, cases_lt, nat_tests, length-drop, length-map, IfOk-at_ok, pow-add, mul-le-mul_right, pow-le-pow_right, Reason, BadToken, Float, Decimal, Precision, Year, Month, Day, Fraction, Timestamp, IsDecimal, Parts, decimal_in_range, decimal_of_parts, exponent_octets, fraction_digits, is_decimal, is_float, is_nothing, is_point, is_exponent_mark, power_value, digit_value, digits_value, has_minus, is_digit, without_minus, coefficient_octets, var_int_octets, IsTimestamp, KeepsPrecision, date_in_range, fields, has_offset_shape, has_seconds_shape, is_moment, is_offset_mark, is_text_offset, looks_like, offset_of_text, precision_of_seconds, second_precision, time_of_parts, timestamp_body, utc_of, with_utc, digits_at, whole_octets, decimal_in_range-Made, exponent_octets-short, number-lt, spelled, value-both, body-fraction, body-whole, var_int-short, decimal_body, decimal_of_text, parts_of, cut_at, timestamp_of_text, NumbersFit, NumbersInTextFit, filter-le, if-either}
 use Rattle.ion_binary.proofs.NumbersFit.{InUtc, in-utc, signed-short, whole-few}
 
 -- ---- runs

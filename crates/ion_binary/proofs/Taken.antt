@@ -1,5 +1,5 @@
 -- What each reader of octets took from the bytes is what the grammar says.
-use Rattle.ion_binary.proofs.Below.{◌≡◌, ℕ, zero, suc, ◌+◌, ◌*◌, ◌<◌, ◌≤◌, Bool, true, false, cond, eqb, ltb, List, [], ◌∷◌, ◌++◌, length, take, ◌⊎◌, Some, None, Result, Ok, Err, refl, sym, ap, subst, ◌∙◌, append_assoc, arith, inl, inr, ltb-false, ltb-true, leb-false, eqb-true, eqb-false, take-append-drop, length-take, Reason, IsVar, VarUInt, var_uint, Cursor, skip, ◌>>=◌, ◌>>◌, refuse, part, length-append, Region, is_at_end, first_octet, octet_at, var_at, var_uint_at, length_at, Descriptor, short, long}
+use Rattle.ion_binary.proofs.Below.{◌≡◌, ℕ, zero, suc, ◌+◌, ◌*◌, ◌<◌, ◌≤◌, Bool, true, false, cond, eqb, ltb, List, [], ◌∷◌, ◌++◌, length, take, ◌⊎◌, Some, None, Result, Ok, Err, refl, sym, ap, subst, ◌∙◌, append_assoc, arith, inl, inr, ltb-false, ltb-true, leb-false, eqb-true, eqb-false, take-append-drop, length-take, Reason, IsVar, VarUInt, var_uint, Cursor, skip, ◌>>=◌, ◌>>◌, refuse, length-append, Region, is_at_end, first_octet, octet_at, var_at, var_uint_at, length_at, Descriptor, short, long}
 pub use Rattle.ion_value.proofs.WentWell.{passed, part-known as part_ok}
 
 -- ---- steps that did not fail

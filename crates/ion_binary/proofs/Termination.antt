@@ -1,5 +1,5 @@
 -- Each step makes the state smaller, so a reading has an end.
-use Rattle.ion_binary.proofs.Below.{arith, ℕ, zero, suc, ◌+◌, ◌*◌, ◌<◌, ◌≤◌, Bool, true, false, nat_lt, nat_le, nat_eq, not, ◌&&◌, ◌||◌, if◌then◌else◌, List, [], ◌∷◌, length, take, Option, Some, None, Result, Ok, Err, length-drop, Reason, Float, Overrun, Truncated, BadAnnotation, BadDescriptor, ScalarLimit, DepthLimit, AnnotationLimit, Rules, Kind, scalar_of_body, Symbol, SymbolAt, Scalar, Step, Ends, Stops, Gives, GoesOn, Leaves, after_item, after_nothing, Cursor, skip, ◌>>=◌, ◌>>◌, refuse, Placed, part, Frame, State, Region, is_at_end, passes, falls_short, first_octet, octet_at, var_at, var_uint_at, length_at, Shape, null, bool, nop_pad, wrapper, body, sorted, float, illegal, shape_of, is_unwrappable, Around, TypedValue, a_nop_pad, a_marker, a_scalar, a_container, marker_rest, is_top, marker_at, fits, bare_at, nop_pad_at, body_at, scalar_at, begin_at, container_at, sorted_at, read_by_descriptor, typed_value_at, Wrapped, wrapper_at, ids_at, region_of, field_in, field_at, step_for, plain_at, inner_at, annotated_at, wrapper_length, by_wrapper, value_at, top_of, member_at, step_of, top_step, step_in, step, size}
+use Rattle.ion_binary.proofs.Below.{arith, ℕ, zero, suc, ◌+◌, ◌*◌, ◌<◌, ◌≤◌, Bool, true, false, nat_lt, nat_le, nat_eq, not, ◌&&◌, ◌||◌, if◌then◌else◌, List, [], ◌∷◌, length, take, Option, Some, None, Result, Ok, Err, length-drop, Reason, Float, Overrun, Truncated, BadAnnotation, BadDescriptor, ScalarLimit, DepthLimit, AnnotationLimit, Rules, Kind, scalar_of_body, Symbol, SymbolAt, Scalar, Step, Gives, GoesOn, Leaves, after_item, after_nothing, Cursor, skip, ◌>>=◌, ◌>>◌, refuse, Placed, part, Frame, State, Region, is_at_end, passes, falls_short, first_octet, octet_at, var_at, var_uint_at, length_at, Shape, null, bool, nop_pad, wrapper, body, sorted, float, illegal, shape_of, is_unwrappable, Around, TypedValue, a_nop_pad, a_marker, a_scalar, a_container, marker_rest, is_top, marker_at, fits, bare_at, nop_pad_at, body_at, scalar_at, begin_at, container_at, sorted_at, read_by_descriptor, typed_value_at, Wrapped, wrapper_at, ids_at, region_of, field_in, field_at, step_for, plain_at, inner_at, annotated_at, wrapper_length, by_wrapper, value_at, top_of, member_at, step_of, top_step, step_in, step, size}
 use Rattle.ion_value.specs.declared.ion_type.Kind.TheVariants as kind
 use Rattle.ion_value.specs.Value as value
 use Rattle.ion_value.specs.Reading.{Shrinks}

@@ -1,5 +1,5 @@
 -- A value's parts one after the other, as the step that reading makes of it.
-use Rattle.ion_binary.proofs.Below.{ap, ◌∙◌, sym, subst, ◌≡◌, ℕ, List, Option, Result, Ok, Err, Fault, Refused, Memory, ReadFault, WriteFault, InputLimit, Reason, SymbolAt, Step, Cursor, ◌>>=◌, Placed, part, Answers, AnswersAt, Frame, State, GivesStep}
+use Rattle.ion_binary.proofs.Below.{ap, ◌∙◌, sym, subst, ◌≡◌, ℕ, List, Option, Result, Ok, Err, Fault, Refused, Reason, SymbolAt, Step, Cursor, ◌>>=◌, Placed, part, Answers, AnswersAt, Frame, State, GivesStep}
 use Rattle.ion_binary.specs.declared.body.Body.{Body}
 use Rattle.ion_binary.specs.declared.value.TypedValue as typed
 

@@ -1,5 +1,5 @@
 -- The writer of binary follows the streaming definition from item to item.
-use Rattle.ion_binary.proofs.Below.{◌≡◌, ℕ, zero, suc, ◌+◌, ◌-◌, ◌/◌, ◌<◌, ◌≤◌, ◌⊎◌, inl, inr, Bool, true, false, if◌then◌else◌, List, [], ◌∷◌, ◌++◌, length, map, drop, Option, Some, None, option_map, Result, Ok, Err, OnOk, refl, ap, sym, subst, ◌∙◌, arith, append-nil, length-append, Outgoing, Fault, Refused, Memory, ReadFault, WriteFault, InputLimit, Reason, ValueLimit, Limits, IsPut, Puts-longer, Puts-nothing, Head, Item, PlacedItem, SymbolAt, UserSymbol, map_head, map_scalar, user_item, user_symbol_at, texts_cost, lt-ltb, le-ltb, OutputOf, Front, HeaderPlace, OpenValue, field_octets, id_in, id_octets, is_over, scalar_octets, Held, ids_place, moved_headers, moved_octets, size_of, texts_forgotten, value_put, with_front, with_names, head_name, IsFront, ArePlaced, AreReached, Content, IsOpen, IsOpenTo, MayAdd, MayFollow, PutsOctets, added, item_refusal, first_over, item_symbols, refused_by}
+use Rattle.ion_binary.proofs.Below.{◌≡◌, ℕ, zero, suc, ◌+◌, ◌-◌, ◌/◌, ◌<◌, ◌≤◌, ◌⊎◌, inl, inr, Bool, true, false, if◌then◌else◌, List, [], ◌∷◌, ◌++◌, length, map, drop, Option, Some, None, option_map, Result, Ok, Err, OnOk, refl, ap, sym, subst, ◌∙◌, arith, append-nil, length-append, Outgoing, Fault, Refused, Reason, ValueLimit, Limits, IsPut, Puts-longer, Puts-nothing, Head, Item, PlacedItem, SymbolAt, UserSymbol, map_head, map_scalar, user_item, user_symbol_at, texts_cost, lt-ltb, le-ltb, OutputOf, Front, HeaderPlace, OpenValue, field_octets, id_in, id_octets, is_over, scalar_octets, Held, ids_place, moved_headers, moved_octets, size_of, texts_forgotten, value_put, with_front, with_names, head_name, IsFront, ArePlaced, AreReached, Content, IsOpen, IsOpenTo, MayAdd, MayFollow, PutsOctets, added, item_refusal, first_over, item_symbols, refused_by}
 use Rattle.ion_value.specs.Value as value
 use Rattle.ion_binary.proofs.CountedHeaders.{reached-more}
 use Rattle.ion_binary.proofs.OpenSteps.{begun-more, placed-more, whole-length}

@@ -1,5 +1,5 @@
 -- The octets of a declaration are a declaration, which adds its texts to the table before it.
-use Rattle.ion_binary.proofs.Below.{◌≡◌, ℕ, suc, ◌+◌, ◌^◌, ◌<◌, ◌≤◌, Bool, true, false, inl, inr, List, [], ◌∷◌, ◌++◌, length, map, Result, Ok, Err, Option, Some, None, option_map, unwrap_or, if◌then◌else◌, IsUtf8, refl, ap, ap₂, sym, ◌∙◌, subst, append_assoc, append-nil, length-append, arith, codes, ⊤, AllByRecursion, Rules, Kind, Symbol, Id, SymbolAt, UserSymbol, Known, Unknown, Scalar, Value, Members, scalar, container, nothing, member, map_scalar, map_value, map_members, no_place, AreWritable, IsWritable, uint_octets, position, system_id, system_texts, or_given, Ground, IsCostly, IsDoubled, SomeAbove, Shared, Slots, Table, text_at, slots_cost, declared, declares_table, element, next_table, Reason, what_is_said, why_it_is_refused, cost_append, declaration, declaring, id_in, string_members, IsDeclared, DeclarationsAreAccepted, WrittenDeclarationsAreRead, HasRoom, bare_symbol, with_id, with_texts, AllowDeclarations, IdFits, MembersFit, ValueFits, id_size, position_within}
+use Rattle.ion_binary.proofs.Below.{◌≡◌, ℕ, ◌+◌, ◌^◌, ◌<◌, ◌≤◌, true, inl, inr, List, [], ◌∷◌, ◌++◌, length, map, Result, Ok, Err, Option, Some, None, option_map, unwrap_or, IsUtf8, refl, ap, ap₂, sym, ◌∙◌, subst, append_assoc, append-nil, length-append, arith, codes, ⊤, AllByRecursion, Rules, Kind, Symbol, Id, SymbolAt, UserSymbol, Known, Unknown, Scalar, Value, Members, scalar, container, nothing, member, map_scalar, map_value, map_members, no_place, AreWritable, IsWritable, uint_octets, position, system_id, system_texts, or_given, Ground, IsCostly, IsDoubled, SomeAbove, Shared, Slots, Table, text_at, slots_cost, declared, declares_table, element, next_table, Reason, what_is_said, why_it_is_refused, cost_append, declaration, declaring, id_in, string_members, IsDeclared, DeclarationsAreAccepted, WrittenDeclarationsAreRead, HasRoom, bare_symbol, with_id, with_texts, AllowDeclarations, IdFits, MembersFit, ValueFits, id_size, position_within}
 use Rattle.ion_value.specs.declared.ion_type.Kind.TheVariants as kind
 use Rattle.ion_value.specs.Value as value
 use Rattle.ion_symbols.specs.Tree.{elements}

@@ -1,5 +1,5 @@
 -- Bytes between quotes, in runs.
-use Rattle.ion_text_out.proofs.Below.{◌≡◌, ℕ, ◌+◌, Bool, true, false, ◌&&◌, List, [], ◌∷◌, ◌++◌, length, take, drop, refl, sym, ap, ◌∙◌, inl, inr, flat_map, cases_Bool, flat_map-append, take-append-drop, nil_from_length, take-add, first_is, all_are, is_shown, escaped, byte_text, between_quotes, all_are-append}
+use Rattle.ion_text_out.proofs.Below.{◌≡◌, ℕ, ◌+◌, Bool, true, false, List, [], ◌∷◌, ◌++◌, length, take, drop, refl, sym, ap, ◌∙◌, inl, inr, flat_map, cases_Bool, flat_map-append, take-append-drop, nil_from_length, take-add, first_is, all_are, is_shown, escaped, byte_text, between_quotes, all_are-append}
 
 -- ---- which bytes stand for themselves
 

@@ -1,4 +1,4 @@
-use Rattle.ion_text_out.proofs.Below.{◌∙◌, ◌*◌, ◌++◌, ◌∷◌, [], ap, sym, append_assoc, replicate, byte_in}
+use Rattle.ion_text_out.proofs.Below.{◌∙◌, ◌*◌, ◌++◌, ◌∷◌, [], ap, append_assoc, replicate, byte_in}
 use Rattle.ion_text_out.proofs.Gaps.{blanks_last, line-short, put_before}
 use Rattle.ion_text_out.proofs.put.put_gap_within.Goals as goal
 

@@ -120,17 +120,13 @@ has-place : (depth : ℕ) (kinds : List Kind) (h : Head SymbolAt) → HasPlace d
 has-place depth kinds (value.whole body) p = in-range-of-user body p
 has-place depth kinds x p = p
 
+field-mapped : (kinds : List Kind) (h : Head SymbolAt) → has_field kinds h ≡ has_field kinds (map_head user_symbol_at h)
+field-mapped kinds (value.whole body) = refl
+field-mapped kinds x = refl
+
 same-field : (kinds : List Kind) (f : Option SymbolAt) (h : Head SymbolAt) → is_some f ≡ has_field kinds h → is_some (option_map user_symbol_at f) ≡ has_field kinds (map_head user_symbol_at h)
 same-field kinds None h e = e ∙ field-mapped kinds h
-  where
-    field-mapped : (kinds : List Kind) (h : Head SymbolAt) → has_field kinds h ≡ has_field kinds (map_head user_symbol_at h)
-    field-mapped kinds (value.whole body) = refl
-    field-mapped kinds x = refl
-same-field kinds (Some s) h e = e ∙ field-mapped kinds h
-  where
-    field-mapped : (kinds : List Kind) (h : Head SymbolAt) → has_field kinds h ≡ has_field kinds (map_head user_symbol_at h)
-    field-mapped kinds (value.whole body) = refl
-    field-mapped kinds x = refl
+same-field kinds f h e = e ∙ field-mapped kinds h
 
 has-annotations : (h : Head SymbolAt) (ss : List SymbolAt) → HasAnnotations h ss → HasAnnotations (map_head user_symbol_at h) (map user_symbol_at ss)
 has-annotations value.end ss a = ap (λ (x : List SymbolAt). map user_symbol_at x) a

@@ -1,5 +1,5 @@
 -- Ids stay as texts are added.
-use Rattle.ion_binary.proofs.Below.{◌≡◌, ℕ, ◌+◌, Bool, true, false, List, [], ◌∷◌, ◌++◌, length, Option, Some, None, option_map, unwrap_or, if◌then◌else◌, refl, ap, sym, ◌∙◌, append_assoc, append-nil, ⊤, bytes_eq, bytes_eq-Decides, var_uint_octets, UserSymbol, Known, Unknown, Scalar, field_symbols, scalar_symbols, position, system_id, or_given, known_id, id_octets, annotation_octets, field_octets, scalar_octets, id_in, with_text, with_symbol, with_symbols}
+use Rattle.ion_binary.proofs.Below.{◌≡◌, ℕ, ◌+◌, Bool, true, false, List, [], ◌∷◌, ◌++◌, length, Option, Some, None, option_map, unwrap_or, if◌then◌else◌, refl, ap, sym, ◌∙◌, append_assoc, append-nil, ⊤, bytes_eq, bytes_eq-Decides, var_uint_octets, UserSymbol, Known, Unknown, Scalar, field_symbols, scalar_symbols, position, system_id, or_given, known_id, id_octets, annotation_octets, field_octets, scalar_octets, id_in, with_text, with_symbol, with_symbols, users, SymbolAt, Head, head_symbols, map_scalar, map_head, user_symbol_at, map-append, ap₂, PlacedItem, item_symbols, user_item}
 use Rattle.ion_value.specs.Value as value
 
 -- ---- texts with more after them
@@ -133,3 +133,22 @@ field_octets-same t u (Some s) e h = ap var_uint_octets (id_ext t u s e h.0)
 pub scalar_octets-same : (t u : List (List ℕ)) (v : Scalar UserSymbol) → Extends t u → AreKnown t (scalar_symbols v) → scalar_octets (id_in u) v ≡ scalar_octets (id_in t) v
 scalar_octets-same t u (value.symbol s) e h = ap (λ n. scalar_octets (λ x. n) (value.symbol s)) (id_ext t u s e h.0)
 scalar_octets-same t u v e h = refl
+
+-- ---- the symbols of an item
+
+pub users-field : (f : Option SymbolAt) → users (field_symbols f) ≡ field_symbols (option_map user_symbol_at f)
+users-field None = refl
+users-field (Some s) = refl
+
+users-scalar : (v : Scalar SymbolAt) → users (scalar_symbols v) ≡ scalar_symbols (map_scalar user_symbol_at v)
+users-scalar (value.null type) = refl
+users-scalar x = refl
+
+users-head : (h : Head SymbolAt) → users (head_symbols h) ≡ head_symbols (map_head user_symbol_at h)
+users-head (value.whole body) = users-scalar body
+users-head x = refl
+
+pub users-item : (i : PlacedItem) → users (item_symbols i) ≡ item_symbols (user_item i)
+users-item i = map-append user_symbol_at (field_symbols i.field) (i.annotations ++ head_symbols i.head)
+    ∙ ap₂ (λ (x y : List UserSymbol). x ++ y) (users-field i.field)
+    (map-append user_symbol_at i.annotations (head_symbols i.head) ∙ ap (λ (x : List UserSymbol). users i.annotations ++ x) (users-head i.head))

@@ -1,9 +1,9 @@
 -- Symbols that are given ids one after the other, and octets that are put as long as they fit.
-use Rattle.ion_binary.proofs.Below.{◌≡◌, ℕ, zero, suc, ◌+◌, ◌<◌, ◌≤◌, Bool, true, false, nat_lt, if◌then◌else◌, List, [], ◌∷◌, ◌++◌, length, take, drop, Option, Some, None, option_map, Result, Ok, Err, OnOk, refl, ap, ap₂, sym, subst, ◌∙◌, append_assoc, append-nil, length-append, arith, slice_get, lt-ltb, le-ltb, map-append, take-append-drop, flat_map-append, Counts, Fault, Refused, SymbolLimit, var_uint_octets, Charges, MemoryCauses, WriteCauses, fault_of, SymbolAt, UserSymbol, Known, Unknown, user_symbol_at, user_item, map_head, map_scalar, Head, Scalar, PlacedItem, field_symbols, scalar_symbols, Output, texts_cost, id_given, Front, field_octets, id_in, id_octets, with_symbol, with_symbols, head_name, CanNumber, IsFront, Numbering, Numbers, PutsWithin, numbering, users, first_over, head_symbols, item_symbols, IsGiven, got_within}
-use Rattle.ion_value.specs.Value as value
+use Rattle.ion_binary.proofs.Below.{◌≡◌, ℕ, zero, suc, ◌+◌, ◌<◌, ◌≤◌, Bool, true, false, nat_lt, if◌then◌else◌, List, [], ◌∷◌, ◌++◌, length, take, drop, Option, Some, None, option_map, Result, Ok, Err, OnOk, refl, ap, ap₂, sym, subst, ◌∙◌, append_assoc, append-nil, length-append, arith, slice_get, lt-ltb, le-ltb, map-append, take-append-drop, flat_map-append, Counts, Fault, Refused, SymbolLimit, var_uint_octets, Charges, MemoryCauses, WriteCauses, fault_of, SymbolAt, UserSymbol, Known, Unknown, user_symbol_at, user_item, map_head, Head, PlacedItem, field_symbols, Output, texts_cost, id_given, Front, field_octets, id_in, id_octets, with_symbol, with_symbols, head_name, CanNumber, IsFront, Numbering, Numbers, PutsWithin, numbering, users, first_over, head_symbols, item_symbols, IsGiven, got_within}
 use Rattle.ion_binary.specs.Numbering.{held_by}
 use Rattle.ion_binary.proofs.GivenIds.{ids_are_given}
-use Rattle.ion_binary.proofs.KnownIds.{Extends, extends_all, extends_trans, AreKnown, all_known, field_octets-same, id_octets-same, with_symbols-append}
+use Rattle.ion_binary.proofs.KnownIds.{Extends, extends_all, extends_trans, AreKnown, all_known, field_octets-same, id_octets-same, with_symbols-append, users-field}
+pub use Rattle.ion_binary.proofs.KnownIds.{users-item}
 use Rattle.ion_binary.proofs.ReaderParts.{charges-then}
 
 -- ---- the first symbol that costs too much
@@ -325,26 +325,9 @@ puts-next t0 t1 t2 xs i s got e f p q =
 
 -- ---- the symbols of an item
 
-users-field : (f : Option SymbolAt) → users (field_symbols f) ≡ field_symbols (option_map user_symbol_at f)
-users-field None = refl
-users-field (Some s) = refl
-
 field-ids : (ids : UserSymbol → ℕ) (f : Option UserSymbol) → id_octets ids (field_symbols f) ≡ field_octets ids f
 field-ids ids None = refl
 field-ids ids (Some s) = append-nil (var_uint_octets (ids s))
-
-users-scalar : (v : Scalar SymbolAt) → users (scalar_symbols v) ≡ scalar_symbols (map_scalar user_symbol_at v)
-users-scalar (value.null type) = refl
-users-scalar x = refl
-
-users-head : (h : Head SymbolAt) → users (head_symbols h) ≡ head_symbols (map_head user_symbol_at h)
-users-head (value.whole body) = users-scalar body
-users-head x = refl
-
-pub users-item : (i : PlacedItem) → users (item_symbols i) ≡ item_symbols (user_item i)
-users-item i = users-append (field_symbols i.field) (i.annotations ++ head_symbols i.head)
-    ∙ ap₂ (λ (x y : List UserSymbol). x ++ y) (users-field i.field)
-    (users-append i.annotations (head_symbols i.head) ∙ ap (λ (x : List UserSymbol). users i.annotations ++ x) (users-head i.head))
 
 -- ---- the front of an item, after its field, its annotations and its head
 

@@ -1,9 +1,9 @@
 -- The items of whole values are refused nowhere exactly where the values are within the limits.
-use Rattle.ion_binary.proofs.Below.{◌≡◌, ℕ, suc, ◌+◌, ◌<◌, ◌≤◌, ◌↔◌, nat_lt, Bool, true, false, if◌then◌else◌, List, [], ◌∷◌, ◌++◌, length, drop, Option, Some, None, refl, ap, sym, subst, ◌∙◌, append_assoc, append-nil, length-append, map, option_map, arith, not, ◌&&◌, ◌^◌, ◌*◌, ⊤, map-append, Reason, ValueLimit, Limits, number, marked, digits_in, var_uint_octets, is_marker, SymbolAt, UserSymbol, Scalar, Value, scalar, container, Members, nothing, member, Top, version, tree, Head, Item, PlacedItem, bare_item, value_items, member_items, top_items, user_item, user_items, user_symbol_at, field_symbols, members_symbols, scalar_symbols, value_symbols, Digits-fewest, digits_in-Digits, number-below, texts_cost, ltb-true, ltb-false, le-ltb, type_code, declaration, headed, id_in, is_over, length_code, length_octets, marker_if, marker_octets, member_octets, members_octets, scalar_octets, value_octets, with_symbol, with_symbols, wrapped, Unclosed, Written, after, after_all, all_closed, at_begin, begun, closed_size, closed_with, first_over, forgetting, head_symbols, item_symbols, with_ids_given, opened_with, refused_at, refused_by, with_end, NoneIsRefusedWithin, texts_left}
+use Rattle.ion_binary.proofs.Below.{◌≡◌, ℕ, suc, ◌+◌, ◌<◌, ◌≤◌, ◌↔◌, nat_lt, Bool, true, false, if◌then◌else◌, List, [], ◌∷◌, ◌++◌, length, drop, Option, Some, None, refl, ap, sym, subst, ◌∙◌, append_assoc, append-nil, length-append, map, arith, not, ◌&&◌, ◌^◌, ◌*◌, ⊤, Reason, ValueLimit, Limits, number, marked, digits_in, var_uint_octets, is_marker, SymbolAt, UserSymbol, Value, scalar, container, Members, nothing, member, Top, version, tree, Head, Item, PlacedItem, bare_item, value_items, member_items, top_items, user_item, user_items, user_symbol_at, field_symbols, members_symbols, scalar_symbols, value_symbols, Digits-fewest, digits_in-Digits, number-below, texts_cost, ltb-true, ltb-false, le-ltb, type_code, declaration, headed, id_in, is_over, length_code, length_octets, marker_if, marker_octets, member_octets, members_octets, scalar_octets, value_octets, with_symbol, with_symbols, wrapped, Unclosed, Written, after, after_all, all_closed, at_begin, begun, closed_size, closed_with, first_over, forgetting, item_symbols, with_ids_given, opened_with, refused_at, refused_by, with_end, NoneIsRefusedWithin, texts_left}
 use Rattle.ion_value.specs.Value as value
 use Rattle.ion_binary.specs.Writing.{with_head, with_value}
 use Rattle.ion_binary.specs.Refusals.{AreWithin}
-use Rattle.ion_binary.proofs.KnownIds.{Extends, extends_same, extends_all, with_symbols-append}
+use Rattle.ion_binary.proofs.KnownIds.{Extends, extends_same, extends_all, with_symbols-append, users-item}
 use Rattle.ion_binary.proofs.WholeValues.{extends_left, extends_right, forgotten, nothing_open, put_in, same_opened, same_scalar, written}
 
 abbrev UserItem : Type 0
@@ -87,24 +87,6 @@ cost-extends t u e = let a : texts_cost u ≡ texts_cost t + texts_cost e.more =
 abbrev users_of : List SymbolAt → List UserSymbol
 users_of ss = map user_symbol_at ss
 
-field-users : (f : Option SymbolAt) → users_of (field_symbols f) ≡ field_symbols (option_map user_symbol_at f)
-field-users None = refl
-field-users (Some s) = refl
-
-scalar-users : (v : Scalar SymbolAt) → users_of (scalar_symbols v) ≡ scalar_symbols (value.map_scalar user_symbol_at v)
-scalar-users (value.null type) = refl
-scalar-users x = refl
-
-head-users : (h : Head SymbolAt) → users_of (head_symbols h) ≡ head_symbols (value.map_head user_symbol_at h)
-head-users (value.whole body) = scalar-users body
-head-users x = refl
-
-item-users : (i : PlacedItem) → users_of (item_symbols i) ≡ item_symbols (user_item i)
-item-users i = map-append user_symbol_at (field_symbols i.field) (i.annotations ++ head_symbols i.head)
-    ∙ (ap (λ ss. users_of (field_symbols i.field) ++ ss) (map-append user_symbol_at i.annotations (head_symbols i.head))
-    ∙ (ap (λ ss. ss ++ (users_of i.annotations ++ users_of (head_symbols i.head))) (field-users i.field)
-    ∙ ap (λ ss. field_symbols (option_map user_symbol_at i.field) ++ (users_of i.annotations ++ ss)) (head-users i.head)))
-
 -- no symbol passes the limit of texts exactly where they cost no more with all of them
 over-by : (limit : ℕ) (u : List (List ℕ)) (s : SymbolAt) (ss : List SymbolAt) (b : Bool) → nat_lt limit (texts_cost u) ≡ b
     → (texts_cost u ≤ limit → first_over limit u ss ≡ None → texts_cost (with_symbols u (users_of ss)) ≤ limit)
@@ -154,14 +136,14 @@ taken-to limits w item h e =
     let b : Written = begun m w i.head in
     let k = refused-to limits.value (closed_size m w i) item.top (first_over m b.texts (item_symbols item)) e in
     let c : texts_cost (with_symbols b.texts (users_of (item_symbols item))) ≤ m = over-to m b.texts (item_symbols item) (begun-cost limits w w.open_containers (not (is_marker i.head) && is_over m w.texts) h) k.0 in
-    (subst (λ (ss : List UserSymbol). texts_cost (with_symbols b.texts ss) ≤ m) (item-users item) c, k.1)
+    (subst (λ (ss : List UserSymbol). texts_cost (with_symbols b.texts ss) ≤ m) (users-item item) c, k.1)
 
 taken-from : (limits : Limits) (w : Written) (item : PlacedItem) → IsWithin limits w (user_item item) → refused_at limits w item ≡ None
 taken-from limits w item h =
     let m : ℕ = limits.symbols in
     let i : UserItem = user_item item in
     let b : Written = begun m w i.head in
-    let c : texts_cost (with_symbols b.texts (users_of (item_symbols item))) ≤ m = subst (λ (ss : List UserSymbol). texts_cost (with_symbols b.texts ss) ≤ m) (sym (item-users item)) h.0 in
+    let c : texts_cost (with_symbols b.texts (users_of (item_symbols item))) ≤ m = subst (λ (ss : List UserSymbol). texts_cost (with_symbols b.texts ss) ≤ m) (sym (users-item item)) h.0 in
     ap (refused_by limits.value (closed_size m w i) item.top) (over-from m b.texts (item_symbols item) c)
     ∙ ap (λ (o : Bool). if o then Some (ValueLimit, item.top) else no_refusal) (le-ltb limits.value (closed_size m w i) h.1)
 

@@ -58,12 +58,6 @@ returns-in-Ok-None g c = record {
   goes = grind (arith, common_steps) steps 400000;
 }
 
-pub consume-requires : goal.consume-requires
-consume-requires g c = grind (arith, common_steps)
-
-pub loop-source-smaller : goal.loop-source-smaller
-loop-source-smaller g c = grind (arith, common_steps)
-
 pub returns-in-Err-extend : goal.returns-in-Err-extend
 returns-in-Err-extend g c = record {
   all = grind (arith, common_steps) steps 400000;

@@ -21,12 +21,6 @@ returns-clause-gives g c = λ text.
     rw after (body_here-read c.args.limits c.args.type_code c.args.count (cursor g.I.Input s) (as_scalar text c.in-Ok.scalar) c.requires.small (lent-there g.I.Input.rest s c.args.count c.requires.there)
     (ap (scalar_of_body c.args.type_code) (sym same) ∙ read))
 
-pub consume-requires : goal.consume-requires
-consume-requires g c = grind (arith, common_steps)
-
-pub returns-clause-reads : goal.returns-clause-reads
-returns-clause-reads g c = grind (arith, common_steps)
-
 pub returns-in-Err-clause-reads : goal.returns-in-Err-clause-reads
 returns-in-Err-clause-reads g c = grind (arith, common_steps) steps 400000
 

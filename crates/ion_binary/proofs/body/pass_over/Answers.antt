@@ -31,9 +31,6 @@ returns-in-Ok-None-clause-plain g c = grind (arith, common_steps) steps 400000
 pub returns-in-Ok-None-clause-all : goal.returns-in-Ok-None-clause-all
 returns-in-Ok-None-clause-all g c = grind (arith, common_steps) steps 400000
 
-pub consume-requires : goal.consume-requires
-consume-requires g c = grind (arith, common_steps)
-
 pub returns-in-Err : goal.returns-in-Err
 returns-in-Err g c =
     let moves = moves-then g.I.Input c.args.source.now c.loop-more.source c.peek.new.self c.loop-more.invariant.passed.moves

@@ -43,9 +43,6 @@ returns-clause-puts g c =
     let past : slice_get all c.loop-at.index ≡ None = sym c.get.ensures ∙ ap raw_field c.in_default.is in
     puts-as c.loop-at.invariant.puts (ap (λ l. id_octets (id_in c.loop-at.symbols.texts) (users l)) (take-past all c.loop-at.index past))
 
-pub overflow_add-index : goal.overflow_add-index
-overflow_add-index g c = grind (arith, common_steps)
-
 pub returns-in-Err-clause-puts : goal.returns-in-Err-clause-puts
 returns-in-Err-clause-puts g c = grind (arith, common_steps) steps 400000
 

@@ -44,8 +44,5 @@ returns-in-Err g c = grind (arith, common_steps) steps 400000
 pub returns-then-ne-clause-reads : goal.returns-then-ne-clause-reads
 returns-then-ne-clause-reads g c = grind (arith, common_steps) steps 400000
 
-pub slice_bounds-ne-end : goal.slice_bounds-ne-end
-slice_bounds-ne-end g c = grind (arith, common_steps)
-
 pub consume-requires : goal.consume-requires
 consume-requires g c = grind (arith, common_steps) steps 400000

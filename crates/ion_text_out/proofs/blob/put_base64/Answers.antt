@@ -1,4 +1,4 @@
-use Rattle.ion_text_out.proofs.Below.{refl, sym, arith, ◌+◌, common_steps}
+use Rattle.ion_text_out.proofs.Below.{refl, sym, arith, ◌+◌}
 use Rattle.ion_text_out.proofs.Blobs.{no_part, next_part, part_cut, last_part}
 use Rattle.ion_text_out.proofs.blob.put_base64.Goals as goal
 
@@ -28,21 +28,3 @@ pieces-preserved g c =
 
 pub returns : goal.returns
 returns g c = let inv = c.pieces.invariant in last_part c.pieces.at c.args.bytes.now inv.threes inv.within inv.puts c.put_piece-2.ensures
-
-pub overflow_add-at-in-pieces : goal.overflow_add-at-in-pieces
-overflow_add-at-in-pieces g c = grind (arith, common_steps)
-
-pub pieces-smaller : goal.pieces-smaller
-pieces-smaller g c = grind (arith, common_steps)
-
-pub put_piece-requires-2-clause-few : goal.put_piece-requires-2-clause-few
-put_piece-requires-2-clause-few g c = grind (arith, common_steps)
-
-pub put_piece-requires-clause-few : goal.put_piece-requires-clause-few
-put_piece-requires-clause-few g c = grind (arith, common_steps)
-
-pub put_piece-requires-2-clause-well : goal.put_piece-requires-2-clause-well
-put_piece-requires-2-clause-well g c = grind (arith, common_steps)
-
-pub put_piece-requires-clause-well : goal.put_piece-requires-clause-well
-put_piece-requires-clause-well g c = grind (arith, common_steps)

@@ -1,4 +1,4 @@
-use Rattle.ion_text_out.proofs.Below.{arith, common_steps}
+use Rattle.ion_text_out.proofs.Below.{arith}
 use Rattle.ion_text_out.proofs.Gaps.{front-length, item-short, item-within}
 use Rattle.ion_text_out.proofs.front.has_room.Goals as goal
 
@@ -11,6 +11,3 @@ returns-then-more-left-clause-room g c = λ e empty.
 
 pub returns-then-more-left-clause-short : goal.returns-then-more-left-clause-short
 returns-then-more-left-clause-short g c = λ e empty. item-short g.L.Layout.layout c.args.kinds.now empty (c.has_room.ensures.short e)
-
-pub overflow_add-texts : goal.overflow_add-texts
-overflow_add-texts g c = grind (arith, common_steps)

@@ -1,4 +1,4 @@
-use Rattle.ion_text_out.proofs.Below.{arith, common_steps, annotations_of, put_nothing}
+use Rattle.ion_text_out.proofs.Below.{arith, annotations_of, put_nothing}
 use Rattle.ion_text_out.proofs.Annotations.{annotations-next, annotations-cut}
 use Rattle.ion_text_out.proofs.item.put_annotations.Goals as goal
 
@@ -12,9 +12,3 @@ pub annotations-preserved : goal.annotations-preserved
 annotations-preserved g c =
     let put = annotations-next (annotations_of g.N.Names.text c.args.annotations.now) c.annotations.index c.in_default.is c.annotations.invariant.put (rw c.get.ensures at c.put_marked.ensures) in
     record { within = omega (arith, c.annotations-test.true, c.len-count.ensures); well = put.well; put = put }
-
-pub returns : goal.returns
-returns g c = grind (arith, common_steps)
-
-pub overflow_add-index : goal.overflow_add-index
-overflow_add-index g c = grind (arith, common_steps)

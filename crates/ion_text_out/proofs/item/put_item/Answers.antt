@@ -1,4 +1,4 @@
-use Rattle.ion_text_out.proofs.Below.{sym, ◌∙◌, arith, common_steps, item_of, raw_head, shown}
+use Rattle.ion_text_out.proofs.Below.{sym, ◌∙◌, item_of, raw_head, shown}
 use Rattle.ion_text_out.proofs.ItemParts.{item_first, item_middle, item_last, on_ok}
 use Rattle.ion_text_out.proofs.item.put_item.Goals as goal
 
@@ -34,15 +34,3 @@ returns g c =
           item_last g.L.Layout.layout (shown c.args.kinds.now c.args.empty) (item_of g.N.Names.text c.args.item.now) (raw_head c.args.head.now) c.requires.head c.in_default.is (c.put_first.ensures.puts well)
           c.in_default-put_middle.is c.put_middle.ensures (c.put_last.ensures c.args.empty);
     }
-
-pub put_middle-requires-clause-range : goal.put_middle-requires-clause-range
-put_middle-requires-clause-range g c = grind (arith, common_steps)
-
-pub put_middle-requires-clause-well : goal.put_middle-requires-clause-well
-put_middle-requires-clause-well g c = grind (arith, common_steps)
-
-pub put_middle-requires-clause-head : goal.put_middle-requires-clause-head
-put_middle-requires-clause-head g c = grind (arith, common_steps)
-
-pub put_last-requires : goal.put_last-requires
-put_last-requires g c = grind (arith, common_steps)

@@ -1,4 +1,4 @@
-use Rattle.ion_text_out.proofs.Below.{arith, common_steps, onward_as, onward_then, onward_cut, onward_end}
+use Rattle.ion_text_out.proofs.Below.{onward_as, onward_then, onward_cut, onward_end}
 use Rattle.ion_text_out.proofs.Quoted.{run_then, run_last, escape_then}
 use Rattle.ion_text_out.proofs.quote.put_inside.Goals as goal
 
@@ -26,9 +26,3 @@ runs-preserved g c =
     let after = onward_then to_run c.in_default.is c.put.ensures in
     let to_escape = onward_as after (escape_then c.args.quote c.args.top c.in-Some.byte.now c.runs.rest.now c.shown_run.result c.shown_run.ensures.ends c.split_at.ensures.back c.in-Some.ensures.cases.0) in
     onward_then to_escape c.in_default-put_escape.is c.put_escape.ensures
-
-pub runs-smaller : goal.runs-smaller
-runs-smaller g c = grind (arith, common_steps)
-
-pub put_escape-requires : goal.put_escape-requires
-put_escape-requires g c = grind (arith, common_steps)

@@ -1,4 +1,4 @@
-use Rattle.ion_text_out.proofs.Below.{arith, common_steps, put_cut, put_then}
+use Rattle.ion_text_out.proofs.Below.{put_cut, put_then}
 use Rattle.ion_text_out.proofs.quote.put_quoted.Goals as goal
 
 pub returns-in-Err : goal.returns-in-Err
@@ -9,6 +9,3 @@ returns-in-Err-put_inside g c = put_then c.in_default.is c.put.ensures (put_cut 
 
 pub returns : goal.returns
 returns g c = put_then c.in_default.is c.put.ensures (put_then c.in_default-put_inside.is c.put_inside.ensures c.put-2.ensures)
-
-pub put-requires-2 : goal.put-requires-2
-put-requires-2 g c = grind (arith, common_steps)

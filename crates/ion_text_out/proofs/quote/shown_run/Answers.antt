@@ -1,4 +1,4 @@
-use Rattle.ion_text_out.proofs.Below.{arith, common_steps, take_rest, is_shown}
+use Rattle.ion_text_out.proofs.Below.{arith, take_rest, is_shown}
 use Rattle.ion_text_out.proofs.ShownRuns.{over_block, to_hidden}
 use Rattle.ion_text_out.proofs.Quoted.{all_after}
 use Rattle.ion_text_out.proofs.quote.shown_run.Goals as goal
@@ -26,9 +26,3 @@ pub returns-clause-shown : goal.returns-clause-shown
 returns-clause-shown c =
     let few = rw (take_rest c.args.bytes.now c.skip.at) at c.few_shown.ensures.shown in
     all_after (is_shown c.args.quote c.args.top) c.args.bytes.now c.skip.at c.few_shown.result c.skip.invariant.shown few
-
-pub returns-clause-ends : goal.returns-clause-ends
-returns-clause-ends c = grind (arith, common_steps)
-
-pub returns-clause-within : goal.returns-clause-within
-returns-clause-within c = grind (arith, common_steps)

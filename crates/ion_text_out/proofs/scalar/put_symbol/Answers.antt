@@ -3,9 +3,3 @@ use Rattle.ion_text_out.proofs.scalar.put_symbol.Goals as goal
 
 pub returns-in-Id : goal.returns-in-Id
 returns-in-Id g c = grind (arith, common_steps) steps 400000
-
-pub returns-in-Text-2 : goal.returns-in-Text-2
-returns-in-Text-2 g c = grind (arith, common_steps)
-
-pub returns-in-Text : goal.returns-in-Text
-returns-in-Text g c = grind (arith, common_steps)

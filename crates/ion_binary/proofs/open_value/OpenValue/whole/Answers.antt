@@ -65,9 +65,6 @@ returns-clause-open g c is =
     opened c.args.limits c.args.self.now (record c.closed_size.new.self { octets = c.extend_some.new.octets }) c.args.place n c.requires.can_step.checked (omega (arith, c.requires.can_step.within.headers, same)) c.requires.open
     (omega (arith, e, within)) long c.closed_size.ensures.headers c.closed_size.ensures.counted (omega (arith, c.if-closed_size-limits.false, c.closed_size.ensures.size))
 
-pub returns-then-length-limits-clause-over : goal.returns-then-length-limits-clause-over
-returns-then-length-limits-clause-over g c = grind (arith, common_steps)
-
 pub returns-clause-over : goal.returns-clause-over
 returns-clause-over c = grind (arith, common_steps) steps 400000
 

@@ -6,9 +6,6 @@ use Rattle.ion_binary.proofs.reader.BinReader.found_after.Goals as goal
 pub region_after-region-requires : goal.region_after-region-requires
 region_after-region-requires g c = ends_around (as_frames c.args.self.now.frames) c.args.around c.requires.around
 
-pub few_part-requires-clause-small : goal.few_part-requires-clause-small
-few_part-requires-clause-small g c = grind (arith, common_steps)
-
 pub few_part-requires-clause-within : goal.few_part-requires-clause-within
 few_part-requires-clause-within g c = grind (arith, common_steps) steps 400000
 

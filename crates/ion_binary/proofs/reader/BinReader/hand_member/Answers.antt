@@ -1,4 +1,4 @@
-use Rattle.ion_binary.proofs.Below.{arith, common_steps, lent, frame_in, as_frames, innermost}
+use Rattle.ion_binary.proofs.Below.{lent, frame_in, as_frames, innermost}
 use Rattle.ion_binary.proofs.Handing.{ends_around, front_bare}
 use Rattle.ion_binary.proofs.HandingKeeps.{hands-none}
 use Rattle.ion_binary.proofs.reader.BinReader.hand_member.Goals as goal
@@ -8,9 +8,6 @@ noted_front-requires-clause-field g c = c.in-Some.ensures
 
 pub noted_front-requires-clause-ends : goal.noted_front-requires-clause-ends
 noted_front-requires-clause-ends g c = ends_around (as_frames c.args.self.now.frames) c.args.around.now c.requires.around
-
-pub noted_front-requires-clause-small : goal.noted_front-requires-clause-small
-noted_front-requires-clause-small g c = grind (arith, common_steps)
 
 pub hand_head-requires : goal.hand_head-requires
 hand_head-requires g c = record { member = c.requires; front = rw (c.buffer-octets.ensures, c.place-here.ensures) at c.in-Some-noted_front.ensures }

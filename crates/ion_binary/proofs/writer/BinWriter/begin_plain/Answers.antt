@@ -12,6 +12,3 @@ returns-in_default g c = grind (arith, common_steps) steps 400000
 
 pub begin_member-requires-clause-deep : goal.begin_member-requires-clause-deep
 begin_member-requires-clause-deep g c = grind (arith, common_steps) steps 400000
-
-pub returns : goal.returns
-returns g c = grind (arith, common_steps)

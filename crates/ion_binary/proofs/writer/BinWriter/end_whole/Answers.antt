@@ -25,9 +25,6 @@ clear-requires-clause-one g c = grind (arith, common_steps) steps 400000
 pub returns-then-self : goal.returns-then-self
 returns-then-self g c = grind (arith, common_steps) steps 400000
 
-pub put_within-requires-2 : goal.put_within-requires-2
-put_within-requires-2 g c = grind (arith, common_steps)
-
 pub header-before-requires-clause-code : goal.header-before-requires-clause-code
 header-before-requires-clause-code g c = grind (arith, common_steps) steps 400000
 

@@ -1,4 +1,4 @@
-use Rattle.ion_text_out.proofs.Below.{refl, ap, subst, length, arith, common_steps, value_of, raw_head, symbol_at, Head, SymbolAt, HasRoom}
+use Rattle.ion_text_out.proofs.Below.{refl, ap, subst, length, value_of, raw_head, symbol_at, Head, SymbolAt, HasRoom}
 use Rattle.ion_value.specs.Value as value
 use Rattle.ion_text_out.proofs.Taken.{begin_taken, end_taken, quoted_taken, scalar_taken, spelled_taken}
 use Rattle.ion_text_out.proofs.Plain.{quoted_body}
@@ -48,12 +48,3 @@ take_quoted-requires g c = (quoted_body c.in-Some.found.text.now (raw_head c.arg
 pub returns-in-Quoted : goal.returns-in-Quoted
 returns-in-Quoted g c =
     quoted_taken c.in-Some.found.text.now (raw_head c.args.head) c.requires.can_step c.take_quoted.ensures (rw (c.in-Some.is, c.in-Quoted.is) at c.requires.spelled)
-
-pub returns-in_default-head : goal.returns-in_default-head
-returns-in_default-head g c = grind (arith, common_steps)
-
-pub take_timestamp-requires : goal.take_timestamp-requires
-take_timestamp-requires g c = grind (arith, common_steps)
-
-pub take_decimal-requires : goal.take_decimal-requires
-take_decimal-requires g c = grind (arith, common_steps)

@@ -64,6 +64,3 @@ returns-in-Some g c = record {
   charges = grind (arith, common_steps);
   most = grind (arith, common_steps) steps 400000;
 }
-
-pub take-requires-clause-can_step : goal.take-requires-clause-can_step
-take-requires-clause-can_step g c = grind (arith, common_steps)

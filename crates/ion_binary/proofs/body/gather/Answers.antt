@@ -67,18 +67,6 @@ returns-in-Err-extend g c = record {
   goes = grind (arith, common_steps) steps 400000;
 }
 
-pub returns : goal.returns
-returns g c = grind (arith, common_steps) steps 400000
-
-pub slice_bounds-extend-end : goal.slice_bounds-extend-end
-slice_bounds-extend-end g c = grind (arith, common_steps) steps 400000
-
-pub extend-requires : goal.extend-requires
-extend-requires g c = grind (arith, common_steps) steps 400000
-
-pub loop-source-init : goal.loop-source-init
-loop-source-init g c = grind (arith, common_steps) steps 400000
-
 pub returns-in-Err : goal.returns-in-Err
 returns-in-Err g c = record {
   all = grind (arith, common_steps) steps 400000;
@@ -87,6 +75,3 @@ returns-in-Err g c = record {
   reads = search rules;
   goes = grind (arith, common_steps) steps 400000;
 }
-
-pub overflow_sub-count : goal.overflow_sub-count
-overflow_sub-count g c = grind (arith, common_steps) steps 400000

@@ -1,4 +1,4 @@
-use Rattle.ion_binary.proofs.Below.{◌≡◌, Ok, refl, ap, sym, ◌∙◌, ℕ, List, take, arith, common_steps, lent-take, scalar_of_body, cursor, lent-there, IsPassed-cursor, as_scalar}
+use Rattle.ion_binary.proofs.Below.{◌≡◌, Ok, refl, ap, sym, ◌∙◌, ℕ, List, take, lent-take, scalar_of_body, cursor, lent-there, IsPassed-cursor, as_scalar}
 use Rattle.ion_binary.proofs.BodyParts.{body_here-refused, body_here-read}
 use Rattle.ion_binary.proofs.body.number_in_window.Goals as goal
 
@@ -20,12 +20,3 @@ returns-clause-gives g c = λ text.
     let after = IsPassed-cursor g.I.Input s c.consume.new.self c.args.count c.requires.there c.consume.ensures in
     rw after (body_here-read c.args.limits c.args.type_code c.args.count (cursor g.I.Input s) (as_scalar text c.in-Ok.scalar) c.requires.small (lent-there g.I.Input.rest s c.args.count c.requires.there)
     (ap (scalar_of_body c.args.type_code) (sym same) ∙ read))
-
-pub returns-in-Err-clause-reads : goal.returns-in-Err-clause-reads
-returns-in-Err-clause-reads g c = grind (arith, common_steps) steps 400000
-
-pub slice_bounds-scalar_of-end : goal.slice_bounds-scalar_of-end
-slice_bounds-scalar_of-end g c = grind (arith, common_steps) steps 400000
-
-pub returns-clause-range : goal.returns-clause-range
-returns-clause-range g c = grind (arith, common_steps) steps 400000

@@ -25,26 +25,8 @@ returns-in-Ok-None-clause-reads g c =
     (extends-moves g.I.Input c.loop-more.source c.peek.new.self c.peek.ensures.kept) in
     grind (arith, common_steps, moves) steps 400000
 
-pub returns-in-Ok-None-clause-plain : goal.returns-in-Ok-None-clause-plain
-returns-in-Ok-None-clause-plain g c = grind (arith, common_steps) steps 400000
-
-pub returns-in-Ok-None-clause-all : goal.returns-in-Ok-None-clause-all
-returns-in-Ok-None-clause-all g c = grind (arith, common_steps) steps 400000
-
 pub returns-in-Err : goal.returns-in-Err
 returns-in-Err g c =
     let moves = moves-then g.I.Input c.args.source.now c.loop-more.source c.peek.new.self c.loop-more.invariant.passed.moves
     (extends-moves g.I.Input c.loop-more.source c.peek.new.self c.peek.ensures.kept) in
     grind (arith, common_steps, moves) steps 400000
-
-pub loop-more-smaller : goal.loop-more-smaller
-loop-more-smaller g c = grind (arith, common_steps) steps 400000
-
-pub returns : goal.returns
-returns g c = grind (arith, common_steps) steps 400000
-
-pub overflow_sub-more : goal.overflow_sub-more
-overflow_sub-more g c = grind (arith, common_steps) steps 400000
-
-pub loop-more-init : goal.loop-more-init
-loop-more-init g c = grind (arith, common_steps) steps 400000

@@ -1,4 +1,4 @@
-use Rattle.ion_binary.proofs.Below.{◌∙◌, length, sym, arith, common_steps, put_cut, put_then, declaration_front, strings_octets}
+use Rattle.ion_binary.proofs.Below.{◌∙◌, length, sym, put_cut, put_then, declaration_front, strings_octets}
 use Rattle.ion_binary.proofs.DeclarationOctets.{declaration-none, declaration-some}
 use Rattle.ion_binary.proofs.declaration.put_declaration.Goals as goal
 
@@ -20,6 +20,3 @@ returns g c =
     let some = declaration-some texts (sym c.is_empty.ensures ∙ c.if-is_empty.false) in
     let front = rw (c.as_slice.ensures.value, c.declaration_front-front.ensures, c.strings_len.ensures.len) at c.put-2.ensures in
     rw some (put_then {xs = declaration_front (length (strings_octets texts))} c.in_default.is front c.put_strings.ensures)
-
-pub put_strings-requires-clause-cost : goal.put_strings-requires-clause-cost
-put_strings-requires-clause-cost g c = grind (arith, common_steps) steps 400000

@@ -1,4 +1,4 @@
-use Rattle.ion_binary.proofs.Below.{◌≡◌, ◌≢◌, ◌+◌, ◌<◌, ◌≤◌, ◌∷◌, ◌++◌, List, ℕ, length, ap, ◌∙◌, arith, length-append, common_steps}
+use Rattle.ion_binary.proofs.Below.{◌≡◌, ◌≢◌, ◌+◌, ◌<◌, ◌≤◌, ◌∷◌, ◌++◌, List, ℕ, length, ap, ◌∙◌, arith, length-append}
 use Rattle.ion_binary.proofs.FewOctets.{within-one, within-two}
 use Rattle.ion_binary.proofs.few.wrapped_front.Goals as goal
 
@@ -25,21 +25,3 @@ returns-clause-octets c x e =
     ap (λ (os : List ℕ). os ++ x)
     (c.after-3.ensures ∙ ap (λ (os : List ℕ). 238 ∷ os) (c.after-2.ensures ∙ ap (λ (os : List ℕ). (128 + m) ∷ os) (c.after-ids.ensures ∙ ap (λ (os : List ℕ). 129 ∷ os) c.after.ensures)))
     ∙ within-two c.args.note y some few m is least short
-
-pub returns-clause-few : goal.returns-clause-few
-returns-clause-few c = grind (arith, common_steps) steps 400000
-
-pub after-requires-3 : goal.after-requires-3
-after-requires-3 c = grind (arith, common_steps) steps 400000
-
-pub returns-then-inside-lt14-clause-few : goal.returns-then-inside-lt14-clause-few
-returns-then-inside-lt14-clause-few c = grind (arith, common_steps) steps 400000
-
-pub after-requires-2 : goal.after-requires-2
-after-requires-2 c = grind (arith, common_steps) steps 400000
-
-pub after-ids-requires : goal.after-ids-requires
-after-ids-requires c = grind (arith, common_steps) steps 400000
-
-pub after-requires-then-inside-lt14 : goal.after-requires-then-inside-lt14
-after-requires-then-inside-lt14 c = grind (arith, common_steps) steps 400000

@@ -1,4 +1,4 @@
-use Rattle.ion_binary.proofs.Below.{◌≡◌, ◌∙◌, ◌<◌, ap, sym, arith, refl, length, None, Some, common_steps, slice_get, annotations_of, raw_field, symbol_at, id_in, id_octets, users}
+use Rattle.ion_binary.proofs.Below.{◌≡◌, ◌∙◌, ◌<◌, ap, sym, arith, refl, length, None, Some, slice_get, annotations_of, raw_field, symbol_at, id_in, id_octets, users}
 use Rattle.ion_binary.proofs.Contents.{adds-then}
 use Rattle.ion_binary.proofs.Numbered.{got-within, numbers-as, numbers-failed, numbers-next, puts-as, puts-next, take-past}
 use Rattle.ion_binary.proofs.front.put_annotations.Goals as goal
@@ -42,12 +42,6 @@ returns-clause-puts g c =
     let all = annotations_of g.N.Names.text c.args.annotations.now in
     let past : slice_get all c.loop-at.index ≡ None = sym c.get.ensures ∙ ap raw_field c.in_default.is in
     puts-as c.loop-at.invariant.puts (ap (λ l. id_octets (id_in c.loop-at.symbols.texts) (users l)) (take-past all c.loop-at.index past))
-
-pub returns-in-Err-clause-puts : goal.returns-in-Err-clause-puts
-returns-in-Err-clause-puts g c = grind (arith, common_steps) steps 400000
-
-pub put_symbol-requires : goal.put_symbol-requires
-put_symbol-requires g c = grind (arith, common_steps) steps 400000
 
 pub returns-in-Err-clause-adds : goal.returns-in-Err-clause-adds
 returns-in-Err-clause-adds g c = adds-then c.loop-at.invariant.adds c.put_symbol.ensures.adds

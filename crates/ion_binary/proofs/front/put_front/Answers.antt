@@ -1,4 +1,4 @@
-use Rattle.ion_binary.proofs.Below.{◌++◌, ◌∙◌, ap, refl, append_assoc, arith, common_steps, annotations_of, item_of, raw_field, raw_head, field_symbols, with_symbols, head_symbols}
+use Rattle.ion_binary.proofs.Below.{◌++◌, ◌∙◌, ap, refl, append_assoc, annotations_of, item_of, raw_field, raw_head, field_symbols, with_symbols, head_symbols}
 use Rattle.ion_binary.proofs.Contents.{adds-then}
 use Rattle.ion_binary.proofs.Numbered.{can-then, front-is, item-symbols, numbers-as, numbers-beside, numbers-cut, numbers-err, numbers-ok, numbers-then, users-item}
 use Rattle.ion_binary.proofs.front.put_front.Goals as goal
@@ -56,12 +56,6 @@ returns-clause-front g c =
       ids = c.len-ids.ensures;
       name = c.in-Ok-name_of.ensures.name;
     }
-
-pub name_of-requires : goal.name_of-requires
-name_of-requires g c = grind (arith, common_steps) steps 400000
-
-pub put_annotations-requires : goal.put_annotations-requires
-put_annotations-requires g c = grind (arith, common_steps) steps 400000
 
 pub returns-in-Err-put_annotations-clause-adds : goal.returns-in-Err-put_annotations-clause-adds
 returns-in-Err-put_annotations-clause-adds g c = adds-then c.put_field.ensures.adds c.put_annotations.ensures.adds

@@ -10,9 +10,3 @@ returns-in-Ok g c = record {
   charges = grind (arith, common_steps) steps 400000;
   causes = grind (arith, common_steps) steps 400000;
 }
-
-pub returns-in-Err : goal.returns-in-Err
-returns-in-Err g c = grind (arith, common_steps) steps 400000
-
-pub extend-requires : goal.extend-requires
-extend-requires g c = grind (arith, common_steps) steps 400000

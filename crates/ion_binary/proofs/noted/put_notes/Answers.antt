@@ -1,4 +1,4 @@
-use Rattle.ion_binary.proofs.Below.{rules, ◌≡◌, ◌++◌, List, ℕ, length, ap, ◌∙◌, arith, common_steps, wrapper_octets}
+use Rattle.ion_binary.proofs.Below.{rules, ◌≡◌, ◌++◌, List, ℕ, length, ap, ◌∙◌, wrapper_octets}
 use Rattle.ion_binary.proofs.NotedOctets.{notes-front}
 use Rattle.ion_binary.proofs.noted.put_notes.Goals as goal
 
@@ -10,9 +10,3 @@ returns-clause-octets c x long =
     let first : c.try_extend_from_slice.new.self.items ≡ front ++ c.wrapper-before.result.items = search rules in
     let before : c.wrapper-before.result.items ≡ wrapper_octets (length d) c.args.size = search rules in
     ap (λ (y : List ℕ). y ++ x) (second ∙ ap (λ (y : List ℕ). y ++ d) first) ∙ notes-front front d c.wrapper-before.result.items x c.args.size before long
-
-pub returns-clause-few : goal.returns-clause-few
-returns-clause-few c = grind (arith, common_steps) steps 400000
-
-pub unwrap-requires-2 : goal.unwrap-requires-2
-unwrap-requires-2 c = grind (arith, common_steps) steps 400000

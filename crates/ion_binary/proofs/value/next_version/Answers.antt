@@ -1,4 +1,4 @@
-use Rattle.ion_binary.proofs.Below.{◌≡◌, ℕ, ◌+◌, Bool, true, false, not, List, take, drop, None, slice_get, refl, sym, ap, ◌∙◌, arith, common_steps, left, lent-IsGiven, IsPassed-left, cursor}
+use Rattle.ion_binary.proofs.Below.{◌≡◌, ℕ, ◌+◌, Bool, true, false, not, List, take, drop, None, slice_get, refl, sym, ap, ◌∙◌, left, lent-IsGiven, IsPassed-left, cursor}
 use Rattle.ion_binary.proofs.TypedValueCode.{is_version, lent-three, version-cut, version-other, version-read}
 use Rattle.ion_binary.proofs.value.next_version.Goals as goal
 
@@ -34,15 +34,3 @@ returns-clause-gives g c t =
     let passed : left g.I.Input.rest c.consume.new.self ≡ drop 3 all = IsPassed-left g.I.Input.rest p c.consume.new.self 3 three.0 c.consume.ensures ∙ ap (drop 3) same_left in
     let at : c.consume.new.self.place ≡ c.args.source.now.place + 3 = c.consume.ensures.place ∙ ap (λ n. n + 3) c.in-Ok-Some.ensures.kept.place in
     rw (passed, at) (version-read (cursor g.I.Input c.args.source.now) three.1 one)
-
-pub returns-in-Ok-None-clause-reads : goal.returns-in-Ok-None-clause-reads
-returns-in-Ok-None-clause-reads g c = grind (arith, common_steps) steps 400000
-
-pub returns-in-Err : goal.returns-in-Err
-returns-in-Err g c = grind (arith, common_steps) steps 400000
-
-pub returns-then-ne-clause-reads : goal.returns-then-ne-clause-reads
-returns-then-ne-clause-reads g c = grind (arith, common_steps) steps 400000
-
-pub consume-requires : goal.consume-requires
-consume-requires g c = grind (arith, common_steps) steps 400000

@@ -77,18 +77,3 @@ pub returns-then-limits-as_slice-clause-reads : goal.returns-then-limits-as_slic
 returns-then-limits-as_slice-clause-reads g c =
     let moves = moves-then g.I.Input c.args.source.now c.loop-limits.source c.next_var_uint.new.source c.loop-limits.invariant.moves c.next_var_uint.ensures.reads.moves in
     grind (arith, common_steps, moves) steps 400000
-
-pub returns-clause-reads : goal.returns-clause-reads
-returns-clause-reads g c = grind (arith, common_steps) steps 400000
-
-pub push-requires : goal.push-requires
-push-requires g c = grind (arith, common_steps) steps 400000
-
-pub returns-then-limits-as_slice-clause-goes : goal.returns-then-limits-as_slice-clause-goes
-returns-then-limits-as_slice-clause-goes g c = grind (arith, common_steps) steps 400000
-
-pub returns-in-Err-clause-goes : goal.returns-in-Err-clause-goes
-returns-in-Err-clause-goes g c = grind (arith, common_steps) steps 400000
-
-pub returns-in-Err-clause-reads : goal.returns-in-Err-clause-reads
-returns-in-Err-clause-reads g c = grind (arith, common_steps) steps 1200000

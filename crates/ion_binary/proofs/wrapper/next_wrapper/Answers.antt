@@ -1,4 +1,4 @@
-use Rattle.ion_binary.proofs.Below.{◌≡◌, ◌+◌, ℕ, Some, Ok, Err, refl, ap, sym, ◌∙◌, arith, common_steps, ◌>>=◌, cursor, itself, answers-refused, var_uint_at, region_in, wrapper_after, wrapper_by, as_wrapped}
+use Rattle.ion_binary.proofs.Below.{◌≡◌, ◌+◌, ℕ, Some, Ok, Err, refl, ap, sym, ◌∙◌, ◌>>=◌, cursor, itself, answers-refused, var_uint_at, region_in, wrapper_after, wrapper_by, as_wrapped}
 use Rattle.ion_binary.proofs.WrapperCode.{wrapper_after-ids, wrapper_after-no_ids}
 use Rattle.ion_binary.proofs.wrapper.next_wrapper.Goals as goal
 
@@ -27,9 +27,3 @@ returns-in-Ok-wrapper_of-clause-gives g c t =
     let ids : var_uint_at (Some (old.place + c.args.count)) old ≡ Ok (c.in-Ok.ids, new) = ap (λ (p : ℕ). var_uint_at (Some (p + c.args.count)) old) (sym c.place-here.ensures) ∙ c.in-Ok.ensures.gives t in
     let by : wrapper_by r old.place c.args.count new.place c.in-Ok.ids ≡ Ok (as_wrapped c.in-Ok-wrapper_of.wrapper) = rw (c.place-here.ensures, c.place.ensures) at (c.in-Ok-wrapper_of.ensures.made r c.requires.around) in
     wrapper_after-ids r c.args.count c.in-Ok.ids old new ids ∙ ap (λ w. w >>= λ x. Ok (x, new)) by
-
-pub returns-in-Err-clause-reads : goal.returns-in-Err-clause-reads
-returns-in-Err-clause-reads g c = grind (arith, common_steps) steps 400000
-
-pub returns-in-Err-wrapper_of-clause-reads : goal.returns-in-Err-wrapper_of-clause-reads
-returns-in-Err-wrapper_of-clause-reads g c = grind (arith, common_steps) steps 400000

@@ -1,4 +1,4 @@
-use Rattle.ion_binary.proofs.Below.{◌≡◌, ◌<◌, List, ℕ, length, ap, sym, ◌∙◌, arith, common_steps}
+use Rattle.ion_binary.proofs.Below.{◌≡◌, ◌<◌, List, ℕ, length, ap, sym, ◌∙◌, arith}
 use Rattle.ion_binary.proofs.FewOctets.{low-length, room-next}
 use Rattle.ion_binary.proofs.few.Few.after.Goals as goal
 
@@ -15,6 +15,3 @@ overflow_add-result c =
     let few : c.self.inside.count < 8 = let r = c.requires in omega (arith, r, long) in
     let room = room-next c.self.inside.count c.self.inside.word few c.self.invariant.1 in
     record { fits = omega (arith, room, c.ranges.octet.fits) }
-
-pub invariant_of-result : goal.invariant_of-result
-invariant_of-result c = grind (arith, common_steps) steps 400000

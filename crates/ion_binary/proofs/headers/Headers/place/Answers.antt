@@ -1,4 +1,4 @@
-use Rattle.ion_binary.proofs.Below.{◌≡◌, ◌<◌, List, length, reverse, ap, ◌∙◌, arith, common_steps, length-reverse, HeaderPlace, place_around}
+use Rattle.ion_binary.proofs.Below.{◌≡◌, ◌<◌, List, length, reverse, ap, ◌∙◌, arith, length-reverse, HeaderPlace, place_around}
 use Rattle.ion_binary.proofs.CountedHeaders.{around-reverse}
 use Rattle.ion_binary.proofs.headers.Headers.place.Goals as goal
 
@@ -10,9 +10,3 @@ returns g c =
     let same : length (reverse items) ≡ length c.args.self.now = ap (λ (hs : List HeaderPlace). length hs) view in
     let less : c.args.k < length items = let r = c.requires in omega (arith, r, long, same) in
     around-reverse items c.args.k (record { place = 0; code = 0 }) less ∙ ap (λ (hs : List HeaderPlace). place_around hs c.args.k) view
-
-pub offset_bounds-as_slice-k : goal.offset_bounds-as_slice-k
-offset_bounds-as_slice-k g c = grind (arith, common_steps) steps 400000
-
-pub bounds-as_slice-k : goal.bounds-as_slice-k
-bounds-as_slice-k g c = grind (arith, common_steps) steps 400000

@@ -33,11 +33,5 @@ returns-then-not-extend_with g c =
     let d = c.extend_with.ensures.declines c.if-not-extend_with.true in
     begun-not c.requires.can_add (d.0, (d.1, d.2))
 
-pub extend_with-requires : goal.extend_with-requires
-extend_with-requires g c = grind (arith, common_steps) steps 400000
-
-pub overflow_cast-header : goal.overflow_cast-header
-overflow_cast-header g c = grind (arith, common_steps) steps 400000
-
 pub returns-then-not-surely_fits : goal.returns-then-not-surely_fits
 returns-then-not-surely_fits g c = not-begun c.requires.can_add

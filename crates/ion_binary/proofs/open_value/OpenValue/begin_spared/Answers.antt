@@ -21,15 +21,6 @@ closed_size-requires-clause-reached g c =
     let Q : List HeaderPlace → Type 0 = λ gs. AreReached c.args.self.now.counts c.len-octets.result gs in
     subst P (sym counts) (subst Q (sym headers) r)
 
-pub returns-then-closed_size-limits-clause-octets : goal.returns-then-closed_size-limits-clause-octets
-returns-then-closed_size-limits-clause-octets g c = grind (arith, common_steps) steps 400000
-
-pub returns-then-closed_size-limits-clause-headers : goal.returns-then-closed_size-limits-clause-headers
-returns-then-closed_size-limits-clause-headers g c = grind (arith, common_steps) steps 400000
-
-pub returns-then-closed_size-limits-clause-open : goal.returns-then-closed_size-limits-clause-open
-returns-then-closed_size-limits-clause-open g c = grind (arith, common_steps) steps 400000
-
 pub returns-then-closed_size-limits-clause-over : goal.returns-then-closed_size-limits-clause-over
 returns-then-closed_size-limits-clause-over g c is =
     let o : List ℕ = c.args.self.now.octets.all in
@@ -63,12 +54,6 @@ returns-then-closed_size-limits-clause-over g c is =
     ap (counted_length ns c.len-octets.result) same ∙ ap (λ k. counted_length ns k (begun_headers place o c.args.kind hs)) n in
     omega (arith, t, c.closed_size.ensures.size, sized, s)
 
-pub returns-clause-octets : goal.returns-clause-octets
-returns-clause-octets g c = grind (arith, common_steps) steps 400000
-
-pub returns-clause-headers : goal.returns-clause-headers
-returns-clause-headers g c = grind (arith, common_steps) steps 400000
-
 pub returns-clause-open : goal.returns-clause-open
 returns-clause-open g c is =
     let w = c.closed_size.new.self in
@@ -86,24 +71,3 @@ returns-clause-open g c is =
       reached = reached;
       fits = counted-fits c.args.limits w.counts w.octets.all w.headers c.requires.can_step.checked placed few (subst P n c.closed_size.ensures.counted) (omega (arith, c.if-closed_size-limits.false, size, long));
     }
-
-pub returns-clause-over : goal.returns-clause-over
-returns-clause-over g c = grind (arith, common_steps) steps 400000
-
-pub returns-then-not-branch-clause-over : goal.returns-then-not-branch-clause-over
-returns-then-not-branch-clause-over c = grind (arith, common_steps) steps 400000
-
-pub returns-then-not-branch-clause-open : goal.returns-then-not-branch-clause-open
-returns-then-not-branch-clause-open c = grind (arith, common_steps) steps 400000
-
-pub push-requires-clause-countable : goal.push-requires-clause-countable
-push-requires-clause-countable c = grind (arith, common_steps) steps 400000
-
-pub closed_size-requires-clause-short : goal.closed_size-requires-clause-short
-closed_size-requires-clause-short c = grind (arith, common_steps) steps 400000
-
-pub closed_size-requires-clause-few : goal.closed_size-requires-clause-few
-closed_size-requires-clause-few c = grind (arith, common_steps) steps 400000
-
-pub overflow_cast-header : goal.overflow_cast-header
-overflow_cast-header c = grind (arith, common_steps) steps 400000

@@ -49,9 +49,6 @@ returns g c = record {
       headed-stepped c.args.limits v w u c.args.meter.now c.insert.new.meter c.push.new.meter c.requires.can_step s refl more c.in_ok-push.ensures.cost (omega (arith, c.requires.spared, late)) (omega (arith, c.len-2.ensures, c.late.ensures, c.room_of-self.ensures));
 }
 
-pub returns-then-octets-place : goal.returns-then-octets-place
-returns-then-octets-place g c = grind (arith, common_steps) steps 400000
-
 pub insert-requires : goal.insert-requires
 insert-requires g c = record {
   within = grind (arith, common_steps) steps 400000;

@@ -1,4 +1,4 @@
-use Rattle.ion_binary.proofs.Below.{◌≡◌, ◌≤◌, get_or, length, arith, common_steps}
+use Rattle.ion_binary.proofs.Below.{◌≡◌, ◌≤◌, get_or, length, arith}
 use Rattle.ion_binary.proofs.CountedHeaders.{beyond-none}
 use Rattle.ion_binary.proofs.open_value.OpenValue.closed_size.Goals as goal
 
@@ -7,9 +7,3 @@ returns-then-len-eq0-clause-size g c =
     let empty : length c.args.self.now.headers ≡ 0 = omega (arith, c.len.ensures, c.if-len-eq0.true) in
     let none = beyond-none c.args.self.now.counts 0 (λ k. let within : get_or c.args.self.now.counts k 0 ≤ length c.args.self.now.headers = c.requires.reached.within k in omega (arith, within, empty)) in
     omega (arith, empty, none)
-
-pub returns : goal.returns
-returns g c = grind (arith, common_steps) steps 400000
-
-pub returns-then-len-eq0-clause-counted : goal.returns-then-len-eq0-clause-counted
-returns-then-len-eq0-clause-counted g c = grind (arith, common_steps) steps 400000

@@ -1,4 +1,4 @@
-use Rattle.ion_binary.proofs.Below.{◌≡◌, ◌+◌, ◌-◌, ◌∷◌, List, ℕ, drop, length, refl, ap, subst, ◌∙◌, arith, common_steps, none-some, Shrinks, HeaderPlace, header, ArePlaced, cut, headed_at, Content, open_cost, open_most}
+use Rattle.ion_binary.proofs.Below.{◌≡◌, ◌+◌, ◌-◌, ◌∷◌, List, ℕ, drop, length, refl, ap, subst, ◌∙◌, arith, none-some, Shrinks, HeaderPlace, header, ArePlaced, cut, headed_at, Content, open_cost, open_most}
 use Rattle.ion_binary.proofs.LateHeaders.{put-length}
 use Rattle.ion_binary.proofs.MovedSteps.{header-fits}
 use Rattle.ion_binary.proofs.OpenSteps.{grow-shrink, innermost-open, popped, popped-cost}
@@ -55,35 +55,5 @@ returns-clause-stepped g c =
           grows shrinks (omega (arith, few, now, cost)) c.requires.can_step.held (omega (arith, most, few, before, room));
     }
 
-pub returns-clause-inside : goal.returns-clause-inside
-returns-clause-inside g c = grind (arith, common_steps) steps 400000
-
-pub head_if_room-requires-clause-code : goal.head_if_room-requires-clause-code
-head_if_room-requires-clause-code g c = grind (arith, common_steps) steps 400000
-
-pub pop-innermost-requires : goal.pop-innermost-requires
-pop-innermost-requires g c = grind (arith, common_steps) steps 400000
-
-pub cut-requires-clause-few : goal.cut-requires-clause-few
-cut-requires-clause-few g c = grind (arith, common_steps) steps 400000
-
 pub cut-requires-clause-descend : goal.cut-requires-clause-descend
 cut-requires-clause-descend g c = c.requires.open.reached.descend
-
-pub returns-then-not-head_if_room-clause-open : goal.returns-then-not-head_if_room-clause-open
-returns-then-not-head_if_room-clause-open g c = grind (arith, common_steps) steps 400000
-
-pub head_if_room-requires-clause-within : goal.head_if_room-requires-clause-within
-head_if_room-requires-clause-within g c = grind (arith, common_steps) steps 400000
-
-pub returns-clause-octets : goal.returns-clause-octets
-returns-clause-octets g c = grind (arith, common_steps) steps 400000
-
-pub returns-then-not-head_if_room-clause-declines : goal.returns-then-not-head_if_room-clause-declines
-returns-then-not-head_if_room-clause-declines g c = grind (arith, common_steps) steps 400000
-
-pub head_if_room-requires-clause-room : goal.head_if_room-requires-clause-room
-head_if_room-requires-clause-room g c = grind (arith, common_steps) steps 400000
-
-pub head_if_room-requires-clause-short : goal.head_if_room-requires-clause-short
-head_if_room-requires-clause-short g c = grind (arith, common_steps) steps 400000

@@ -1,4 +1,4 @@
-use Rattle.ion_binary.proofs.Below.{◌+◌, length, arith, length-append, common_steps, both_octets}
+use Rattle.ion_binary.proofs.Below.{◌+◌, length, arith, length-append, both_octets}
 use Rattle.ion_binary.proofs.PutInRoom.{not-added, room-adds}
 use Rattle.ion_binary.proofs.open_value.OpenValue.extend_if_room.Goals as goal
 
@@ -11,6 +11,3 @@ returns g c =
 
 pub returns-then-not-surely_fits : goal.returns-then-not-surely_fits
 returns-then-not-surely_fits g c = not-added c.requires
-
-pub extend_if_room-requires : goal.extend_if_room-requires
-extend_if_room-requires g c = grind (arith, common_steps) steps 400000

@@ -1,4 +1,4 @@
-use Rattle.ion_binary.proofs.Below.{rules, ◌≡◌, ◌+◌, ◌++◌, List, ℕ, length, take, ap, sym, ◌∙◌, arith, length-append, common_steps, length-take-le}
+use Rattle.ion_binary.proofs.Below.{rules, ◌≡◌, ◌+◌, ◌++◌, List, ℕ, length, take, ap, sym, ◌∙◌, arith, length-append, length-take-le}
 use Rattle.ion_binary.proofs.PutInRoom.{adds-same, not-added, room-adds}
 use Rattle.ion_binary.proofs.open_value.OpenValue.put_few.Goals as goal
 
@@ -20,6 +20,3 @@ returns g c =
 
 pub returns-then-not-has_room : goal.returns-then-not-has_room
 returns-then-not-has_room g c = not-added c.requires
-
-pub extend_blocks_if_room-requires : goal.extend_blocks_if_room-requires
-extend_blocks_if_room-requires g c = grind (arith, common_steps) steps 400000

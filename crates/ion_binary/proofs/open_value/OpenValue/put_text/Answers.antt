@@ -1,4 +1,4 @@
-use Rattle.ion_binary.proofs.Below.{◌≡◌, ◌+◌, ◌++◌, List, ℕ, length, take, refl, ap, sym, ◌∙◌, arith, length-append, common_steps, noted}
+use Rattle.ion_binary.proofs.Below.{◌≡◌, ◌+◌, ◌++◌, List, ℕ, length, take, refl, ap, sym, ◌∙◌, arith, length-append, noted}
 use Rattle.ion_binary.proofs.PutInRoom.{adds-same, not-added, room-adds}
 use Rattle.ion_binary.proofs.open_value.OpenValue.put_text.Goals as goal
 
@@ -19,6 +19,3 @@ returns g c =
 
 pub returns-then-not-surely_fits : goal.returns-then-not-surely_fits
 returns-then-not-surely_fits g c = not-added c.requires
-
-pub extend_block_if_room-requires : goal.extend_block_if_room-requires
-extend_block_if_room-requires g c = grind (arith, common_steps) steps 400000

@@ -1,4 +1,4 @@
-use Rattle.ion_binary.proofs.Below.{◌<◌, ◌≤◌, ℕ, List, length, get_or, sym, ◌∙◌, arith, common_steps, HeaderPlace, content_around, most_at, thresholds}
+use Rattle.ion_binary.proofs.Below.{◌<◌, ◌≤◌, ℕ, List, length, get_or, sym, ◌∙◌, arith, HeaderPlace, content_around, most_at, thresholds}
 use Rattle.ion_binary.proofs.CountedHeaders.{most-same, most-within, raise-reached, raise-settled, strictly-below}
 use Rattle.ion_binary.proofs.open_value.OpenValue.raise.Goals as goal
 
@@ -21,18 +21,3 @@ raising-preserved g c =
       };
       most = c.raising.invariant.most ∙ sym (most-same ns (length hs) c.args.level);
     }
-
-pub overflow_add-self : goal.overflow_add-self
-overflow_add-self g c = grind (arith, common_steps) steps 400000
-
-pub returns-then-content-level-clause-counted : goal.returns-then-content-level-clause-counted
-returns-then-content-level-clause-counted g c = grind (arith, common_steps) steps 1200000
-
-pub content-requires-clause-few : goal.content-requires-clause-few
-content-requires-clause-few g c = grind (arith, common_steps) steps 400000
-
-pub returns-then-content-level-clause-octets : goal.returns-then-content-level-clause-octets
-returns-then-content-level-clause-octets g c = grind (arith, common_steps) steps 400000
-
-pub returns-then-content-level-clause-headers : goal.returns-then-content-level-clause-headers
-returns-then-content-level-clause-headers g c = grind (arith, common_steps) steps 400000

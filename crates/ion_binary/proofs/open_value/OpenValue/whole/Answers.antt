@@ -65,9 +65,6 @@ returns-clause-open g c is =
     opened c.args.limits c.args.self.now (record c.closed_size.new.self { octets = c.extend_some.new.octets }) c.args.place n c.requires.can_step.checked (omega (arith, c.requires.can_step.within.headers, same)) c.requires.open
     (omega (arith, e, within)) long c.closed_size.ensures.headers c.closed_size.ensures.counted (omega (arith, c.if-closed_size-limits.false, c.closed_size.ensures.size))
 
-pub returns-clause-over : goal.returns-clause-over
-returns-clause-over c = grind (arith, common_steps) steps 400000
-
 pub insert_some-requires-clause-can_put : goal.insert_some-requires-clause-can_put
 insert_some-requires-clause-can_put g c = record {
   within = grind (arith, common_steps) steps 400000;
@@ -76,21 +73,6 @@ insert_some-requires-clause-can_put g c = record {
   held = grind (arith, common_steps);
   countable = grind (arith, common_steps);
 }
-
-pub returns-then-closed_size-limits-clause-open : goal.returns-then-closed_size-limits-clause-open
-returns-then-closed_size-limits-clause-open c = grind (arith, common_steps) steps 400000
-
-pub returns-then-length-limits-clause-open : goal.returns-then-length-limits-clause-open
-returns-then-length-limits-clause-open c = grind (arith, common_steps) steps 400000
-
-pub returns-clause-headers : goal.returns-clause-headers
-returns-clause-headers c = grind (arith, common_steps) steps 400000
-
-pub closed_size-requires-clause-short : goal.closed_size-requires-clause-short
-closed_size-requires-clause-short c = grind (arith, common_steps) steps 400000
-
-pub wrapper-front-requires-clause-ids : goal.wrapper-front-requires-clause-ids
-wrapper-front-requires-clause-ids c = grind (arith, common_steps) steps 400000
 
 -- octets went in, and there is room for so many more
 record WentIn {A : Type 0} (limits : Limits) (v w : OpenValue A) (m n : Counts) (more : ℕ) : Type 0 where

@@ -23,27 +23,6 @@ take_plain-requires-clause-path g c =
     path_here w r.limits.depth (opened_in r) c.args.writer.now (placed_item r.top None [] c.place.result value.end) write.depth_of
     (end_fits r.limits.depth (opened_in r) c.place.result r.top (open_one r.frames some.0 inner)) refl write.after
 
-pub close-requires-clause-held : goal.close-requires-clause-held
-close-requires-clause-held g c = grind (arith, common_steps) steps 400000
-
-pub take_plain-requires-clause-room : goal.take_plain-requires-clause-room
-take_plain-requires-clause-room g c = grind (arith, common_steps) steps 400000
-
-pub take_plain-requires-clause-simple : goal.take_plain-requires-clause-simple
-take_plain-requires-clause-simple g c = grind (arith, common_steps) steps 400000
-
-pub take_plain-requires-clause-plain : goal.take_plain-requires-clause-plain
-take_plain-requires-clause-plain g c = grind (arith, common_steps) steps 400000
-
-pub take_plain-requires-clause-well : goal.take_plain-requires-clause-well
-take_plain-requires-clause-well g c = grind (arith, common_steps) steps 400000
-
-pub take_plain-requires-clause-held : goal.take_plain-requires-clause-held
-take_plain-requires-clause-held g c = grind (arith, common_steps) steps 400000
-
-pub take_plain-requires-clause-countable : goal.take_plain-requires-clause-countable
-take_plain-requires-clause-countable g c = grind (arith, common_steps) steps 400000
-
 pub returns : goal.returns
 returns g c = record {
   handed =

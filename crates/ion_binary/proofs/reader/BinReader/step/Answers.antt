@@ -8,9 +8,6 @@ pub inside-requires-clause-innermost : goal.inside-requires-clause-innermost
 inside-requires-clause-innermost g c = last-innermost c.args.self.now.frames c.in-Some.frame
     (ap (λ (l : List Frame). slice_get l (length l - 1)) (sym c.as_slice.ensures) ∙ (sym c.last.ensures.value ∙ (sym c.copied.ensures ∙ c.in-Some.is)))
 
-pub next_top-requires-clause-none : goal.next_top-requires-clause-none
-next_top-requires-clause-none g c = grind (arith, common_steps) steps 400000
-
 pub returns-in-Some : goal.returns-in-Some
 returns-in-Some g c = record {
   gives = c.inside.ensures.gives;

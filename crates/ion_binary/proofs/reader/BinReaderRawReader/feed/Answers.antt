@@ -70,6 +70,3 @@ returns g c =
       charges = h.keeps.charges;
       goes = h.goes;
     }
-
-pub overflow_cast-result : goal.overflow_cast-result
-overflow_cast-result g c = grind (arith, common_steps) steps 400000

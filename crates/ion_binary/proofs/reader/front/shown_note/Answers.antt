@@ -1,4 +1,4 @@
-use Rattle.ion_binary.proofs.Below.{◌≡◌, ◌+◌, ◌∙◌, Ok, get_or, ap, sym, arith, common_steps, ShownNote, wrapper, as_shape}
+use Rattle.ion_binary.proofs.Below.{◌≡◌, ◌+◌, ◌∙◌, Ok, get_or, ap, sym, arith, ShownNote, wrapper, as_shape}
 use Rattle.ion_binary.proofs.ScannedParts.{ends-reaches}
 use Rattle.ion_binary.proofs.ShownParts.{shows_note}
 use Rattle.ion_binary.proofs.TypedValueCode.{shape_read}
@@ -19,9 +19,3 @@ returns-in-Ok c = λ r e.
 
 pub few_length-requires-clause-length_code : goal.few_length-requires-clause-length_code
 few_length-requires-clause-length_code c = shape_read (get_or c.args.octets.now c.args.at 0) (wrapper c.in-Wrapper.length_code) (sym (ap as_shape c.in-Wrapper.is) ∙ c.of.ensures)
-
-pub overflow_add-here : goal.overflow_add-here
-overflow_add-here c = grind (arith, common_steps) steps 400000
-
-pub overflow_add-from : goal.overflow_add-from
-overflow_add-from c = grind (arith, common_steps) steps 400000

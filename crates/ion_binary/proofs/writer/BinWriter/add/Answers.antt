@@ -1,4 +1,4 @@
-use Rattle.ion_binary.proofs.Below.{◌≡◌, Ok, Option, Some, Result, ◌<◌, ℕ, List, Bool, true, false, not, None, refl, ap, sym, subst, ◌∙◌, arith, common_steps, Fault, Reason, ValueLimit, item_of, raw_head, Head, PlacedItem, SymbolAt, map_head, user_item, user_symbol_at, HeaderPlace, id_in, Held, moved_headers, moved_octets, size_of, with_names, head_name, user_head, added, held_in, first_over, item_symbols}
+use Rattle.ion_binary.proofs.Below.{◌≡◌, Ok, Option, Some, Result, ◌<◌, ℕ, List, Bool, true, false, not, None, refl, ap, sym, subst, ◌∙◌, arith, Fault, Reason, ValueLimit, item_of, raw_head, Head, PlacedItem, SymbolAt, map_head, user_item, user_symbol_at, HeaderPlace, id_in, Held, moved_headers, moved_octets, size_of, with_names, head_name, user_head, added, held_in, first_over, item_symbols}
 use Rattle.ion_binary.proofs.WriterSteps.{front-name, front-octets, front-over, front-place, front-refused, headers-moved, may-follow, not-refused, octets-moved, refused-long, same-why}
 use Rattle.ion_binary.proofs.WriterTaken.{front-can-step, front-taken, fronted, refused-taken, taken-stepped}
 use Rattle.ion_binary.proofs.writer.BinWriter.add.Goals as goal
@@ -55,15 +55,6 @@ returns-in-Ok-true-clause-passes g c =
     ap (λ (os : List ℕ). size_of os c.take.new.self.headers) octets ∙ ap (size_of (added (held_in w) item).octets) headers in
     not-refused w.limits (held_in w) item none (omega (arith, s, size))
 
-pub returns-in-Ok-true-clause-no_device : goal.returns-in-Ok-true-clause-no_device
-returns-in-Ok-true-clause-no_device g c = grind (arith, common_steps) steps 400000
-
-pub returns-in-Ok-true-clause-open : goal.returns-in-Ok-true-clause-open
-returns-in-Ok-true-clause-open g c = grind (arith, common_steps) steps 400000
-
-pub returns-in-Ok-true-clause-refuses : goal.returns-in-Ok-true-clause-refuses
-returns-in-Ok-true-clause-refuses g c = grind (arith, common_steps) steps 400000
-
 pub returns-in-Ok-true-clause-taken : goal.returns-in-Ok-true-clause-taken
 returns-in-Ok-true-clause-taken g c =
     let n = c.in-Ok.ensures.numbers in
@@ -95,21 +86,6 @@ returns-in-Ok-false-clause-refuses g c r p is =
     let over : w.limits.value < size_of o hs = c.in-Ok-false.ensures.over (id_in n.texts) name ok in
     refused-long w.limits (held_in w) item none (omega (arith, over, size))
     ∙ (ap (λ (t : ℕ). let x : Option (Reason × ℕ) = Some (ValueLimit, t) in x) (sym c.top-in-Ok-false.ensures) ∙ same-why (Unit {0}) ValueLimit r c.top-in-Ok-false.result p is)
-
-pub returns-in-Err-clause-no_device : goal.returns-in-Err-clause-no_device
-returns-in-Err-clause-no_device g c = grind (arith, common_steps) steps 400000
-
-pub returns-then-not-front-clause-no_device : goal.returns-then-not-front-clause-no_device
-returns-then-not-front-clause-no_device g c = grind (arith, common_steps) steps 400000
-
-pub returns-in-Err-take-clause-no_device : goal.returns-in-Err-take-clause-no_device
-returns-in-Err-take-clause-no_device g c = grind (arith, common_steps) steps 400000
-
-pub returns-in-Ok-false-clause-no_device : goal.returns-in-Ok-false-clause-no_device
-returns-in-Ok-false-clause-no_device g c = grind (arith, common_steps) steps 400000
-
-pub put_front-requires-clause-can_number : goal.put_front-requires-clause-can_number
-put_front-requires-clause-can_number g c = grind (arith, common_steps) steps 400000
 
 pub returns-in-Err-clause-taken : goal.returns-in-Err-clause-taken
 returns-in-Err-clause-taken g c =

@@ -1,14 +1,5 @@
-use Rattle.ion_binary.proofs.Below.{refl, arith, common_steps}
+use Rattle.ion_binary.proofs.Below.{refl, arith}
 use Rattle.ion_binary.proofs.writer.BinWriter.add_fresh.Goals as goal
-
-pub returns-in-None : goal.returns-in-None
-returns-in-None g c = grind (arith, common_steps) steps 400000
-
-pub returns-in_default : goal.returns-in_default
-returns-in_default g c = grind (arith, common_steps) steps 400000
-
-pub returns-then-not-is_scalar : goal.returns-then-not-is_scalar
-returns-then-not-is_scalar g c = grind (arith, common_steps) steps 400000
 
 pub put_fresh-requires : goal.put_fresh-requires
 put_fresh-requires g c = record {

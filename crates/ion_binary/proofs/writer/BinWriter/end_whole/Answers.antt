@@ -1,4 +1,4 @@
-use Rattle.ion_binary.proofs.Below.{◌≡◌, List, ℕ, length, ap, ◌∙◌, arith, common_steps, header, Content, as_item}
+use Rattle.ion_binary.proofs.Below.{◌≡◌, List, ℕ, length, ap, ◌∙◌, arith, header, Content, as_item}
 use Rattle.ion_binary.proofs.PlainAdded.{both-put, plain-ended}
 use Rattle.ion_binary.proofs.writer.BinWriter.end_whole.Goals as goal
 
@@ -15,24 +15,3 @@ returns g c =
     plain-ended w c.clear.new.self o c.args.meter.now c.clear.new.meter (as_item c.args.item.now) c.args.sink.now c.put_within-2.new.self x
     c.requires.can_take c.requires.comes.counted c.requires.comes.follows c.requires.head c.in-Some.ensures c.if-outermost-ne0.false c.if-self.false all is put
     (ap (λ (x : Content). x.all) c.clear.ensures.nothing.0) c.clear.ensures.nothing.1 c.clear.ensures.open c.clear.ensures.stepped
-
-pub returns-then-room-len : goal.returns-then-room-len
-returns-then-room-len g c = grind (arith, common_steps) steps 400000
-
-pub clear-requires-clause-one : goal.clear-requires-clause-one
-clear-requires-clause-one g c = grind (arith, common_steps) steps 400000
-
-pub returns-then-self : goal.returns-then-self
-returns-then-self g c = grind (arith, common_steps) steps 400000
-
-pub header-before-requires-clause-code : goal.header-before-requires-clause-code
-header-before-requires-clause-code g c = grind (arith, common_steps) steps 400000
-
-pub put_within-requires : goal.put_within-requires
-put_within-requires g c = grind (arith, common_steps) steps 400000
-
-pub returns-then-len-self : goal.returns-then-len-self
-returns-then-len-self g c = grind (arith, common_steps) steps 400000
-
-pub returns-in_default : goal.returns-in_default
-returns-in_default g c = grind (arith, common_steps) steps 400000

@@ -1,4 +1,4 @@
-use Rattle.ion_binary.proofs.Below.{◌≡◌, [], ◌≢◌, length, inl, inr, true, refl, ap, sym, ◌∙◌, arith, common_steps, Output, held_in}
+use Rattle.ion_binary.proofs.Below.{◌≡◌, [], ◌≢◌, length, inl, inr, true, refl, ap, sym, ◌∙◌, arith, Output, held_in}
 use Rattle.ion_binary.proofs.WriterSteps.{forgotten, kept, same-held}
 use Rattle.ion_binary.proofs.writer.BinWriter.forget.Goals as goal
 use Rattle.ion_binary.proofs.writer.BinWriter.forget.Goals.{else-begins-via-then-begins+else-cost-self, else-begins-via-else-begins}
@@ -19,6 +19,3 @@ returns-else-begins-clause-held g c =
           let f : c.len-begins.result ≢ 0 = b.if-begins.false in
           sym (kept w.limits.symbols (held_in w) w.open_value.headers (inl (omega (arith, c.len-begins.ensures, f))))
     ]
-
-pub returns-then-cost-self-clause-can_take : goal.returns-then-cost-self-clause-can_take
-returns-then-cost-self-clause-can_take g c = grind (arith, common_steps) steps 400000

@@ -1,4 +1,4 @@
-use Rattle.ion_binary.proofs.Below.{◌≡◌, ◌+◌, ◌++◌, List, ℕ, length, subst, sym, arith, length-append, common_steps, Grows, PlacedItem, as_item}
+use Rattle.ion_binary.proofs.Below.{◌≡◌, ◌+◌, ◌++◌, List, ℕ, length, subst, sym, arith, length-append, Grows, PlacedItem, as_item}
 use Rattle.ion_binary.proofs.FreshAdded.{fresh-plain}
 use Rattle.ion_binary.proofs.writer.BinWriter.give_fresh.Goals as goal
 
@@ -15,9 +15,3 @@ returns g c =
     let G : ℕ → Type 0 = λ n. Grows c.args.meter.now c.give_next.new.meter (16 + (length fresh.text.now + n)) in
     fresh-plain w c.give_next.new.symbols c.give_next.new.self c.args.meter.now c.give_next.new.meter item c.give_next.result fresh c.args.note (front ++ rest)
     c.requires.can_put c.requires.octets k.new k.texts k.octets k.within (λ e. subst G long (k.grows e)) k.limit k.declines (omega (arith, s, long))
-
-pub returns-then-not-surely_fits : goal.returns-then-not-surely_fits
-returns-then-not-surely_fits g c = grind (arith, common_steps) steps 400000
-
-pub give_next-requires : goal.give_next-requires
-give_next-requires g c = grind (arith, common_steps) steps 400000

@@ -65,9 +65,3 @@ returns-in-Err-clause-puts g c =
     let t : c.len-is_open.result ≤ 0 = c.if-is_open.false in
     let none = none-open v.open_value.headers (omega (arith, c.len-is_open.ensures, t)) in
     subst (λ (hs : List HeaderPlace). PutsOctets g.O.Output c.args.sink.now c.put_value.new.sink (Err c.in-Err.fault) (value_put (held_in v) hs v.open_value.octets.all)) (sym none) c.in-Err.ensures.puts
-
-pub returns-in-Err-clause-taken : goal.returns-in-Err-clause-taken
-returns-in-Err-clause-taken g c = grind (arith, common_steps) steps 400000
-
-pub returns-in-Err-clause-causes : goal.returns-in-Err-clause-causes
-returns-in-Err-clause-causes g c = grind (arith, common_steps) steps 400000

@@ -1,4 +1,4 @@
-use Rattle.ion_binary.proofs.Below.{◌∷◌, ◌++◌, [], List, ℕ, ap, ◌∙◌, arith, common_steps, id_in, both_octets, noted, noted_by}
+use Rattle.ion_binary.proofs.Below.{◌∷◌, ◌++◌, [], List, ℕ, ap, ◌∙◌, id_in, both_octets, noted, noted_by}
 use Rattle.ion_binary.proofs.writer.BinWriter.put_spelled.Goals as goal
 
 pub give_fresh-requires-clause-octets : goal.give_fresh-requires-clause-octets
@@ -11,9 +11,3 @@ give_fresh-requires-clause-octets g c new =
     ap (λ (z : List ℕ). z ++ c.octets-scalar.result.rest.now) c.as_slice-2.ensures.value ∙ (c.in-Some.ensures.octets
     ∙ (ap (λ (z : List ℕ). noted_by fresh.name z scalar) (c.as_slice.ensures.value ∙ c.id_octets-notes.ensures.octets)
     ∙ ap (noted fresh.name note) (c.octets-scalar.ensures ∙ c.spell-spelled.ensures (id_in (texts ++ fresh.text.now ∷ [])) f.symbol)))
-
-pub returns-in_default : goal.returns-in_default
-returns-in_default g c = grind (arith, common_steps) steps 400000
-
-pub spell-spelled-requires : goal.spell-spelled-requires
-spell-spelled-requires g c = grind (arith, common_steps) steps 400000

@@ -1,4 +1,4 @@
-use Rattle.ion_binary.proofs.Below.{◌≡◌, List, ℕ, None, drop, subst, arith, common_steps, put_cut, put_then, IsPut, declaration}
+use Rattle.ion_binary.proofs.Below.{◌≡◌, List, ℕ, None, drop, subst, arith, put_cut, put_then, IsPut, declaration}
 use Rattle.ion_binary.proofs.WriterSteps.{none-not-some, on-ok-const, puts-octets, since-cost, since-declared}
 use Rattle.ion_binary.proofs.writer.BinWriter.put_value.Goals as goal
 
@@ -28,12 +28,3 @@ returns-clause-puts g c =
     let put = subst P texts c.put_declaration.ensures in
     puts-octets g.O.Output c.args.sink.now c.put.new.sink c.put.result _ (λ e. put_then c.in_default.is (c.put_marker.ensures.put e) (put_then c.in_default-put_declaration.is put c.put.ensures)) (on-ok-const c.put.result well)
     (λ f e. absurd (none-not-some well e))
-
-pub returns-clause-causes : goal.returns-clause-causes
-returns-clause-causes g c = grind (arith, common_steps) steps 400000
-
-pub returns-in-Err-put_declaration-clause-causes : goal.returns-in-Err-put_declaration-clause-causes
-returns-in-Err-put_declaration-clause-causes g c = grind (arith, common_steps) steps 400000
-
-pub returns-in-Err-clause-causes : goal.returns-in-Err-clause-causes
-returns-in-Err-clause-causes g c = grind (arith, common_steps) steps 400000

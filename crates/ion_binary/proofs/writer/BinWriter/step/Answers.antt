@@ -1,4 +1,4 @@
-use Rattle.ion_binary.proofs.Below.{rules, ◌≡◌, ℕ, List, None, Some, Err, Result, subst, ◌∙◌, arith, common_steps, Fault, Refused, Reason, Limits, item_of, PlacedItem, user_item, held_forgotten, held_of, PutsOctets, held_in, item_refusal}
+use Rattle.ion_binary.proofs.Below.{rules, ◌≡◌, ℕ, List, None, Some, Err, Result, subst, ◌∙◌, Fault, Refused, Reason, Limits, item_of, PlacedItem, user_item, held_forgotten, held_of, PutsOctets, held_in, item_refusal}
 use Rattle.ion_binary.proofs.WriterFollows.{adds-are, follows-err, follows-out, forgotten-is, may-add-after}
 use Rattle.ion_binary.proofs.WriterSteps.{puts-none}
 use Rattle.ion_binary.proofs.writer.BinWriter.step.Goals as goal
@@ -41,18 +41,3 @@ returns-clause-puts g c s comes =
     let none : item_refusal w.limits (held_in c.forget.new.self) item ≡ None = subst L c.forget.ensures.taken.limits c.in_default.ensures.passes in
     let P : List ℕ → Type 0 = λ os. PutsOctets g.O.Output c.args.sink.now c.put_out.new.sink c.put_out.result os in
     subst P (adds-are w c.add.new.self s item (held_in c.forget.new.self) comes b c.in_default.ensures.held none) c.put_out.ensures.puts
-
-pub put_out-requires-clause-can_put : goal.put_out-requires-clause-can_put
-put_out-requires-clause-can_put g c = grind (arith, common_steps) steps 400000
-
-pub returns-clause-causes : goal.returns-clause-causes
-returns-clause-causes g c = grind (arith, common_steps) steps 400000
-
-pub add-requires-clause-can_take : goal.add-requires-clause-can_take
-add-requires-clause-can_take g c = grind (arith, common_steps) steps 400000
-
-pub returns-in-Err-clause-still : goal.returns-in-Err-clause-still
-returns-in-Err-clause-still g c = grind (arith, common_steps) steps 400000
-
-pub put_out-requires-clause-open : goal.put_out-requires-clause-open
-put_out-requires-clause-open g c = grind (arith, common_steps) steps 400000

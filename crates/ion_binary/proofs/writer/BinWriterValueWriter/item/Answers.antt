@@ -49,33 +49,3 @@ returns-in-Err-clause-passed g c =
     let w = c.args.self.now in
     let at = c.requires.path c.in_default.is in
     (c.in-Err.ensures.puts (written_after w.limits at.0) (at.1.holds, may-come w.limits at.0 (item_of g.N.Names.text c.args.item.now) at.2)).passed
-
-pub returns-in-Err-clause-memory : goal.returns-in-Err-clause-memory
-returns-in-Err-clause-memory g c = grind (arith, common_steps) steps 400000
-
-pub returns-in-Err-clause-quiet : goal.returns-in-Err-clause-quiet
-returns-in-Err-clause-quiet g c = grind (arith, common_steps) steps 400000
-
-pub returns-in-Err-clause-again : goal.returns-in-Err-clause-again
-returns-in-Err-clause-again g c = grind (arith, common_steps) steps 400000
-
-pub returns-in-Err-clause-charges : goal.returns-in-Err-clause-charges
-returns-in-Err-clause-charges g c = grind (arith, common_steps) steps 400000
-
-pub returns-in-Err-clause-causes : goal.returns-in-Err-clause-causes
-returns-in-Err-clause-causes g c = grind (arith, common_steps) steps 400000
-
-pub returns-in-Err-clause-sound : goal.returns-in-Err-clause-sound
-returns-in-Err-clause-sound g c = grind (arith, common_steps) steps 400000
-
-pub returns-in-Err-clause-most : goal.returns-in-Err-clause-most
-returns-in-Err-clause-most g c = grind (arith, common_steps) steps 400000
-
-pub returns-in-Err-clause-limits : goal.returns-in-Err-clause-limits
-returns-in-Err-clause-limits g c = grind (arith, common_steps) steps 400000
-
-pub returns-in-Some : goal.returns-in-Some
-returns-in-Some g c = grind (arith, common_steps) steps 400000
-
-pub step-requires-clause-can_take : goal.step-requires-clause-can_take
-step-requires-clause-can_take g c = grind (arith, common_steps) steps 400000

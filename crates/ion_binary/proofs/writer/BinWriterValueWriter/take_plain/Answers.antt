@@ -72,12 +72,3 @@ returns-then-len-eq1 g c =
       counted = grind (arith, common_steps) steps 400000;
       charges = grind (arith, common_steps) steps 400000;
     }
-
-pub end_whole-requires-clause-can_take : goal.end_whole-requires-clause-can_take
-end_whole-requires-clause-can_take g c = grind (arith, common_steps) steps 400000
-
-pub add_plain-requires-clause-can_take : goal.add_plain-requires-clause-can_take
-add_plain-requires-clause-can_take g c = grind (arith, common_steps) steps 400000
-
-pub end_whole-requires-clause-head : goal.end_whole-requires-clause-head
-end_whole-requires-clause-head g c = grind (arith, common_steps) steps 400000

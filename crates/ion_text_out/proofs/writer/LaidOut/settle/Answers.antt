@@ -1,9 +1,6 @@
 use Rattle.ion_text_out.proofs.Below.{arith, common_steps}
 use Rattle.ion_text_out.proofs.writer.LaidOut.settle.Goals as goal
 
-pub returns-in-End-clause-opens : goal.returns-in-End-clause-opens
-returns-in-End-clause-opens g c = grind (arith, common_steps) steps 400000
-
 pub returns-in-Err : goal.returns-in-Err
 returns-in-Err g c = record {
   opens = grind (arith, common_steps);

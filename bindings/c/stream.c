@@ -1,8 +1,8 @@
 /* usage: stream
  *
- * Canonical text of a stream of any length, from standard input, in memory that does not grow with it: what `ion show` writes, with its
- * status. 64 MB may wait for the end of a value, and so many be kept. A fault in a part of which nothing can be taken is told where
- * the stream ends. fread waits for a megabyte: of a live stream take what read(2) gives. */
+ * Canonical text of a stream of any length, from standard input, in memory that does not grow with its values: what `ion show`
+ * writes, with its status. 64 MB may wait for the end of a value, and so many be kept. A fault in a part of which nothing can be
+ * taken is told where the stream ends. fread waits for a megabyte: of a live stream take what read(2) gives. */
 #include "cozgelt.h"
 #include <stdio.h>
 #include <stdlib.h>

@@ -27,7 +27,7 @@ b'p\\n'
 >>> to_text(b"[1.5e0, nan]", floats=True)
 b'[1.5e0,nan]\\n'
 
-A stream of any length is converted while it is read, in memory that does not grow with it:
+A stream of any length is converted while it is read, in memory that does not grow with its values:
 
 >>> import io
 >>> reader, writer = io.BytesIO(b"{a: 1.50}\\n[2, x]\\n"), io.BytesIO()

@@ -177,17 +177,6 @@ struct CCatalog {
 // SAFETY: the library proves that a handle may go to another thread.
 unsafe impl Send for CCatalog {}
 
-#[repr(C)]
-struct CPart {
-    size: u32,
-    profile: u32,
-    to: u32,
-    last: u32,
-    kept: u64,
-    taken: u64,
-    keeps: u64,
-}
-
 type CallWith = unsafe extern "C" fn(
     u32,
     *const CLimits,
@@ -314,18 +303,6 @@ extern "C" {
         loaded: *mut CCatalog,
         stream: *const u8,
         stream_len: usize,
-        room: *mut u8,
-        room_len: usize,
-        answer: *mut CAnswer,
-    ) -> u32;
-    fn cozgelt_part(
-        limits: *const CLimits,
-        loaded: *mut CCatalog,
-        part: *mut CPart,
-        bytes: *const u8,
-        bytes_len: usize,
-        kept: *mut u8,
-        kept_len: usize,
         room: *mut u8,
         room_len: usize,
         answer: *mut CAnswer,

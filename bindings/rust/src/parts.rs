@@ -1,7 +1,7 @@
 //! A stream of any length, part by part.
 use crate::{
-    cozgelt_part, failure, same_version, CAnswer, CCatalog, CLimits, CPart, Catalog, Error, Limits,
-    Profile, Reason, Refusal,
+    failure, same_version, CAnswer, CCatalog, CLimits, Catalog, Error, Limits, Profile, Reason,
+    Refusal,
 };
 use std::fmt;
 use std::io::{self, ErrorKind, Read, Write};
@@ -21,6 +21,32 @@ const LEAST_KEPT: u64 = 64;
 const ACCEPTED: u32 = 0;
 const REFUSED: u32 = 1;
 const NO_ROOM: u32 = 7;
+
+#[repr(C)]
+struct CPart {
+    size: u32,
+    profile: u32,
+    to: u32,
+    last: u32,
+    kept: u64,
+    taken: u64,
+    keeps: u64,
+}
+
+extern "C" {
+    fn cozgelt_part(
+        limits: *const CLimits,
+        loaded: *mut CCatalog,
+        part: *mut CPart,
+        bytes: *const u8,
+        bytes_len: usize,
+        kept: *mut u8,
+        kept_len: usize,
+        room: *mut u8,
+        room_len: usize,
+        answer: *mut CAnswer,
+    ) -> u32;
+}
 
 /// As what a stream in parts is written.
 #[derive(Clone, Copy, Debug, PartialEq, Eq, Hash)]
